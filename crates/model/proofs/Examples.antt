@@ -1,0 +1,96 @@
+-- The examples that document 01 marks with a star, as one table with one statement: what the definitions compute is what document 01 says.
+-- Assumes nothing.
+use mathlib.Core.Path.{_≡_, refl}
+use mathlib.Core.Bool.{true, false, cond}
+use mathlib.Core.List.{List, [], _∷_, _++_, map}
+use Prim.Native.Nat.{ℕ}
+use Rattle.model.specs.Said.{Said, Outcome, lengthMismatch, cea608AfterCea708, accepted, gave, refused, mapped, saysWith, putInto}
+use Rattle.model.specs.Block.{Block, headerLength, numberIn, needed, isShort, blockIn, readBlock, writtenHeader, writtenBlock, blockLength}
+use Rattle.model.specs.Packet.{Packet, sequenceIn, packetSize, plainMove, tidyMove, blocksFrom, readBy, readPacket, readTidy, blocksLength, packetLength, writtenBlocks, packetHeader, fill, writtenPacket}
+use Rattle.model.specs.Frame.{Frame, Triple, Pair, pair, Cea608, field1, field2, seen, seenAll, flat, triplesIn, flagged, frameBytes}
+use Rattle.model.specs.Demux.{Demux, turn608On, freshDemux, pairsIn, lateAfter, lateFrom, carries708, closed, wants, gather, ended, gathered, takeGathered, takeTriples, unread, takeFrame}
+use Rattle.model.specs.Rate.{Budgets, rounded, budgets}
+use Rattle.model.specs.Mux.{Mux, freshMux, queued, pushPacket, isNull, pushPair, pushCea608, turnsDue, turn1, turn2, turned, continued, started, packetTriples, triplesQueued, countDue, send, padding, framed, writeFrame, writeAt}
+use Rattle.model.specs.Run.{Call, pushes, pushes608, Run, call, run, Read, readFrames}
+
+-- what a row asks
+pub data Input : Type 0 where
+  header : ℕ → Input
+  written : Packet → Input
+  plain tidy : List ℕ → Input
+  frames : List (List ℕ) → Input
+  frame : ℕ → ℕ → List Call → Input
+
+-- what document 01 says of it
+pub data Result : Type 0 where
+  size : ℕ → ℕ → Result
+  bytes : List ℕ → Result
+  packet : Packet → Result
+  refusal : Said → Result
+  packets : List Said → List Packet → Result
+
+-- a packet of one block
+abbrev one : ℕ → ℕ → List ℕ → Packet
+one sequence number payload = record { sequence = sequence; blocks = record { number = number; payload = payload } ∷ [] }
+
+abbrev told : {A : Type 0} → (A → Result) → Outcome A → Result
+told f (gave x) = f x
+told f (refused why) = refusal why
+
+-- a multiplexer without padding after some pushes writes one frame
+abbrev unpadded : ℕ → ℕ → List Call → Outcome (List ℕ)
+unpadded numer denom calls =
+    let s = run calls freshMux .last in
+    mapped (λ b. frameBytes (writeFrame b s .frame)) (budgets numer denom)
+
+abbrev answer : Input → Result
+answer (header h) = size (sequenceIn h) (packetSize h)
+answer (written p) = bytes (writtenPacket p)
+answer (plain d) = told packet (readPacket d)
+answer (tidy d) = told packet (readTidy d)
+answer (frames fs) = let r = readFrames fs (turn608On freshDemux) in packets (r .answers) (r .packets)
+answer (frame numer denom calls) = told bytes (unpadded numer denom calls)
+
+pub record Row : Type 0 where
+  pub input : Input
+  pub result : Result
+
+abbrev row : Input → Result → Row
+row i r = record { input = i; result = r }
+
+abbrev twice942C : List Call
+twice942C = pushes608 (field1 (pair 0x94 0x2C)) ∷ pushes608 (field1 (pair 0x94 0x2C)) ∷ []
+
+unfoldable pub table : List Row
+table =
+    row (header 0x40) (size 1 128)
+    ∷ row (header 0xFF) (size 3 126)
+    ∷ row (written (one 2 1 (0x41 ∷ []))) (bytes (0x82 ∷ 0x21 ∷ 0x41 ∷ 0x00 ∷ []))
+    ∷ row (plain (0x02 ∷ 0xE1 ∷ 0x07 ∷ 0x41 ∷ [])) (packet (one 0 7 (0x41 ∷ [])))
+    ∷ row (plain (0x02 ∷ 0xE1 ∷ 0x01 ∷ 0x41 ∷ [])) (refusal (lengthMismatch 2 1))
+    ∷ row (plain (0x02 ∷ 0x01 ∷ 0x21 ∷ 0x41 ∷ [])) (packet (one 0 1 (0x41 ∷ [])))
+    ∷ row (tidy (0x02 ∷ 0x01 ∷ 0x21 ∷ 0x41 ∷ [])) (refusal (lengthMismatch 2 1))
+    ∷ row (plain (0x01 ∷ 0x21 ∷ 0x41 ∷ 0x00 ∷ [])) (refusal (lengthMismatch 2 4))
+    ∷ row (plain (0x08 ∷ 0x21 ∷ 0x41 ∷ [])) (packet (one 0 1 (0x41 ∷ [])))
+    ∷ row (tidy (0x08 ∷ 0x21 ∷ 0x41 ∷ [])) (refusal (lengthMismatch 16 3))
+    ∷ row (frames ((0xC2 ∷ 0xFF ∷ 0xFF ∷ 0x02 ∷ 0x21 ∷ []) ∷ [])) (packets (lengthMismatch 7 5 ∷ []) [])
+    ∷ row (frames ((0xC2 ∷ 0xFF ∷ 0xFA ∷ 0x00 ∷ 0x00 ∷ 0xFC ∷ 0x94 ∷ 0x2C ∷ []) ∷ [])) (packets (cea608AfterCea708 3 ∷ []) [])
+    ∷ row (frames ((0xC1 ∷ 0xFF ∷ 0xFF ∷ 0x02 ∷ 0x21 ∷ []) ∷ [])) (packets (accepted [] ∷ []) [])
+    ∷ row
+      (frames ((0xC1 ∷ 0xFF ∷ 0xFF ∷ 0x02 ∷ 0x21 ∷ []) ∷ (0xC1 ∷ 0xFF ∷ 0xFE ∷ 0x41 ∷ 0x00 ∷ []) ∷ []))
+      (packets (accepted [] ∷ accepted [] ∷ []) (one 0 1 (0x41 ∷ []) ∷ []))
+    ∷ row (frame 30 1 (pushes608 (field2 (pair 0x15 0x2C)) ∷ [])) (bytes (0xC2 ∷ 0xFF ∷ 0xFC ∷ 0x80 ∷ 0x80 ∷ 0xFD ∷ 0x15 ∷ 0x2C ∷ []))
+    ∷ row
+      (frame 30 1 (twice942C ++ (pushes (one 2 1 (0x41 ∷ [])) ∷ [])))
+      (bytes (0xC4 ∷ 0xFF ∷ 0xFC ∷ 0x94 ∷ 0x2C ∷ 0xFF ∷ 0x82 ∷ 0x21 ∷ 0xFE ∷ 0x41 ∷ 0x00 ∷ []))
+    ∷ []
+
+pub examples : map (λ (r : Row). answer (r .input)) table ≡ map (λ (r : Row). r .result) table
+unfolding table
+  headerLength numberIn needed isShort blockIn readBlock writtenHeader writtenBlock blockLength
+  packetSize plainMove tidyMove blocksFrom readBy readPacket readTidy blocksLength packetLength writtenBlocks packetHeader fill writtenPacket
+  seen seenAll flat triplesIn flagged frameBytes
+  pairsIn lateAfter lateFrom carries708 closed wants gather ended gathered takeGathered takeTriples unread takeFrame
+  rounded budgets queued pushPacket isNull pushPair pushCea608 turnsDue turn1 turn2 turned continued started packetTriples triplesQueued countDue send padding framed writeFrame
+  call run readFrames
+examples = refl

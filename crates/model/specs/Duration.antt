@@ -1,0 +1,36 @@
+-- How long what is queued takes to leave: document 01, "Writing frames". Microseconds. Assumes nothing.
+use mathlib.Core.List.{List, [], _∷_}
+use Prim.Native.Nat.{ℕ, _+_, _-_, _*_, _/_, _^_}
+use lib.ListN.{length}
+use Rattle.model.specs.Packet.{Packet, packetLength}
+use Rattle.model.specs.Frame.{Pair}
+use Rattle.model.specs.Mux.{Mux}
+
+-- "\"ceil\" is upward": a / b
+unfoldable pub ceil : ℕ → ℕ → ℕ
+ceil a b = (a + (b - 1)) / b
+
+-- "queue length · 1001·10^6 / 60000, ceil"
+unfoldable pub pairsDuration : ℕ → ℕ
+pairsDuration n = ceil (n * (1001 * 10 ^ 6)) 60000
+
+-- "bytes is the sum of packet lengths plus, for the packet being sent, three per triple left"
+unfoldable pub lengthsOf : List Packet → ℕ
+lengthsOf [] = 0
+lengthsOf (p ∷ ps) = packetLength p + lengthsOf ps
+
+unfoldable pub bytesLeft : Mux → ℕ
+bytesLeft s = lengthsOf (s .packets) + 3 * length (s .sending)
+
+-- "Packets: floor((bytes + 1) / 2) · 2002·10^6 / 1200000, ceil"
+unfoldable pub bytesDuration : ℕ → ℕ
+bytesDuration bytes = ceil ((bytes + 1) / 2 * (2002 * 10 ^ 6)) 1200000
+
+abbrev pub field1Duration : Mux → ℕ
+field1Duration s = pairsDuration (length (s .queue1))
+
+abbrev pub field2Duration : Mux → ℕ
+field2Duration s = pairsDuration (length (s .queue2))
+
+abbrev pub packetDuration : Mux → ℕ
+packetDuration s = bytesDuration (bytesLeft s)

@@ -1,0 +1,66 @@
+-- A frame of `cc_data`: its triples, and what a reader sees in one. Document 01, "Reading frames". Assumes nothing.
+use mathlib.Core.Bool.{Bool, true, false, cond}
+use mathlib.Core.List.{List, [], _∷_}
+use Prim.Native.Nat.{ℕ, zero, suc, _+_, _*_, _/_, _%_}
+use lib.Dec.{eqb, leb}
+
+pub data Triple : Type 0 where
+  tri : ℕ → ℕ → ℕ → Triple
+
+-- the count that the first byte tells, and the triples
+pub record Frame : Type 0 where
+  pub count : ℕ
+  pub triples : List Triple
+
+-- the two bytes of a 608 pair
+pub data Pair : Type 0 where
+  pair : ℕ → ℕ → Pair
+
+-- "a pair says which field"
+pub data Cea608 : Type 0 where
+  field1 field2 : Pair → Cea608
+
+-- what a reader sees in a triple: a pair of field 1 or 2, a packet's start or more of it, or one that is not valid
+pub data Seen : Type 0 where
+  first second start more : ℕ → ℕ → Seen
+  void608 void708 : Seen
+
+abbrev seenBy : Bool → ℕ → ℕ → ℕ → Seen
+seenBy true zero a b = first a b
+seenBy true (suc zero) a b = second a b
+seenBy true (suc (suc zero)) a b = more a b
+seenBy true (suc (suc (suc n))) a b = start a b
+seenBy false zero a b = void608
+seenBy false (suc zero) a b = void608
+seenBy false (suc (suc n)) a b = void708
+
+-- "bit 0x04 valid, low two bits type"
+unfoldable pub seen : Triple → Seen
+seen (tri h a b) = seenBy (leb 4 (h % 8)) (h % 4) a b
+
+unfoldable pub seenAll : List Triple → List Seen
+seenAll [] = []
+seenAll (t ∷ ts) = seen t ∷ seenAll ts
+
+-- three bytes a triple
+unfoldable pub flat : List Triple → List ℕ
+flat [] = []
+flat (tri h a b ∷ ts) = h ∷ a ∷ b ∷ flat ts
+
+unfoldable pub triplesIn : List ℕ → List Triple
+triplesIn [] = []
+triplesIn (h ∷ []) = []
+triplesIn (h ∷ a ∷ []) = []
+triplesIn (h ∷ a ∷ b ∷ d) = tri h a b ∷ triplesIn d
+
+-- "flag 0x40"
+unfoldable pub flagged : ℕ → Bool
+flagged h = eqb (h / 64 % 2) 1
+
+-- "count (low five bits)"
+abbrev pub countIn : ℕ → ℕ
+countIn h = h % 32
+
+-- "Frame: 0xC0 + count, 0xFF, then triples."
+unfoldable pub frameBytes : Frame → List ℕ
+frameBytes f = (0xC0 + f .count) ∷ 0xFF ∷ flat (f .triples)

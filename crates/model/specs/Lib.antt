@@ -1,0 +1,9 @@
+pub mod Said
+pub mod Block
+pub mod Packet
+pub mod Frame
+pub mod Demux
+pub mod Rate
+pub mod Mux
+pub mod Duration
+pub mod Run

@@ -1,0 +1,174 @@
+-- The multiplexer: document 01, "Writing frames". Assumes nothing.
+use mathlib.Core.Bool.{Bool, true, false, cond, _&&_}
+use mathlib.Core.List.{List, [], _∷_, _++_}
+use Prim.Native.Nat.{ℕ, zero, suc, _+_, _-_, _*_, min, max}
+use lib.Dec.{eqb, leb, ltb}
+use lib.ListN.{length, take, drop, replicate}
+use Rattle.model.specs.Said.{Outcome, gave, refused, andThen, mapped, putInto, full}
+use Rattle.model.specs.Packet.{Packet, packetHeader, writtenBlocks}
+use Rattle.model.specs.Frame.{Frame, Triple, tri, Pair, pair, Cea608, field1, field2, frameBytes}
+use Rattle.model.specs.Rate.{Budgets, budgets}
+
+-- the two switches, the packets queued, the triples left of the packet being sent, each field's queue, and whether field 1 has the next turn
+pub record Mux : Type 0 where
+  pub pad608 : Bool
+  pub padOut : Bool
+  pub packets : List Packet
+  pub sending : List Triple
+  pub queue1 : List Pair
+  pub queue2 : List Pair
+  pub next1 : Bool
+
+-- "field 1 when fresh"
+abbrev pub freshMux : Mux
+freshMux = record { pad608 = false; padOut = false; packets = []; sending = []; queue1 = []; queue2 = []; next1 = true }
+
+abbrev pub withPads : Bool → Bool → Mux → Mux
+withPads a b s = record { pad608 = a; padOut = b; packets = s .packets; sending = s .sending; queue1 = s .queue1; queue2 = s .queue2; next1 = s .next1 }
+
+-- "Flush drops the queues and the packet being sent; the padding switches stay." Whose turn is next is remembered, "flush included".
+abbrev pub flushMux : Mux → Mux
+flushMux s = record { pad608 = s .pad608; padOut = s .padOut; packets = []; sending = []; queue1 = []; queue2 = []; next1 = s .next1 }
+
+-- "16 packets beside the one being sent; each field's queue is 64 places"
+abbrev pub mostPackets : ℕ
+mostPackets = 16
+
+abbrev pub mostQueued : ℕ
+mostQueued = 64
+
+abbrev pub withPackets : List Packet → Mux → Mux
+withPackets ps s = record { pad608 = s .pad608; padOut = s .padOut; packets = ps; sending = s .sending; queue1 = s .queue1; queue2 = s .queue2; next1 = s .next1 }
+
+abbrev pub withQueues : List Pair → List Pair → Mux → Mux
+withQueues q1 q2 s = record { pad608 = s .pad608; padOut = s .padOut; packets = s .packets; sending = s .sending; queue1 = q1; queue2 = q2; next1 = s .next1 }
+
+-- a queue with one more at its end, or 10
+unfoldable pub queued : {A : Type 0} → ℕ → A → List A → Outcome (List A)
+queued most x q = cond (leb most (length q)) (refused full) (gave (q ++ (x ∷ [])))
+
+-- "An empty packet is accepted, even when full, and not stored"
+unfoldable pub pushPacket : Packet → Mux → Outcome Mux
+pushPacket p s = cond (eqb (length (p .blocks)) 0) (gave s) (mapped (λ ps. withPackets ps s) (queued mostPackets p (s .packets)))
+
+-- "Pushing pair 0x80,0x80 is accepted and dropped, even on a full queue."
+unfoldable pub isNull : Pair → Bool
+isNull (pair a b) = eqb a 0x80 && eqb b 0x80
+
+unfoldable pub pushPair : Pair → List Pair → Outcome (List Pair)
+pushPair x q = cond (isNull x) (gave q) (queued mostQueued x q)
+
+unfoldable pub pushCea608 : Cea608 → Mux → Outcome Mux
+pushCea608 (field1 x) s = mapped (λ q. withQueues q (s .queue2) s) (pushPair x (s .queue1))
+pushCea608 (field2 x) s = mapped (λ q. withQueues (s .queue1) q s) (pushPair x (s .queue2))
+
+-- "Turns this frame: pairs if 608 padding is on, else the lesser of pairs and max(queue 1, 2·queue 2)."
+unfoldable pub turnsDue : ℕ → Mux → ℕ
+turnsDue pairs s = cond (s .pad608) pairs (min pairs (max (length (s .queue1)) (2 * length (s .queue2))))
+
+-- the triples of the turns, what they leave in the queues, and whether field 1 has the next turn
+pub record Turned : Type 0 where
+  pub out : List Triple
+  pub queue1 : List Pair
+  pub queue2 : List Pair
+  pub next1 : Bool
+
+abbrev pub sentBefore : Triple → Turned → Turned
+sentBefore t r = record { out = t ∷ r .out; queue1 = r .queue1; queue2 = r .queue2; next1 = r .next1 }
+
+-- "A field 1 turn is followed by a field 2 turn, and that by a field 1 turn, until no turns are left".
+-- "Field 1: its pair under 0xFC; else, queue 2 not empty, FC 80 80; else, 608 padding on, F8 80 80; else nothing."
+-- "Field 2: its pair under 0xFD; else, 608 padding on, F9 80 80; else nothing."
+unfoldable mutual
+  pub turn1 : ℕ → Bool → List Pair → List Pair → Turned
+  turn1 zero pad q1 q2 = record { out = []; queue1 = q1; queue2 = q2; next1 = true }
+  turn1 (suc n) pad (pair a b ∷ q1) q2 = sentBefore (tri 0xFC a b) (turn2 n pad q1 q2)
+  turn1 (suc n) pad [] (x ∷ q2) = sentBefore (tri 0xFC 0x80 0x80) (turn2 n pad [] (x ∷ q2))
+  turn1 (suc n) true [] [] = sentBefore (tri 0xF8 0x80 0x80) (turn2 n true [] [])
+  turn1 (suc n) false [] [] = turn2 n false [] []
+
+  pub turn2 : ℕ → Bool → List Pair → List Pair → Turned
+  turn2 zero pad q1 q2 = record { out = []; queue1 = q1; queue2 = q2; next1 = false }
+  turn2 (suc n) pad q1 (pair a b ∷ q2) = sentBefore (tri 0xFD a b) (turn1 n pad q1 q2)
+  turn2 (suc n) true q1 [] = sentBefore (tri 0xF9 0x80 0x80) (turn1 n true q1 [])
+  turn2 (suc n) false q1 [] = turn1 n false q1 []
+
+-- "whose turn is next is remembered across frames"
+unfoldable pub turned : ℕ → Mux → Turned
+turned n s = cond (s .next1) (turn1 n (s .pad608) (s .queue1) (s .queue2)) (turn2 n (s .pad608) (s .queue1) (s .queue2))
+
+-- "packet triples ..: 0xFF first, 0xFE after, an odd last one filled with 0x00"
+unfoldable pub continued : List ℕ → List Triple
+continued [] = []
+continued (a ∷ []) = tri 0xFE a 0x00 ∷ []
+continued (a ∷ b ∷ d) = tri 0xFE a b ∷ continued d
+
+unfoldable pub started : List ℕ → List Triple
+started [] = []
+started (a ∷ []) = tri 0xFF a 0x00 ∷ []
+started (a ∷ b ∷ d) = tri 0xFF a b ∷ continued d
+
+unfoldable pub packetTriples : Packet → List Triple
+packetTriples p = started (packetHeader p ∷ writtenBlocks (p .blocks))
+
+-- "packet triples not yet sent, the packet being sent included"
+unfoldable pub triplesQueued : List Packet → ℕ
+triplesQueued [] = 0
+triplesQueued (p ∷ ps) = length (packetTriples p) + triplesQueued ps
+
+abbrev pub unsent : Mux → ℕ
+unsent s = length (s .sending) + triplesQueued (s .packets)
+
+-- "Count: triples if output padding is on, else the lesser of triples and turns + packet triples not yet sent"
+unfoldable pub countDue : Budgets → Mux → ℕ
+countDue b s = cond (s .padOut) (b .triples) (min (b .triples) (turnsDue (b .pairs) s + unsent s))
+
+-- packet triples sent, and what they leave
+pub record Sent : Type 0 where
+  pub out : List Triple
+  pub sending : List Triple
+  pub packets : List Packet
+
+abbrev pub behind : List Triple → Sent → Sent
+behind ts r = record { out = ts ++ r .out; sending = r .sending; packets = r .packets }
+
+-- "Then packet triples up to the count": m of them, of the packet being sent first; "Place 1 leaves next"
+unfoldable pub send : ℕ → List Triple → List Packet → Sent
+send m ts [] = record { out = take m ts; sending = drop m ts; packets = [] }
+send m ts (p ∷ ps) =
+    cond (leb m (length ts)) (record { out = take m ts; sending = drop m ts; packets = p ∷ ps })
+    (behind ts (send (m - length ts) (packetTriples p) ps))
+
+-- "With output padding, FA 00 00 to the end."
+unfoldable pub padding : Bool → ℕ → List Triple
+padding on n = cond on (replicate n (tri 0xFA 0x00 0x00)) []
+
+-- the frame, and the multiplexer afterwards
+pub record Framed : Type 0 where
+  pub frame : Frame
+  pub next : Mux
+
+unfoldable pub framed : ℕ → Turned → Sent → Mux → Framed
+framed n t o s =
+    record {
+      frame = record { count = n; triples = t .out ++ (o .out ++ padding (s .padOut) (n - length (t .out) - length (o .out))) };
+      next = record { pad608 = s .pad608; padOut = s .padOut; packets = o .packets; sending = o .sending; queue1 = t .queue1; queue2 = t .queue2; next1 = t .next1 };
+    }
+
+-- A frame at given budgets: the turns, then packet triples up to the count, then padding.
+unfoldable pub writeFrame : Budgets → Mux → Framed
+writeFrame b s =
+    let n = countDue b s in
+    let t = turned (turnsDue (b .pairs) s) s in
+    framed n t (send (n - length (t .out)) (s .sending) (s .packets)) s
+
+-- the lent output and the multiplexer after a write
+pub record Written : Type 0 where
+  pub out : List ℕ
+  pub next : Mux
+
+-- A frame written to a lent output at a rate: 8, then 9.
+unfoldable pub writeAt : ℕ → ℕ → List ℕ → Mux → Outcome Written
+writeAt numer denom out s =
+    andThen (budgets numer denom)
+    (λ b. mapped (λ o. record { out = o; next = writeFrame b s .next }) (putInto out (frameBytes (writeFrame b s .frame))))

@@ -1,0 +1,29 @@
+-- The two budgets of a frame rate: document 01, "Writing frames". Assumes nothing.
+use mathlib.Core.Bool.{cond, _||_}
+use Prim.Native.Nat.{ℕ, _+_, _*_, _/_}
+use lib.Dec.{eqb, ltb}
+use Rattle.model.specs.Said.{Outcome, gave, refused, badRate}
+
+pub record Budgets : Type 0 where
+  pub pairs : ℕ
+  pub triples : ℕ
+
+-- "Rounding here is floor(x + 1/2)": k · denom / numer, rounded
+unfoldable pub rounded : ℕ → ℕ → ℕ → ℕ
+rounded k numer denom = (2 * (k * denom) + numer) / (2 * numer)
+
+-- "pairs = round(60·denom/numer), triples = round(600·denom/numer)"
+abbrev pub pairsAt : ℕ → ℕ → ℕ
+pairsAt numer denom = rounded 60 numer denom
+
+abbrev pub triplesAt : ℕ → ℕ → ℕ
+triplesAt numer denom = rounded 600 numer denom
+
+-- "BadRate exactly if numer is 0, pairs is 0, or triples exceeds 31."
+abbrev pub mostTriples : ℕ
+mostTriples = 31
+
+unfoldable pub budgets : ℕ → ℕ → Outcome Budgets
+budgets numer denom =
+    cond (eqb numer 0 || (eqb (pairsAt numer denom) 0 || ltb mostTriples (triplesAt numer denom))) (refused badRate)
+    (gave (record { pairs = pairsAt numer denom; triples = triplesAt numer denom }))

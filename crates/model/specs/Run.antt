@@ -1,0 +1,113 @@
+-- Sequences of calls on a multiplexer, and on a demultiplexer that is emptied after each frame. Assumes nothing.
+use mathlib.Core.Path.{_≡_}
+use mathlib.Core.Bool.{Bool, true, false, cond, not, _&&_, _||_}
+use mathlib.Core.List.{List, [], _∷_, _++_}
+use Prim.Native.Nat.{ℕ, zero, suc, _+_, _≤_}
+use lib.Dec.{eqb}
+use lib.ListN.{length}
+use Rattle.model.specs.Said.{Said, isGiven, after}
+use Rattle.model.specs.Packet.{Packet, validPacket}
+use Rattle.model.specs.Frame.{Pair, Cea608, field1, field2, frameBytes}
+use Rattle.model.specs.Demux.{Demux, Item, draw, takeFrame}
+use Rattle.model.specs.Rate.{Budgets, mostTriples}
+use Rattle.model.specs.Mux.{Mux, Framed, withPads, pushPacket, pushPair, pushCea608, isNull, writeFrame}
+
+-- what is done to a multiplexer: "push and write in any order, never flush"; a write is at its budgets
+pub data Call : Type 0 where
+  pushes : Packet → Call
+  pushes608 : Cea608 → Call
+  pads : Bool → Bool → Call
+  writes : Budgets → Call
+
+-- the frames that calls make, the nonempty packets and each field's pairs that are accepted, and the multiplexer at the end
+pub record Run : Type 0 where
+  pub frames : List (List ℕ)
+  pub packets : List Packet
+  pub pairs1 : List Pair
+  pub pairs2 : List Pair
+  pub last : Mux
+
+abbrev pub onlyIf : {A : Type 0} → Bool → A → List A
+onlyIf b x = cond b (x ∷ []) []
+
+unfoldable pub call : Call → Mux → Run
+call (pushes p) s = record { frames = []; packets = onlyIf (isGiven (pushPacket p s) && not (eqb (length (p .blocks)) 0)) p; pairs1 = []; pairs2 = []; last = after s (pushPacket p s) }
+call (pushes608 (field1 x)) s = record { frames = []; packets = []; pairs1 = onlyIf (isGiven (pushPair x (s .queue1))) x; pairs2 = []; last = after s (pushCea608 (field1 x) s) }
+call (pushes608 (field2 x)) s = record { frames = []; packets = []; pairs1 = []; pairs2 = onlyIf (isGiven (pushPair x (s .queue2))) x; last = after s (pushCea608 (field2 x) s) }
+call (pads a b) s = record { frames = []; packets = []; pairs1 = []; pairs2 = []; last = withPads a b s }
+call (writes b) s = let w : Framed = writeFrame b s in record { frames = frameBytes (w .frame) ∷ []; packets = []; pairs1 = []; pairs2 = []; last = w .next }
+
+unfoldable pub run : List Call → Mux → Run
+run [] s = record { frames = []; packets = []; pairs1 = []; pairs2 = []; last = s }
+run (c ∷ cs) s =
+    let k = call c s in
+    let r = run cs (k .last) in
+    record { frames = k .frames ++ r .frames; packets = k .packets ++ r .packets; pairs1 = k .pairs1 ++ r .pairs1; pairs2 = k .pairs2 ++ r .pairs2; last = r .last }
+
+-- "an accepted rate": what its budgets are
+pub record Accepted (b : Budgets) : Type 0 where
+  pub some-pair : 1 ≤ b .pairs
+  pub apart : b .pairs + 4 ≤ b .triples
+  pub most : b .triples ≤ mostTriples
+
+-- "an accepted rate and at least one padding on at each write"; a packet is one that breaks no limit
+abbrev pub AllowedCall : Call → Mux → Type 0
+AllowedCall (pushes p) s = validPacket p ≡ true
+AllowedCall (pushes608 x) s = Unit {0}
+AllowedCall (pads a b) s = Unit {0}
+AllowedCall (writes b) s = Accepted b × (s .pad608 || s .padOut ≡ true)
+
+abbrev pub Allowed : List Call → Mux → Type 0
+Allowed [] s = Unit {0}
+Allowed (c ∷ cs) s = AllowedCall c s × Allowed cs (call c s .last)
+
+-- "Once drained": nothing is queued and nothing is being sent
+pub record Drained (s : Mux) : Type 0 where
+  pub no-packet : s .packets ≡ []
+  pub no-triple : s .sending ≡ []
+  pub no-pair1 : s .queue1 ≡ []
+  pub no-pair2 : s .queue2 ≡ []
+
+-- the items that n draws give, and the demultiplexer after them
+pub record Draws : Type 0 where
+  pub items : List Item
+  pub last : Demux
+
+unfoldable pub drawTimes : ℕ → Demux → Draws
+drawTimes zero d = record { items = []; last = d }
+drawTimes (suc n) d = let r = drawTimes n (draw d .next) in record { items = draw d .item ∷ r .items; last = r .last }
+
+-- a demultiplexer of which everything has been drawn
+abbrev pub emptied : Demux → Demux
+emptied d = record { on608 = d .on608; pairs = []; pending = d .pending; waiting = [] }
+
+-- what frames answer, what is drawn after each of them, and the demultiplexer at the end
+pub record Read : Type 0 where
+  pub answers : List Said
+  pub pairs : List Cea608
+  pub packets : List Packet
+  pub last : Demux
+
+-- "fed every frame and emptied after each"
+unfoldable pub readFrames : List (List ℕ) → Demux → Read
+readFrames [] d = record { answers = []; pairs = []; packets = []; last = d }
+readFrames (f ∷ fs) d =
+    let t = takeFrame f d in
+    let r = readFrames fs (emptied (t .next)) in
+    record { answers = t .answer ∷ r .answers; pairs = t .next .pairs ++ r .pairs; packets = t .next .waiting ++ r .packets; last = r .last }
+
+-- the pairs of each field
+unfoldable pub ofField1 : List Cea608 → List Pair
+ofField1 [] = []
+ofField1 (field1 x ∷ xs) = x ∷ ofField1 xs
+ofField1 (field2 x ∷ xs) = ofField1 xs
+
+unfoldable pub ofField2 : List Cea608 → List Pair
+ofField2 [] = []
+ofField2 (field1 x ∷ xs) = ofField2 xs
+ofField2 (field2 x ∷ xs) = x ∷ ofField2 xs
+
+-- "pairs other than 0x80,0x80"
+unfoldable pub others : List Pair → List Pair
+others [] = []
+others (x ∷ xs) = cond (isNull x) (others xs) (x ∷ others xs)
