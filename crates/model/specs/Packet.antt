@@ -6,7 +6,7 @@ use Prim.Native.Nat.{ℕ, zero, suc, _+_, _-_, _*_, _/_, _%_}
 use lib.Dec.{eqb, leb, ltb}
 use lib.ListN.{length, getD, set, drop}
 use Rattle.model.specs.Said.{Outcome, gave, refused, isGiven, andThen, mapped, lengthMismatch, wouldOverflow, readOnly, emptyService, badNumber, badRun}
-use Rattle.model.specs.Block.{Block, mostPayload, validBlock, headerLength, blockSize, blockIn, readBlock, writtenBlock, blockLength, blockRoom, withRun}
+use Rattle.model.specs.Block.{Block, mostPayload, headerLength, blockSize, blockIn, readBlock, writtenBlock, blockLength, blockRoom, withRun}
 
 pub record Packet : Type 0 where
   pub sequence : ℕ
@@ -96,7 +96,7 @@ packetRoom p = mostPacket - packetLength p
 
 -- A packet that breaks no limit: "a packet holding a block 0 or a block without payload" does.
 unfoldable pub carriable : Block → Bool
-carriable b = validBlock b && not (eqb (b .number) 0) && not (eqb (length (b .payload)) 0)
+carriable b = (leb 1 (b .number) && leb (b .number) 63) && (leb 1 (length (b .payload)) && leb (length (b .payload)) mostPayload)
 
 unfoldable pub allCarriable : List Block → Bool
 allCarriable [] = true

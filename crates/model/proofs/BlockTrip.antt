@@ -1,0 +1,87 @@
+-- A block that is written is read back, whatever follows it, and both readers move on past it. Assumes nothing.
+use mathlib.Core.Path.{_≡_, refl, sym, ap, _∙_}
+use mathlib.Core.Bool.{true, false, cond}
+use mathlib.Core.List.{List, [], _∷_, _++_}
+use Prim.Native.Nat.{ℕ, suc, _+_, _*_, _/_, _%_, _≤_, _<_}
+use native.Mathlib.Omega.{arith}
+use lib.Dec.{eqb, ltb}
+use lib.ListN.{length, getD, drop, length-append}
+use borrow.Author.Tests.{ne-eqb, le-ltb, ltb-true, ltb-false}
+use Rattle.model.specs.Said.{gave}
+use Rattle.model.specs.Block.{Block, topNumber, blockSize, headerLength, numberIn, needed, blockIn, readBlock, writtenBlock, blockLength}
+use Rattle.model.specs.Packet.{plainMove, tidyMove}
+use Rattle.model.proofs.Cases.{by-test}
+use Rattle.model.proofs.Blocks.{Carriable, header-one, header-two, written-short, written-long, block-length, block-at, read-at, read-whole}
+
+-- what is known of bytes that begin with a written block
+pub record Begins (b : Block) (d : List ℕ) : Type 0 where
+  pub read : readBlock d ≡ gave b
+  pub block : blockIn d ≡ b
+  pub tidy : headerLength (getD d 0 0) + blockSize (getD d 0 0) ≡ length (writtenBlock b)
+
+module _ (b : Block) (rest : List ℕ) (f : Carriable b) where
+  begins-short : b .number < 7 → Begins b (writtenBlock b ++ rest)
+  unfolding numberIn
+  begins-short small =
+      let h : ℕ = b .number * 32 + length (b .payload) in
+      let top : topNumber h ≡ b .number = omega (arith, f .small) in
+      let size : blockSize h ≡ length (b .payload) = omega (arith, f .small) in
+      let one : headerLength h ≡ 1 = header-one h (λ e. omega arith) in
+      let number : numberIn (h ∷ (b .payload ++ rest)) ≡ b .number = simp (one, top) in
+      let named : (b .number ≡ 0 → ⊥) = λ e. omega (arith, f .named) in
+      let enough : 1 + length (b .payload) ≤ suc (length (b .payload ++ rest)) = omega (arith, length-append (b .payload) rest) in
+      rw (written-short b small)
+      (record {
+        read = read-at (h ∷ (b .payload ++ rest)) (b .payload) rest (b .number) 1 one size number named refl enough;
+        block = block-at (h ∷ (b .payload ++ rest)) (b .payload) rest (b .number) 1 one size number named refl enough;
+        tidy = rw (one, size, written-short b small) (omega arith);
+      })
+
+  begins-long : 7 ≤ b .number → Begins b (writtenBlock b ++ rest)
+  unfolding numberIn
+  begins-long large =
+      let h : ℕ = 0xE0 + length (b .payload) in
+      let top : topNumber h ≡ 7 = omega (arith, f .small) in
+      let size : blockSize h ≡ length (b .payload) = omega (arith, f .small) in
+      let two : headerLength h ≡ 2 = header-two h top (λ e. omega (arith, f .filled)) in
+      let low : b .number % 64 ≡ b .number = omega (arith, f .known) in
+      let number : numberIn (h ∷ b .number ∷ (b .payload ++ rest)) ≡ b .number = simp (two, low) in
+      let named : (b .number ≡ 0 → ⊥) = λ e. omega (arith, f .named) in
+      let enough : 2 + length (b .payload) ≤ suc (suc (length (b .payload ++ rest))) = omega (arith, length-append (b .payload) rest) in
+      rw (written-long b large)
+      (record {
+        read = read-at (h ∷ b .number ∷ (b .payload ++ rest)) (b .payload) rest (b .number) 2 two size number named refl enough;
+        block = block-at (h ∷ b .number ∷ (b .payload ++ rest)) (b .payload) rest (b .number) 2 two size number named refl enough;
+        tidy = rw (two, size, written-long b large) (omega arith);
+      })
+
+  begins : Begins b (writtenBlock b ++ rest)
+  begins = by-test (ltb (b .number) 7) (λ e. begins-short (ltb-true _ _ e)) (λ e. begins-long (ltb-false _ _ e))
+
+  -- "block .. written then read"
+  pub read-written : readBlock (writtenBlock b ++ rest) ≡ gave b
+  read-written = begins .read
+
+  pub plain-passes : plainMove (writtenBlock b ++ rest) ≡ length (writtenBlock b)
+  unfolding plainMove
+  plain-passes = rw (begins .block) (simp (ne-eqb (length (b .payload)) 0 (λ e. omega (arith, f .filled))) (block-length b (f .filled)))
+
+  pub tidy-passes : tidyMove (writtenBlock b ++ rest) ≡ length (writtenBlock b)
+  unfolding tidyMove
+  tidy-passes = begins .tidy
+
+  pub written-some : 2 ≤ length (writtenBlock b)
+  written-some = by-test (ltb (b .number) 7) (λ e. rw (written-short b (ltb-true _ _ e)) (omega (arith, f .filled))) (λ e. rw (written-long b (ltb-false _ _ e)) (omega arith))
+
+-- the byte that fills an odd length is a block without payload, which both readers pass in one byte
+pub fill-read : (rest : List ℕ) → readBlock (0x00 ∷ rest) ≡ gave (record { number = 0; payload = [] })
+unfolding blockIn numberIn headerLength needed
+fill-read rest = rw (read-whole (0x00 ∷ rest) (simp (le-ltb (suc (length rest)) 1 (omega arith)) (omega arith)))
+
+pub plain-fill : (rest : List ℕ) → plainMove (0x00 ∷ rest) ≡ 1
+unfolding plainMove blockIn numberIn headerLength
+plain-fill rest = refl
+
+pub tidy-fill : (rest : List ℕ) → tidyMove (0x00 ∷ rest) ≡ 1
+unfolding tidyMove headerLength
+tidy-fill rest = refl

@@ -1,0 +1,100 @@
+-- What follows of the definitions of a block: how a header reads, how long a block is, and that a block written is read back. Assumes nothing.
+use mathlib.Core.Path.{_≡_, refl, sym, ap, _∙_}
+use mathlib.Core.Bool.{Bool, true, false, cond, not, _&&_, _||_}
+use mathlib.Core.List.{List, [], _∷_, _++_, append-assoc}
+use Prim.Native.Nat.{ℕ, suc, _+_, _-_, _*_, _/_, _%_, _≤_, _<_}
+use native.Mathlib.Omega.{arith}
+use lib.Dec.{eqb, leb, ltb}
+use lib.ListN.{length, getD, take, drop, length-append, length-take, length-drop}
+use lib.Seq.{take-at, length-take-le}
+use borrow.Author.Tests.{eq-eqb, ne-eqb, le-leb, lt-ltb, le-ltb, eqb-true, eqb-false, leb-true, ltb-true, ltb-false, not-true}
+use Rattle.model.specs.Said.{Said, Outcome, gave, refused, lengthMismatch}
+use Rattle.model.specs.Block.{Block, validBlock, topNumber, blockSize, headerLength, numberIn, needed, isShort, blockIn, readBlock, partIn, writtenHeader, writtenBlock, blockLength}
+use Rattle.model.specs.Packet.{carriable}
+use Rattle.model.proofs.Cases.{by-test, both, and-both, not-intro}
+
+-- what a block has to be to stand in a packet, as facts on numbers
+pub record Carriable (b : Block) : Type 0 where
+  pub named : 1 ≤ b .number
+  pub known : b .number ≤ 63
+  pub filled : 1 ≤ length (b .payload)
+  pub small : length (b .payload) ≤ 31
+
+pub carriable-facts : (b : Block) → carriable b ≡ true → Carriable b
+unfolding carriable
+carriable-facts b e =
+    let n : ℕ = b .number in
+    let k : ℕ = length (b .payload) in
+    let v = both (leb 1 n && leb n 63) (leb 1 k && leb k 31) e in
+    let w = both (leb 1 n) (leb n 63) (v .0) in
+    let x = both (leb 1 k) (leb k 31) (v .1) in
+    record { named = leb-true 1 n (w .0); known = leb-true n 63 (w .1); filled = leb-true 1 k (x .0); small = leb-true k 31 (x .1) }
+
+pub facts-carriable : (b : Block) → Carriable b → carriable b ≡ true
+unfolding carriable
+facts-carriable b f = simp (le-leb _ _ (f .named), le-leb _ _ (f .known), le-leb _ _ (f .filled), le-leb _ _ (f .small))
+
+-- a block of a packet breaks no limit
+pub carriable-valid : (b : Block) → Carriable b → validBlock b ≡ true
+unfolding validBlock
+carriable-valid b f =
+    let n : eqb (b .number) 0 ≡ false = ne-eqb (b .number) 0 (λ e. omega (arith, f .named)) in
+    simp (le-leb _ _ (f .known), le-leb _ _ (f .small), n)
+
+-- a header of two bytes, and of one
+pub header-two : (h : ℕ) → topNumber h ≡ 7 → (blockSize h ≡ 0 → ⊥) → headerLength h ≡ 2
+unfolding headerLength
+header-two h t s = simp (eq-eqb _ _ t, ne-eqb _ _ s)
+
+pub header-one : (h : ℕ) → (topNumber h ≡ 7 → ⊥) → headerLength h ≡ 1
+unfolding headerLength
+header-one h t = simp (ne-eqb _ _ t)
+
+pub header-bare : (h : ℕ) → blockSize h ≡ 0 → headerLength h ≡ 1
+unfolding headerLength
+header-bare h s = by-test (eqb (topNumber h) 7) (λ e. simp (e, eq-eqb _ _ s)) (λ e. simp e)
+
+-- bytes missing, and none missing
+pub read-short : (d : List ℕ) → length d < needed d → readBlock d ≡ refused (lengthMismatch (needed d) (length d))
+unfolding readBlock isShort
+read-short d h = simp (lt-ltb _ _ h)
+
+pub read-whole : (d : List ℕ) → needed d ≤ length d → readBlock d ≡ gave (blockIn d)
+unfolding readBlock isShort
+read-whole d h = simp (le-ltb _ _ h)
+
+-- what a block is written in
+pub written-short : (b : Block) → b .number < 7 → writtenBlock b ≡ (b .number * 32 + length (b .payload)) ∷ b .payload
+unfolding writtenBlock writtenHeader
+written-short b h = simp (lt-ltb _ _ h)
+
+pub written-long : (b : Block) → 7 ≤ b .number → writtenBlock b ≡ (0xE0 + length (b .payload)) ∷ b .number ∷ b .payload
+unfolding writtenBlock writtenHeader
+written-long b h = simp (le-ltb _ _ h)
+
+pub block-length : (b : Block) → 1 ≤ length (b .payload) → blockLength b ≡ length (writtenBlock b)
+unfolding blockLength
+block-length b h = simp (ne-eqb (length (b .payload)) 0 (λ e. omega arith))
+
+pub block-length-none : (b : Block) → length (b .payload) ≡ 0 → blockLength b ≡ 0
+unfolding blockLength
+block-length-none b h = simp (eq-eqb _ _ h)
+
+pub length-short : (b : Block) → b .number < 7 → 1 ≤ length (b .payload) → blockLength b ≡ 1 + length (b .payload)
+length-short b n h = block-length b h ∙ rw (written-short b n) (omega arith)
+
+pub length-long : (b : Block) → 7 ≤ b .number → 1 ≤ length (b .payload) → blockLength b ≡ 2 + length (b .payload)
+length-long b n h = block-length b h ∙ rw (written-long b n) (omega arith)
+
+-- bytes d that begin with a header of k bytes for number n and the payload p
+module _ (d p rest : List ℕ) (n k : ℕ) (head : headerLength (getD d 0 0) ≡ k) (size : blockSize (getD d 0 0) ≡ length p) (number : numberIn d ≡ n) (named : n ≡ 0 → ⊥) (body : drop k d ≡ p ++ rest) (enough : k + length p ≤ length d) where
+  pub needed-at : needed d ≡ k + length p
+  unfolding needed
+  needed-at = simp (head, size, le-ltb (length d) k (omega arith))
+
+  pub block-at : blockIn d ≡ record { number = n; payload = p }
+  unfolding blockIn
+  block-at = simp (number, ne-eqb _ _ named, head, size, body, take-at p rest (length p) refl)
+
+  pub read-at : readBlock d ≡ gave (record { number = n; payload = p })
+  read-at = rw (read-whole d (omega (arith, needed-at)), block-at)

@@ -1,0 +1,56 @@
+-- Reasoning by cases on a test and on an outcome. Assumes nothing.
+use mathlib.Core.Path.{_≡_, refl, ap, subst}
+use mathlib.Core.Bool.{Bool, true, false, cond, not, _&&_, false≢true}
+use Rattle.model.specs.Said.{Said, Outcome, gave, refused, andThen, mapped}
+
+-- what holds under either outcome of a test holds
+pub by-test : {P : Type 0} (b : Bool) → (b ≡ true → P) → (b ≡ false → P) → P
+by-test true f g = f refl
+by-test false f g = g refl
+
+-- what holds of both sides of a `cond`, each under its test, holds of the `cond`
+pub by-cond : {A : Type 0} (P : A → Type 0) (b : Bool) {x y : A} → (b ≡ true → P x) → (b ≡ false → P y) → P (cond b x y)
+by-cond P true f g = f refl
+by-cond P false f g = g refl
+
+-- both parts of a conjunction
+pub both : (a b : Bool) → a && b ≡ true → (a ≡ true) × (b ≡ true)
+both true b e = (refl, e)
+both false b e = absurd (false≢true e)
+
+pub and-both : (a b : Bool) → a ≡ true → b ≡ true → a && b ≡ true
+and-both a b p q = rw (p, q)
+
+pub not-intro : (b : Bool) → b ≡ false → not b ≡ true
+not-intro b e = rw e
+
+-- P holds of what an outcome gives, if it gives anything
+abbrev pub Gives : {A : Type 0} → (A → Type 0) → Outcome A → Type 0
+Gives P (gave x) = P x
+Gives P (refused why) = Unit {0}
+
+module _ {A B : Type 0} where
+  pub gives-then : (P : B → Type 0) (Q : A → Type 0) (o : Outcome A) (f : A → Outcome B) → Gives Q o → ((x : A) → Q x → Gives P (f x)) → Gives P (andThen o f)
+  gives-then P Q (gave x) f q h = h x q
+  gives-then P Q (refused why) f q h = tt
+
+  pub gives-mapped : (P : B → Type 0) (Q : A → Type 0) (o : Outcome A) (f : A → B) → Gives Q o → ((x : A) → Q x → P (f x)) → Gives P (mapped f o)
+  gives-mapped P Q (gave x) f q h = h x q
+  gives-mapped P Q (refused why) f q h = tt
+
+-- an outcome that gives x
+pub gives-at : {A : Type 0} (P : A → Type 0) {x : A} (o : Outcome A) → o ≡ gave x → Gives P o → P x
+gives-at P o e g = subst (Gives P) e g
+
+-- two maps, one after the other
+pub mapped-mapped : {A B C : Type 0} (f : B → C) (g : A → B) (o : Outcome A) → mapped f (mapped g o) ≡ mapped (λ x. f (g x)) o
+mapped-mapped f g (gave x) = refl
+mapped-mapped f g (refused why) = refl
+
+pub mapped-same : {A : Type 0} (o : Outcome A) → mapped (λ x. x) o ≡ o
+mapped-same (gave x) = refl
+mapped-same (refused why) = refl
+
+pub mapped-by : {A B : Type 0} {f g : A → B} → ((x : A) → f x ≡ g x) → (o : Outcome A) → mapped f o ≡ mapped g o
+mapped-by same (gave x) = ap gave (same x)
+mapped-by same (refused why) = refl

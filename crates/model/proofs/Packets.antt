@@ -1,0 +1,134 @@
+-- Packets as they are written: how long they are, what their header says, and that both readers give them back. Assumes nothing.
+use mathlib.Core.Path.{_≡_, refl, sym, ap, _∙_}
+use mathlib.Core.Bool.{Bool, true, false, cond, not, _&&_}
+use mathlib.Core.List.{List, [], _∷_, _++_, append-nil}
+use Prim.Native.Nat.{ℕ, zero, suc, _+_, _-_, _*_, _/_, _%_, _≤_, _<_}
+use native.Mathlib.Omega.{arith}
+use lib.Dec.{eqb, leb, ltb}
+use lib.ListN.{length, getD, drop, length-append}
+use borrow.Author.Tests.{eq-eqb, ne-eqb, le-ltb, leb-true, eqb-true, eqb-false}
+use Rattle.model.specs.Said.{Outcome, gave, mapped}
+use Rattle.model.specs.Block.{Block, writtenBlock, blockLength}
+use Rattle.model.specs.Packet.{Packet, sequenceIn, packetSize, blocksFrom, readBy, readPacket, readTidy, blocksLength, packetLength, writtenBlocks, packetHeader, fill, writtenPacket, mostPacket, carriable, allCarriable, validPacket}
+use Rattle.model.proofs.Cases.{by-test, both}
+use Rattle.model.proofs.Blocks.{Carriable, carriable-facts, block-length}
+use Rattle.model.proofs.BlockTrip.{written-some}
+use Rattle.model.proofs.Walk.{Passes, plain-passing, tidy-passing, blocks-none, blocks-fill, blocks-written}
+
+-- a packet within the limits, as facts
+pub record Valid (p : Packet) : Type 0 where
+  pub sequence : p .sequence ≤ 3
+  pub blocks : allCarriable (p .blocks) ≡ true
+  pub length : packetLength p ≤ 128
+
+pub valid-facts : (p : Packet) → validPacket p ≡ true → Valid p
+unfolding validPacket
+valid-facts p e =
+    let v = both (leb (p .sequence) 3 && allCarriable (p .blocks)) (leb (packetLength p) 128) e in
+    let w = both (leb (p .sequence) 3) (allCarriable (p .blocks)) (v .0) in
+    record { sequence = leb-true _ _ (w .0); blocks = w .1; length = leb-true _ _ (v .1) }
+
+-- blocks of a packet: their lengths' sum is the length of what they are written in, two bytes or more each
+pub blocks-length : (bs : List Block) → allCarriable bs ≡ true → length (writtenBlocks bs) ≡ blocksLength bs
+unfolding allCarriable writtenBlocks blocksLength
+blocks-length [] ok = refl
+blocks-length (b ∷ bs) ok =
+    let f = both (carriable b) (allCarriable bs) ok in
+    let e = block-length b (carriable-facts b (f .0) .filled) in
+    omega (arith, length-append (writtenBlock b) (writtenBlocks bs), blocks-length bs (f .1), e)
+
+pub blocks-two : (bs : List Block) → allCarriable bs ≡ true → 2 * length bs ≤ blocksLength bs
+unfolding allCarriable blocksLength
+blocks-two [] ok = omega arith
+blocks-two (b ∷ bs) ok =
+    let f = both (carriable b) (allCarriable bs) ok in
+    let c = carriable-facts b (f .0) in
+    omega (arith, blocks-two bs (f .1), block-length b (c .filled), written-some b [] c)
+
+-- the length of a packet, empty and not
+pub length-empty : (p : Packet) → length (p .blocks) ≡ 0 → packetLength p ≡ 0
+unfolding packetLength
+length-empty p h = simp (eq-eqb _ _ h)
+
+pub length-some : (p : Packet) → 1 ≤ length (p .blocks) → packetLength p ≡ 1 + blocksLength (p .blocks)
+unfolding packetLength
+length-some p h = simp (ne-eqb (length (p .blocks)) 0 (λ e. omega arith))
+
+fill-length : (n : ℕ) → length (fill n) ≡ n % 2
+unfolding fill
+fill-length n = by-test (eqb (n % 2) 1) (λ e. simp e (omega (arith, eqb-true (n % 2) 1 e))) (λ e. simp e (omega (arith, eqb-false (n % 2) 1 e)))
+
+-- "written packets have even length from 4 to 128 and a header that gives that size"
+pub record Shape (p : Packet) : Type 0 where
+  pub even : length (writtenPacket p) ≡ 2 * ((packetLength p + 1) / 2)
+  pub least : 4 ≤ length (writtenPacket p)
+  pub most : length (writtenPacket p) ≤ 128
+  pub header : packetSize (packetHeader p) ≡ length (writtenPacket p)
+  pub sequence : sequenceIn (packetHeader p) ≡ p .sequence
+
+module _ (p : Packet) (v : Valid p) (some : 1 ≤ length (p .blocks)) where
+  least-length : 3 ≤ packetLength p
+  least-length = omega (arith, length-some p some, blocks-two (p .blocks) (v .blocks))
+
+  written-even : length (writtenPacket p) ≡ 2 * ((packetLength p + 1) / 2)
+  unfolding writtenPacket
+  written-even =
+      omega (arith, length-append (writtenBlocks (p .blocks)) (fill (packetLength p)), blocks-length (p .blocks) (v .blocks), fill-length (packetLength p), length-some p some)
+
+  header-size : packetSize (packetHeader p) ≡ length (writtenPacket p)
+  unfolding packetSize packetHeader
+  header-size =
+      let n : ℕ = (packetLength p + 1) / 2 in
+      let low : (p .sequence * 64 + n % 64) % 64 ≡ n % 64 = omega arith in
+      let small = least-length in
+      by-test (eqb (n % 64) 0)
+      (λ e. simp (low, e) (omega (arith, eqb-true (n % 64) 0 e, written-even, v .length)))
+      (λ e. simp (low, e) (omega (arith, eqb-false (n % 64) 0 e, written-even, v .length)))
+
+  pub shape : Shape p
+  unfolding packetHeader
+  shape =
+      record {
+        even = written-even;
+        least = omega (arith, written-even, least-length);
+        most = omega (arith, written-even, v .length);
+        header = header-size;
+        sequence = omega (arith, v .sequence);
+      }
+
+-- written blocks and the byte that may fill them are read as the blocks
+module _ (move : List ℕ → ℕ) (passes : Passes move) where
+  filled-none : (n : ℕ) → blocksFrom move 0 (fill n) ≡ gave []
+  unfolding fill
+  filled-none n = by-test (eqb (n % 2) 1) (λ e. simp e (blocks-fill move passes [] ∙ blocks-none move)) (λ e. simp e (blocks-none move))
+
+  pub blocks-back : (bs : List Block) (n : ℕ) → allCarriable bs ≡ true → blocksFrom move 0 (writtenBlocks bs ++ fill n) ≡ gave bs
+  blocks-back bs n ok = blocks-written move passes bs (fill n) ok ∙ rw (filled-none n) (ap gave (append-nil bs))
+
+  -- a reader whose length rule the written packet meets
+  pub back-by : (wrong : ℕ → ℕ → Bool) (p : Packet) → Valid p → wrong (packetSize (packetHeader p)) (length (writtenPacket p)) ≡ false → readBy move wrong (writtenPacket p) ≡ gave p
+  unfolding readBy writtenPacket packetHeader
+  back-by wrong p v fits =
+      let top : sequenceIn (p .sequence * 64 + (packetLength p + 1) / 2 % 64) ≡ p .sequence = omega (arith, v .sequence) in
+      let n : eqb (suc (length (writtenBlocks (p .blocks) ++ fill (packetLength p)))) 0 ≡ false = ne-eqb (suc (length (writtenBlocks (p .blocks) ++ fill (packetLength p)))) 0 (λ e. omega arith) in
+      rw (n, fits, blocks-back (p .blocks) (packetLength p) (v .blocks)) (ap (λ (q : ℕ). gave (record { sequence = q; blocks = p .blocks })) top)
+
+-- a written packet is not longer than its header says
+empty-size : (q : ℕ) → packetSize (packetHeader (record { sequence = q; blocks = [] })) ≡ 128
+unfolding packetSize packetHeader packetLength
+empty-size q = let e : (q * 64 + 0) % 64 ≡ 0 = omega arith in rw e
+
+not-longer : (q : ℕ) (bs : List Block) → (let p : Packet = record { sequence = q; blocks = bs } in Valid p → length (writtenPacket p) ≤ packetSize (packetHeader p))
+unfolding writtenPacket writtenBlocks packetLength fill
+not-longer q [] v = rw (empty-size q) (omega arith)
+not-longer q (b ∷ bs) v = omega (arith, shape (record { sequence = q; blocks = b ∷ bs }) v (omega arith) .header)
+
+-- "packet written then read give the packet back (sequence number, block numbers, payloads)": plain, the empty packet too,
+pub plain-back : (p : Packet) → Valid p → readPacket (writtenPacket p) ≡ gave p
+unfolding readPacket
+plain-back p v = back-by _ plain-passing ltb p v (le-ltb _ _ (not-longer (p .sequence) (p .blocks) v))
+
+-- and tidy
+pub tidy-back : (p : Packet) → Valid p → 1 ≤ length (p .blocks) → readTidy (writtenPacket p) ≡ gave p
+unfolding readTidy
+tidy-back p v some = back-by _ tidy-passing (λ size actual. not (eqb size actual)) p v (ap not (eq-eqb _ _ (shape p v some .header)))

@@ -1,0 +1,80 @@
+-- How the blocks of a packet are read one after another, for any way of moving on. Assumes nothing.
+use mathlib.Core.Path.{_≡_, refl, sym, ap, _∙_}
+use mathlib.Core.Bool.{true, false, cond}
+use mathlib.Core.List.{List, [], _∷_, _++_, append-assoc}
+use Prim.Native.Nat.{ℕ, zero, suc, _+_, _-_, _≤_, _<_}
+use native.Mathlib.Omega.{arith}
+use lib.Dec.{eqb}
+use lib.ListN.{length, drop, length-append}
+use lib.Seq.{drop-nil, drop-at}
+use borrow.Author.Tests.{ne-eqb}
+use Rattle.model.specs.Said.{Outcome, gave, andThen, mapped}
+use Rattle.model.specs.Block.{Block, readBlock, writtenBlock}
+use Rattle.model.specs.Packet.{kept, blocksFrom, plainMove, tidyMove, allCarriable, writtenBlocks}
+use Rattle.model.proofs.Cases.{both, mapped-mapped, mapped-same, mapped-by}
+use Rattle.model.proofs.Blocks.{Carriable, carriable-facts}
+use Rattle.model.proofs.BlockTrip.{read-written, written-some, plain-passes, tidy-passes, fill-read, plain-fill, tidy-fill}
+
+-- both readers move past a written block, and past the byte that fills an odd length
+pub record Passes (move : List ℕ → ℕ) : Type 0 where
+  pub block : (b : Block) (rest : List ℕ) → Carriable b → move (writtenBlock b ++ rest) ≡ length (writtenBlock b)
+  pub fill : (rest : List ℕ) → move (0x00 ∷ rest) ≡ 1
+
+pub plain-passing : Passes plainMove
+plain-passing = record { block = plain-passes; fill = plain-fill }
+
+pub tidy-passing : Passes tidyMove
+tidy-passing = record { block = tidy-passes; fill = tidy-fill }
+
+module _ (move : List ℕ → ℕ) where
+  -- bytes that are passed over
+  pub blocks-after : (k : ℕ) (d : List ℕ) → blocksFrom move k d ≡ blocksFrom move 0 (drop k d)
+  unfolding blocksFrom
+  blocks-after k [] = rw (drop-nil k)
+  blocks-after zero (x ∷ d) = refl
+  blocks-after (suc k) (x ∷ d) = blocks-after k d
+
+  -- "Blocks are read until no bytes are left"
+  pub blocks-none : blocksFrom move 0 [] ≡ gave []
+  unfolding blocksFrom
+  blocks-none = refl
+
+  less-one : (m : ℕ) (x : ℕ) (d : List ℕ) → 1 ≤ m → drop (m - 1) d ≡ drop m (x ∷ d)
+  less-one zero x d h = absurd (omega arith)
+  less-one (suc m) x d h = let e : suc m - 1 ≡ m = omega arith in rw e
+
+  -- the block at the head, and then the blocks from where it moves on to
+  pub blocks-next : (d : List ℕ) → 1 ≤ length d → 1 ≤ move d
+    → blocksFrom move 0 d ≡ andThen (readBlock d) (λ b. mapped (kept b) (blocksFrom move 0 (drop (move d) d)))
+  unfolding blocksFrom
+  blocks-next [] h k = absurd (omega arith)
+  blocks-next (x ∷ d) h k =
+      ap (λ (o : Outcome (List Block)). andThen (readBlock (x ∷ d)) (λ b. mapped (kept b) o))
+      (blocks-after (move (x ∷ d) - 1) d ∙ ap (blocksFrom move 0) (less-one (move (x ∷ d)) x d k))
+
+  module _ (passes : Passes move) where
+    -- a written block is read, whatever follows it
+    pub blocks-block : (b : Block) (rest : List ℕ) → Carriable b → blocksFrom move 0 (writtenBlock b ++ rest) ≡ mapped (λ bs. b ∷ bs) (blocksFrom move 0 rest)
+    blocks-block b rest f =
+        let some = written-some b rest f in
+        let e = passes .block b rest f in
+        let n : 1 ≤ length (writtenBlock b ++ rest) = omega (arith, length-append (writtenBlock b) rest) in
+        let at : drop (move (writtenBlock b ++ rest)) (writtenBlock b ++ rest) ≡ rest = rw e (drop-at (writtenBlock b) rest _ refl) in
+        let keeps : (bs : List Block) → kept b bs ≡ b ∷ bs = λ bs. simp (ne-eqb (length (b .payload)) 0 (λ z. omega (arith, f .filled))) in
+        blocks-next (writtenBlock b ++ rest) n (omega arith) ∙ rw (read-written b rest f, at) (mapped-by keeps (blocksFrom move 0 rest))
+
+    -- the byte that fills an odd length is passed, whatever follows it
+    pub blocks-fill : (rest : List ℕ) → blocksFrom move 0 (0x00 ∷ rest) ≡ blocksFrom move 0 rest
+    blocks-fill rest =
+        let e = passes .fill rest in
+        blocks-next (0x00 ∷ rest) (omega arith) (omega arith) ∙ rw (fill-read rest, e) (mapped-same (blocksFrom move 0 rest))
+
+    -- written blocks are read, whatever follows them
+    pub blocks-written : (bs : List Block) (rest : List ℕ) → allCarriable bs ≡ true → blocksFrom move 0 (writtenBlocks bs ++ rest) ≡ mapped (λ cs. bs ++ cs) (blocksFrom move 0 rest)
+    unfolding allCarriable writtenBlocks
+    blocks-written [] rest ok = sym (mapped-same (blocksFrom move 0 rest))
+    blocks-written (b ∷ bs) rest ok =
+        let f = both _ _ ok in
+        rw append-assoc
+        (blocks-block b (writtenBlocks bs ++ rest) (carriable-facts b (f .0))
+        ∙ ap (mapped (λ cs. b ∷ cs)) (blocks-written bs rest (f .1)) ∙ mapped-mapped _ _ (blocksFrom move 0 rest))
