@@ -77,20 +77,20 @@ table =
     ∷ row (frames ((0xC2 ∷ 0xFF ∷ 0xFA ∷ 0x00 ∷ 0x00 ∷ 0xFC ∷ 0x94 ∷ 0x2C ∷ []) ∷ [])) (packets (cea608AfterCea708 3 ∷ []) [])
     ∷ row (frames ((0xC1 ∷ 0xFF ∷ 0xFF ∷ 0x02 ∷ 0x21 ∷ []) ∷ [])) (packets (accepted [] ∷ []) [])
     ∷ row
-      (frames ((0xC1 ∷ 0xFF ∷ 0xFF ∷ 0x02 ∷ 0x21 ∷ []) ∷ (0xC1 ∷ 0xFF ∷ 0xFE ∷ 0x41 ∷ 0x00 ∷ []) ∷ []))
-      (packets (accepted [] ∷ accepted [] ∷ []) (one 0 1 (0x41 ∷ []) ∷ []))
+    (frames ((0xC1 ∷ 0xFF ∷ 0xFF ∷ 0x02 ∷ 0x21 ∷ []) ∷ (0xC1 ∷ 0xFF ∷ 0xFE ∷ 0x41 ∷ 0x00 ∷ []) ∷ []))
+    (packets (accepted [] ∷ accepted [] ∷ []) (one 0 1 (0x41 ∷ []) ∷ []))
     ∷ row (frame 30 1 (pushes608 (field2 (pair 0x15 0x2C)) ∷ [])) (bytes (0xC2 ∷ 0xFF ∷ 0xFC ∷ 0x80 ∷ 0x80 ∷ 0xFD ∷ 0x15 ∷ 0x2C ∷ []))
     ∷ row
-      (frame 30 1 (twice942C ++ (pushes (one 2 1 (0x41 ∷ [])) ∷ [])))
-      (bytes (0xC4 ∷ 0xFF ∷ 0xFC ∷ 0x94 ∷ 0x2C ∷ 0xFF ∷ 0x82 ∷ 0x21 ∷ 0xFE ∷ 0x41 ∷ 0x00 ∷ []))
+    (frame 30 1 (twice942C ++ (pushes (one 2 1 (0x41 ∷ [])) ∷ [])))
+    (bytes (0xC4 ∷ 0xFF ∷ 0xFC ∷ 0x94 ∷ 0x2C ∷ 0xFF ∷ 0x82 ∷ 0x21 ∷ 0xFE ∷ 0x41 ∷ 0x00 ∷ []))
     ∷ []
 
 pub examples : map (λ (r : Row). answer (r .input)) table ≡ map (λ (r : Row). r .result) table
 unfolding table
-  headerLength numberIn needed isShort blockIn readBlock writtenHeader writtenBlock blockLength
-  packetSize plainMove tidyMove blocksFrom readBy readPacket readTidy blocksLength packetLength writtenBlocks packetHeader fill writtenPacket
-  seen seenAll flat triplesIn flagged frameBytes
-  pairsIn lateAfter lateFrom carries708 closed wants gather ended gathered takeGathered takeTriples unread takeFrame
-  rounded budgets queued pushPacket isNull pushPair pushCea608 turnsDue turn1 turn2 turned continued started packetTriples triplesQueued countDue send padding framed writeFrame
-  call run readFrames
+    headerLength numberIn needed isShort blockIn readBlock writtenHeader writtenBlock blockLength
+    packetSize plainMove tidyMove blocksFrom readBy readPacket readTidy blocksLength packetLength writtenBlocks packetHeader fill writtenPacket
+    seen seenAll flat triplesIn flagged frameBytes
+    pairsIn lateAfter lateFrom carries708 closed wants gather ended gathered takeGathered takeTriples unread takeFrame
+    rounded budgets queued pushPacket isNull pushPair pushCea608 turnsDue turn1 turn2 turned continued started packetTriples triplesQueued countDue send padding framed writeFrame
+    call run readFrames
 examples = refl

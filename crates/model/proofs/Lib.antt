@@ -3,4 +3,9 @@ pub mod Blocks
 pub mod BlockTrip
 pub mod Walk
 pub mod Packets
+pub mod Limits
+pub mod Rates
+pub mod Durations
+pub mod Frames
+pub mod Sends
 pub mod Examples

@@ -45,7 +45,7 @@ module _ (move : List ℕ → ℕ) where
 
   -- the block at the head, and then the blocks from where it moves on to
   pub blocks-next : (d : List ℕ) → 1 ≤ length d → 1 ≤ move d
-    → blocksFrom move 0 d ≡ andThen (readBlock d) (λ b. mapped (kept b) (blocksFrom move 0 (drop (move d) d)))
+      → blocksFrom move 0 d ≡ andThen (readBlock d) (λ b. mapped (kept b) (blocksFrom move 0 (drop (move d) d)))
   unfolding blocksFrom
   blocks-next [] h k = absurd (omega arith)
   blocks-next (x ∷ d) h k =

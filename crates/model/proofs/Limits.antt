@@ -1,0 +1,214 @@
+-- What a packet reader gives is a packet within the limits. Assumes nothing.
+use mathlib.Core.Path.{_≡_, refl, sym, ap, _∙_}
+use mathlib.Core.Bool.{Bool, true, false, cond, not, _&&_}
+use mathlib.Core.List.{List, [], _∷_, _++_}
+use Prim.Native.Nat.{ℕ, zero, suc, _+_, _-_, _*_, _/_, _%_, _≤_, _<_}
+use native.Mathlib.Omega.{arith}
+use lib.Dec.{eqb, leb, ltb}
+use lib.ListN.{length, getD, take, drop, length-take, length-drop}
+use lib.Seq.{length-take-le}
+use borrow.Author.Tests.{eq-eqb, ne-eqb, le-ltb, le-leb, leb-true, eqb-true, eqb-false, ltb-true, ltb-false, not-false}
+use Rattle.model.specs.Said.{Outcome, gave, refused, mapped, andThen}
+use Rattle.model.specs.Block.{Block, topNumber, blockSize, headerLength, numberIn, needed, isShort, blockIn, readBlock, writtenBlock, blockLength}
+use Rattle.model.specs.Packet.{Packet, sequenceIn, packetSize, plainMove, tidyMove, kept, blocksFrom, readBy, readPacket, readTidy, blocksLength, packetLength, allCarriable, carriable, validPacket}
+use Rattle.model.proofs.Cases.{by-test, by-cond, both, and-both, Gives, gives-then, gives-mapped, gives-at}
+use Rattle.model.proofs.Blocks.{Carriable, facts-carriable, header-one, header-two, header-bare, block-length, block-length-none, length-short, length-long}
+use Rattle.model.proofs.BlockTrip.{written-some}
+use Rattle.model.proofs.Packets.{Valid, blocks-two, length-some, length-empty}
+
+-- a move by m: forward, within the n bytes that there are, and over the l bytes that the block is written in
+pub record Moves (m n l : ℕ) : Type 0 where
+  pub least : 1 ≤ m
+  pub most : m ≤ n
+  pub covers : l ≤ m
+
+-- a block that was read from d: within the limits if it has a payload, and written in no more bytes than its reader moves on by
+pub record ReadFrom (d : List ℕ) (b : Block) : Type 0 where
+  pub carried : 1 ≤ length (b .payload) → Carriable b
+  pub plain : Moves (plainMove d) (length d) (blockLength b)
+  pub tidy : Moves (tidyMove d) (length d) (blockLength b)
+
+-- a header has one byte or two, and two only for number 7 with a size
+header-cases : {P : Type 0} (h : ℕ) → (headerLength h ≡ 1 → (topNumber h ≡ 7 → blockSize h ≡ 0) → P) → (headerLength h ≡ 2 → (blockSize h ≡ 0 → ⊥) → P) → P
+header-cases h one two =
+    by-test (eqb (topNumber h) 7)
+    (λ e. by-test (eqb (blockSize h) 0)
+    (λ z. one (header-bare h (eqb-true _ _ z)) (λ _. eqb-true _ _ z))
+    (λ z. two (header-two h (eqb-true _ _ e) (eqb-false _ _ z)) (eqb-false _ _ z)))
+    (λ e. one (header-one h (eqb-false _ _ e)) (λ t. absurd (eqb-false _ _ e t)))
+
+number-one : (d : List ℕ) → headerLength (getD d 0 0) ≡ 1 → numberIn d ≡ topNumber (getD d 0 0)
+unfolding numberIn
+number-one d e = simp (ne-eqb (headerLength (getD d 0 0)) 2 (λ z. omega arith))
+
+number-two : (d : List ℕ) → headerLength (getD d 0 0) ≡ 2 → numberIn d ≡ getD d 1 0 % 64
+unfolding numberIn
+number-two d e = simp (eq-eqb (headerLength (getD d 0 0)) 2 e)
+
+number-known : (d : List ℕ) → numberIn d ≤ 63
+number-known d = header-cases (getD d 0 0) (λ e _. rw (number-one d e) (omega arith)) (λ e _. rw (number-two d e) (omega arith))
+
+-- the payload is as long as the header says, or empty for number 0
+payload-none : (d : List ℕ) → numberIn d ≡ 0 → length (blockIn d .payload) ≡ 0
+unfolding blockIn
+payload-none d z = simp (eq-eqb _ _ z)
+
+-- bytes d that are all there
+module _ (d : List ℕ) (whole : needed d ≤ length d) where
+  all-there : headerLength (getD d 0 0) + blockSize (getD d 0 0) ≤ length d
+  unfolding needed
+  all-there =
+      by-test (ltb (length d) (headerLength (getD d 0 0)))
+      (λ e. let w : headerLength (getD d 0 0) ≤ length d = simp e at whole in absurd (omega (arith, ltb-true (length d) (headerLength (getD d 0 0)) e)))
+      (λ e. simp e at whole)
+
+  payload-length : (numberIn d ≡ 0 → ⊥) → length (blockIn d .payload) ≡ blockSize (getD d 0 0)
+  unfolding blockIn
+  payload-length n =
+      simp (ne-eqb _ _ n)
+      (length-take-le (blockSize (getD d 0 0)) (drop (headerLength (getD d 0 0)) d) (rw length-drop (omega (arith, all-there))))
+
+  -- a block with a payload
+  module _ (some : 1 ≤ length (blockIn d .payload)) where
+    named : numberIn d ≡ 0 → ⊥
+    named z = omega (arith, payload-none d z)
+
+    pub carried : Carriable (blockIn d)
+    unfolding blockIn
+    carried =
+        record {
+          named = omega (arith, named);
+          known = number-known d;
+          filled = some;
+          small = omega (arith, payload-length named);
+        }
+
+    long-header : 7 ≤ blockIn d .number → headerLength (getD d 0 0) ≡ 2
+    unfolding blockIn
+    long-header l =
+        header-cases (getD d 0 0)
+        (λ e t. let z : blockSize (getD d 0 0) ≡ 0 = t (omega (arith, number-one d e)) in absurd (omega (arith, payload-length named)))
+        (λ e _. e)
+
+    -- it is written in no more bytes than it was read from
+    fits : blockLength (blockIn d) ≤ tidyMove d
+    unfolding tidyMove
+    fits =
+        by-test (ltb (blockIn d .number) 7)
+        (λ e. let l = length-short (blockIn d) (ltb-true _ _ e) some in
+        header-cases (getD d 0 0) (λ q _. omega (arith, payload-length named)) (λ q _. omega (arith, payload-length named)))
+        (λ e. let l : 7 ≤ blockIn d .number = ltb-false _ _ e in omega (arith, length-long (blockIn d) l some, payload-length named, long-header l))
+
+    written-from : 1 ≤ blockLength (blockIn d)
+    written-from = omega (arith, block-length (blockIn d) some, written-some (blockIn d) [] carried)
+
+  tidy-least : 1 ≤ tidyMove d
+  unfolding tidyMove
+  tidy-least = header-cases (getD d 0 0) (λ q _. omega arith) (λ q _. omega arith)
+
+  tidy-most : tidyMove d ≤ length d
+  unfolding tidyMove
+  tidy-most = all-there
+
+  plain-none : length (blockIn d .payload) ≡ 0 → plainMove d ≡ 1
+  unfolding plainMove
+  plain-none z = simp (eq-eqb _ _ z)
+
+  plain-some : 1 ≤ length (blockIn d .payload) → plainMove d ≡ blockLength (blockIn d)
+  unfolding plainMove
+  plain-some s = simp (ne-eqb (length (blockIn d .payload)) 0 (λ z. omega arith))
+
+  read-from : ReadFrom d (blockIn d)
+  read-from =
+      by-test (eqb (length (blockIn d .payload)) 0)
+      (λ e. let z : length (blockIn d .payload) ≡ 0 = eqb-true _ _ e in
+      record {
+        carried = λ s. absurd (omega arith);
+        plain = record { least = omega (arith, plain-none z); most = omega (arith, plain-none z, tidy-least, tidy-most); covers = omega (arith, block-length-none (blockIn d) z) };
+        tidy = record { least = tidy-least; most = tidy-most; covers = omega (arith, block-length-none (blockIn d) z) };
+      })
+      (λ e. let s : 1 ≤ length (blockIn d .payload) = omega (arith, eqb-false (length (blockIn d .payload)) 0 e) in
+      record {
+        carried = carried;
+        plain = record { least = omega (arith, plain-some s, written-from s); most = omega (arith, plain-some s, fits s, tidy-most); covers = omega (arith, plain-some s) };
+        tidy = record { least = tidy-least; most = tidy-most; covers = fits s };
+      })
+
+-- a block reader gives blocks of that kind
+read-gives : (d : List ℕ) → Gives (ReadFrom d) (readBlock d)
+unfolding readBlock isShort
+read-gives d = by-cond (Gives (ReadFrom d)) (ltb (length d) (needed d)) (λ _. tt) (λ e. read-from d (ltb-false _ _ e))
+
+-- blocks that are within the limits and written in at most n bytes
+pub record Within (n : ℕ) (bs : List Block) : Type 0 where
+  pub carriable : allCarriable bs ≡ true
+  pub short : blocksLength bs ≤ n
+
+within-kept : (b : Block) (bs : List Block) (n : ℕ) → (1 ≤ length (b .payload) → Carriable b) → Within n bs → Within (blockLength b + n) (kept b bs)
+unfolding allCarriable blocksLength
+within-kept b bs n c w =
+    by-cond (Within (blockLength b + n)) (eqb (length (b .payload)) 0)
+    (λ e. record { carriable = w .carriable; short = omega (arith, w .short) })
+    (λ e. let s : 1 ≤ length (b .payload) = omega (arith, eqb-false (length (b .payload)) 0 e) in
+    record { carriable = and-both _ _ (facts-carriable b (c s)) (w .carriable); short = omega (arith, w .short) })
+
+-- the length of a packet of these blocks
+packet-short : (q : ℕ) (bs : List Block) → blocksLength bs ≤ 127 → packetLength (record { sequence = q; blocks = bs }) ≤ 128
+unfolding packetLength
+packet-short q bs h = by-cond (λ n. n ≤ 128) (eqb (length bs) 0) (λ _. omega arith) (λ _. omega arith)
+
+pub size-most : (h : ℕ) → packetSize h ≤ 128
+unfolding packetSize
+size-most h = by-cond (λ n. n ≤ 128) (eqb (h % 64) 0) (λ _. omega arith) (λ _. omega arith)
+
+-- a way of moving on that stays within the bytes and behind no written block
+module _ (move : List ℕ → ℕ) (moves : (d : List ℕ) (b : Block) → ReadFrom d b → Moves (move d) (length d) (blockLength b)) where
+  pub blocks-within : (k : ℕ) (d : List ℕ) → k ≤ length d → Gives (Within (length d - k)) (blocksFrom move k d)
+  unfolding blocksFrom allCarriable blocksLength
+  blocks-within k [] h = record { carriable = refl; short = omega arith }
+  blocks-within (suc k) (x ∷ d) h = let e : suc (length d) - suc k ≡ length d - k = omega arith in rw e (blocks-within k d (omega arith))
+  blocks-within zero (x ∷ d) h =
+      gives-then (Within (suc (length d) - 0)) (ReadFrom (x ∷ d)) (readBlock (x ∷ d)) _ (read-gives (x ∷ d))
+      (λ b f. let m = moves (x ∷ d) b f in
+      gives-mapped (Within (suc (length d) - 0)) (Within (length d - (move (x ∷ d) - 1))) (blocksFrom move (move (x ∷ d) - 1) d) (kept b)
+      (blocks-within (move (x ∷ d) - 1) d (omega (arith, m .least, m .most)))
+      (λ bs w. let v = within-kept b bs (length d - (move (x ∷ d) - 1)) (f .carried) w in
+      record { carriable = v .carriable; short = omega (arith, v .short, m .least, m .most, m .covers) }))
+
+  -- what a packet reader gives of data that is not longer than 128 bytes
+  pub packet-within : (wrong : ℕ → ℕ → Bool) (d : List ℕ) → (wrong (packetSize (getD d 0 0)) (length d) ≡ false → length d ≤ 128) → Gives Valid (readBy move wrong d)
+  unfolding readBy
+  packet-within wrong d short =
+      by-cond (Gives Valid) (eqb (length d) 0) (λ _. tt)
+      (λ e. by-cond (Gives Valid) (wrong (packetSize (getD d 0 0)) (length d)) (λ _. tt)
+      (λ r. let l = short r in
+      gives-mapped Valid (Within (length (drop 1 d) - 0)) (blocksFrom move 0 (drop 1 d)) _ (blocks-within 0 (drop 1 d) (omega arith))
+      (λ bs w. record { sequence = omega arith; blocks = w .carriable; length = packet-short _ bs (omega (arith, w .short, length-drop 1 d)) })))
+
+plain-within : (d : List ℕ) → Gives Valid (readPacket d)
+unfolding readPacket
+plain-within d = packet-within plainMove (λ _ _ f. f .plain) ltb d (λ e. omega (arith, size-most (getD d 0 0), ltb-false (packetSize (getD d 0 0)) (length d) e))
+
+tidy-within : (d : List ℕ) → Gives Valid (readTidy d)
+unfolding readTidy
+tidy-within d =
+    packet-within tidyMove (λ _ _ f. f .tidy) (λ size actual. not (eqb size actual)) d
+    (λ e. omega (arith, size-most (getD d 0 0), eqb-true (packetSize (getD d 0 0)) (length d) (not-false _ e)))
+
+-- "a packet that reads has at most 63 blocks and length at most 128", and breaks no other limit
+pub few-blocks : (p : Packet) → Valid p → length (p .blocks) ≤ 63
+few-blocks p v =
+    by-test (eqb (length (p .blocks)) 0)
+    (λ e. omega (arith, eqb-true (length (p .blocks)) 0 e))
+    (λ e. omega (arith, length-some p (omega (arith, eqb-false (length (p .blocks)) 0 e)), blocks-two (p .blocks) (v .blocks), v .length))
+
+pub plain-valid : (d : List ℕ) {p : Packet} → readPacket d ≡ gave p → Valid p
+plain-valid d e = gives-at Valid (readPacket d) e (plain-within d)
+
+pub tidy-valid : (d : List ℕ) {p : Packet} → readTidy d ≡ gave p → Valid p
+tidy-valid d e = gives-at Valid (readTidy d) e (tidy-within d)
+
+-- what breaks no limit passes the test of it
+pub facts-valid : (p : Packet) → Valid p → validPacket p ≡ true
+unfolding validPacket
+facts-valid p v = simp (le-leb _ _ (v .sequence), v .blocks, le-leb _ _ (v .length))
