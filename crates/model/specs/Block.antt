@@ -59,11 +59,11 @@ unfoldable pub partIn : List ℕ → List ℕ
 partIn d = cond (isShort d) [] (blockIn d .payload)
 
 -- "Written: numbers 0 to 6 one header byte, 7 to 63 two (0xE0 + size, then the number)."
-unfoldable pub writtenHeader : Block → List ℕ
-writtenHeader b = cond (ltb (b .number) 7) ((b .number * 32 + length (b .payload)) ∷ []) ((0xE0 + length (b .payload)) ∷ b .number ∷ [])
+unfoldable pub writtenHeader : ℕ → ℕ → List ℕ
+writtenHeader number size = cond (ltb number 7) ((number * 32 + size) ∷ []) ((0xE0 + size) ∷ number ∷ [])
 
 unfoldable pub writtenBlock : Block → List ℕ
-writtenBlock b = writtenHeader b ++ b .payload
+writtenBlock b = writtenHeader (b .number) (length (b .payload)) ++ b .payload
 
 -- "A block without payload has length 0, yet writes its header."
 unfoldable pub blockLength : Block → ℕ

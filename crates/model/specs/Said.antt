@@ -84,6 +84,10 @@ module _ {A : Type 0} where
   abbrev pub checked : Bool → Outcome A → Outcome A
   checked valid o = cond valid o (refused badValue)
 
+-- a number that is asked of a value: 11 where the value breaks a limit
+abbrev pub measured : Bool → ℕ → Said
+measured valid n = saysWith (λ k. k ∷ []) (checked valid (gave n))
+
 module _ {A B : Type 0} where
   -- the second call is made with what the first gives; a refusal of the first is the refusal of both
   abbrev pub andThen : Outcome A → (A → Outcome B) → Outcome B
