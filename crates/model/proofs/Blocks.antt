@@ -72,6 +72,14 @@ pub written-long : (b : Block) → 7 ≤ b .number → writtenBlock b ≡ (0xE0 
 unfolding writtenBlock writtenHeader
 written-long b h = simp (le-ltb _ _ h)
 
+pub header-written : (number size : ℕ) → length (writtenHeader number size) ≡ cond (ltb number 7) 1 2
+unfolding writtenHeader
+header-written number size = by-test (ltb number 7) (λ e. rw e) (λ e. rw e)
+
+pub written-length : (b : Block) → length (writtenBlock b) ≡ cond (ltb (b .number) 7) 1 2 + length (b .payload)
+unfolding writtenBlock
+written-length b = length-append (writtenHeader (b .number) (length (b .payload))) (b .payload) ∙ ap (λ n. n + length (b .payload)) (header-written (b .number) (length (b .payload)))
+
 pub block-length : (b : Block) → 1 ≤ length (b .payload) → blockLength b ≡ length (writtenBlock b)
 unfolding blockLength
 block-length b h = simp (ne-eqb (length (b .payload)) 0 (λ e. omega arith))

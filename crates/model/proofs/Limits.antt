@@ -9,7 +9,7 @@ use lib.ListN.{length, getD, take, drop, length-take, length-drop}
 use lib.Seq.{length-take-le}
 use borrow.Author.Tests.{eq-eqb, ne-eqb, le-ltb, le-leb, leb-true, eqb-true, eqb-false, ltb-true, ltb-false, not-false}
 use Rattle.model.specs.Said.{Outcome, gave, refused, mapped, andThen}
-use Rattle.model.specs.Block.{Block, topNumber, blockSize, headerLength, numberIn, needed, isShort, blockIn, readBlock, writtenBlock, blockLength}
+use Rattle.model.specs.Block.{Block, validBlock, topNumber, blockSize, headerLength, numberIn, needed, isShort, blockIn, readBlock, writtenBlock, blockLength}
 use Rattle.model.specs.Packet.{Packet, sequenceIn, packetSize, plainMove, tidyMove, kept, blocksFrom, readBy, readPacket, readTidy, blocksLength, packetLength, allCarriable, carriable, validPacket}
 use Rattle.model.proofs.Cases.{by-test, by-cond, both, and-both, Gives, gives-then, gives-mapped, gives-at}
 use Rattle.model.proofs.Blocks.{Carriable, facts-carriable, header-one, header-two, header-bare, block-length, block-length-none, length-short, length-long}
@@ -55,7 +55,7 @@ payload-none d z = simp (eq-eqb _ _ z)
 
 -- bytes d that are all there
 module _ (d : List ℕ) (whole : needed d ≤ length d) where
-  all-there : headerLength (getD d 0 0) + blockSize (getD d 0 0) ≤ length d
+  pub all-there : headerLength (getD d 0 0) + blockSize (getD d 0 0) ≤ length d
   unfolding needed
   all-there =
       by-test (ltb (length d) (headerLength (getD d 0 0)))
@@ -133,6 +133,20 @@ module _ (d : List ℕ) (whole : needed d ≤ length d) where
         plain = record { least = omega (arith, plain-some s, written-from s); most = omega (arith, plain-some s, fits s, tidy-most); covers = omega (arith, plain-some s) };
         tidy = record { least = tidy-least; most = tidy-most; covers = fits s };
       })
+
+-- a block that is read breaks no limit
+block-valid : (d : List ℕ) → needed d ≤ length d → validBlock (blockIn d) ≡ true
+unfolding validBlock blockIn
+block-valid d whole =
+    by-test (eqb (numberIn d) 0)
+    (λ e. simp (le-leb _ _ (number-known d), e))
+    (λ e. let n : (numberIn d ≡ 0 → ⊥) = eqb-false _ _ e in
+    let small : length (take (blockSize (getD d 0 0)) (drop (headerLength (getD d 0 0)) d)) ≤ 31 = omega (arith, length-take (blockSize (getD d 0 0)) (drop (headerLength (getD d 0 0)) d)) in
+    simp (le-leb _ _ (number-known d), e, le-leb _ _ small))
+
+pub read-valid : (d : List ℕ) {b : Block} → readBlock d ≡ gave b → validBlock b ≡ true
+unfolding readBlock isShort
+read-valid d e = gives-at (λ (b : Block). validBlock b ≡ true) _ e (by-cond (Gives (λ (b : Block). validBlock b ≡ true)) (ltb (length d) (needed d)) (λ _. tt) (λ q. block-valid d (ltb-false _ _ q)))
 
 -- a block reader gives blocks of that kind
 read-gives : (d : List ℕ) → Gives (ReadFrom d) (readBlock d)

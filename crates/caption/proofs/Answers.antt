@@ -1,0 +1,103 @@
+-- What an answer says tells which answer it is: each map into `Said` has a left inverse, so no two answers say the same.
+-- Assumes nothing.
+use mathlib.Core.Path.{_≡_, refl}
+use mathlib.Core.Bool.{true, false, cond}
+use mathlib.Core.List.{List, [], _∷_}
+use mathlib.Mathlib.Logic.Function.Defs.{id, Injective, LeftInverse, LeftInverse·injective}
+use Prim.Native.Nat.{ℕ, _-_}
+use lib.Dec.{eqb}
+use lib.ListN.{getD}
+use Rattle.model.specs.Said.{Said}
+use Rattle.caption.specs.Answers.{saidRefusal, saidAnswer, saidCounted, saidTruth}
+use Rattle.caption.specs.declared.Refusal.{Refusal}
+use Rattle.caption.specs.declared.Refusal.the-variants.{LengthMismatch, Cea608AfterCea708, WouldOverflow, ReadOnly, EmptyService, BadNumber, BadRun, BadRate, OutShort, Full, BadValue}
+use Rattle.caption.specs.declared.Answer.{Answer}
+use Rattle.caption.specs.declared.Answer.the-variants as answer
+use Rattle.caption.specs.declared.Counted.{Counted}
+use Rattle.caption.specs.declared.Counted.the-variants as counted
+use Rattle.caption.specs.declared.Truth.{Truth}
+use Rattle.caption.specs.declared.Truth.the-variants as truth
+
+-- the table's rows, with the values that they carry
+abbrev refusals : List ℕ → List Refusal
+refusals v =
+    LengthMismatch (getD v 0 0) (getD v 1 0)
+    ∷ Cea608AfterCea708 (getD v 0 0)
+    ∷ WouldOverflow (getD v 0 0)
+    ∷ ReadOnly
+    ∷ EmptyService
+    ∷ BadNumber
+    ∷ BadRun
+    ∷ BadRate
+    ∷ OutShort (getD v 0 0)
+    ∷ Full
+    ∷ BadValue
+    ∷ []
+
+-- Every answer that gives values or refuses is taken back from what it says in the same way.
+module _ {A : Type 0} (given : List ℕ → A) (refused : Refusal → A) where
+  -- 0 gives the values, any other number the table's row
+  abbrev pub answerOf : Said → A
+  answerOf s = cond (eqb (s .number) 0) (given (s .values)) (refused (getD (refusals (s .values)) (s .number - 1) BadValue))
+
+  -- so no refusal says what another says, and none says accepted
+  pub refused-again : (why : Refusal) → answerOf (saidRefusal why) ≡ refused why
+  refused-again (LengthMismatch expected actual) = refl
+  refused-again (Cea608AfterCea708 bytePos) = refl
+  refused-again (WouldOverflow bytesOver) = refl
+  refused-again ReadOnly = refl
+  refused-again EmptyService = refl
+  refused-again BadNumber = refl
+  refused-again BadRun = refl
+  refused-again BadRate = refl
+  refused-again (OutShort needed) = refl
+  refused-again Full = refl
+  refused-again BadValue = refl
+
+-- no two refusals say the same
+pub saidRefusal-injective : Injective saidRefusal
+saidRefusal-injective = LeftInverse·injective (answerOf none id) saidRefusal (refused-again none id)
+  where
+    -- what 0 would give: no refusal says it
+    none : List ℕ → Refusal
+    none v = BadValue
+
+-- what an accepted call's values tell: nothing more
+abbrev accept : List ℕ → Answer
+accept v = answer.Accepted
+
+-- the answer is taken back from what it says
+answer-again : LeftInverse (answerOf accept answer.Refused) saidAnswer
+answer-again answer.Accepted = refl
+answer-again (answer.Refused why) = refused-again accept answer.Refused why
+
+-- no two answers say the same
+pub saidAnswer-injective : Injective saidAnswer
+saidAnswer-injective = LeftInverse·injective (answerOf accept answer.Refused) saidAnswer answer-again
+
+-- the number that was given
+abbrev count : List ℕ → Counted
+count v = counted.Count (getD v 0 0)
+
+-- the answer is taken back from what it says
+counted-again : LeftInverse (answerOf count counted.Refused) saidCounted
+counted-again (counted.Count n) = refl
+counted-again (counted.Refused why) = refused-again count counted.Refused why
+
+-- no two answers say the same
+pub saidCounted-injective : Injective saidCounted
+saidCounted-injective = LeftInverse·injective (answerOf count counted.Refused) saidCounted counted-again
+
+-- 1 told yes
+abbrev is : List ℕ → Truth
+is v = truth.Is (eqb (getD v 0 0) 1)
+
+-- the answer is taken back from what it says
+truth-again : LeftInverse (answerOf is truth.Refused) saidTruth
+truth-again (truth.Is true) = refl
+truth-again (truth.Is false) = refl
+truth-again (truth.Refused why) = refused-again is truth.Refused why
+
+-- no two answers say the same
+pub saidTruth-injective : Injective saidTruth
+saidTruth-injective = LeftInverse·injective (answerOf is truth.Refused) saidTruth truth-again

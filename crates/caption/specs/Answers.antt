@@ -1,0 +1,42 @@
+-- What the shared answers say: the number of document 01's table "What comes back", and the values that it carries. Assumes nothing.
+use mathlib.Core.Bool.{Bool, true, false, cond}
+use mathlib.Core.List.{List, [], _∷_}
+use Prim.Native.Nat.{ℕ}
+use Rattle.model.specs.Said.{Said, accepted, lengthMismatch, cea608AfterCea708, wouldOverflow, readOnly, emptyService, badNumber, badRun, badRate, outShort, full, badValue}
+use Rattle.caption.specs.declared.Refusal.{Refusal}
+use Rattle.caption.specs.declared.Refusal.the-variants.{LengthMismatch, Cea608AfterCea708, WouldOverflow, ReadOnly, EmptyService, BadNumber, BadRun, BadRate, OutShort, Full, BadValue}
+use Rattle.caption.specs.declared.Answer.{Answer}
+use Rattle.caption.specs.declared.Answer.the-variants as answer
+use Rattle.caption.specs.declared.Counted.{Counted}
+use Rattle.caption.specs.declared.Counted.the-variants as counted
+use Rattle.caption.specs.declared.Truth.{Truth}
+use Rattle.caption.specs.declared.Truth.the-variants as truth
+
+-- the table, row by row
+abbrev pub saidRefusal : Refusal → Said
+saidRefusal (LengthMismatch expected actual) = lengthMismatch expected actual
+saidRefusal (Cea608AfterCea708 bytePos) = cea608AfterCea708 bytePos
+saidRefusal (WouldOverflow bytesOver) = wouldOverflow bytesOver
+saidRefusal ReadOnly = readOnly
+saidRefusal EmptyService = emptyService
+saidRefusal BadNumber = badNumber
+saidRefusal BadRun = badRun
+saidRefusal BadRate = badRate
+saidRefusal (OutShort needed) = outShort needed
+saidRefusal Full = full
+saidRefusal BadValue = badValue
+
+-- accepted, with no value
+abbrev pub saidAnswer : Answer → Said
+saidAnswer answer.Accepted = accepted []
+saidAnswer (answer.Refused why) = saidRefusal why
+
+-- accepted, with the number that was asked for
+abbrev pub saidCounted : Counted → Said
+saidCounted (counted.Count n) = accepted (n ∷ [])
+saidCounted (counted.Refused why) = saidRefusal why
+
+-- accepted, with 1 for yes and 0 for no
+abbrev pub saidTruth : Truth → Said
+saidTruth (truth.Is b) = accepted (cond b 1 0 ∷ [])
+saidTruth (truth.Refused why) = saidRefusal why

@@ -1,0 +1,30 @@
+-- Frame rates: those that have names, and what their budgets say. Document 01, "Writing frames". Assumes nothing.
+use mathlib.Core.List.{List, [], _∷_}
+use Prim.Native.Nat.{ℕ}
+use Rattle.model.specs.Said.{Said, Outcome, gave, refused, accepted, badRate}
+use Rattle.model.specs.Rate as model
+use Rattle.caption.specs.declared.Framerate.{Framerate}
+use Rattle.caption.specs.declared.Budgets.{Budgets}
+use Rattle.caption.specs.declared.Budgets.the-variants.{Of, BadRate}
+
+-- numer frames in denom seconds
+abbrev pub rate : ℕ → ℕ → Framerate
+rate numer denom = record { numer = numer; denom = denom }
+
+-- "Five rates have names: 24, 25, 30000/1001, 50, 60000/1001."
+abbrev pub namedRates : List Framerate
+namedRates = rate 24 1 ∷ rate 25 1 ∷ rate 30000 1001 ∷ rate 50 1 ∷ rate 60000 1001 ∷ []
+
+-- accepted, with the pairs and the triples of a frame
+abbrev pub saidBudgets : Budgets → Said
+saidBudgets (Of pairs triples) = accepted (pairs ∷ triples ∷ [])
+saidBudgets BadRate = badRate
+
+-- the values of an accepted rate, in that order
+abbrev pub pairsThenTriples : model.Budgets → List ℕ
+pairsThenTriples b = b .pairs ∷ b .triples ∷ []
+
+-- what the answer is in the model
+abbrev pub budgetsOf : Budgets → Outcome model.Budgets
+budgetsOf (Of pairs triples) = gave (record { pairs = pairs; triples = triples })
+budgetsOf BadRate = refused badRate

@@ -1,0 +1,166 @@
+// What every part of the caption gateway shares: the answers of a call, a CEA-608 byte pair, and a frame rate with its two budgets.
+ghost use mathlib.Core.Path.{_≡_};
+ghost use Prim.Native.Nat.{_<_};
+ghost use Rattle.model.specs.Said.{saysWith};
+ghost use Rattle.model.specs.Rate.{budgets, rounded};
+ghost use Rattle.caption.specs.Rates.{rate, namedRates, saidBudgets, pairsThenTriples};
+
+// The most triples of a frame: its count has five bits.
+const MOST_TRIPLES: usize = 31;
+
+// Why a call was refused.
+pub enum Refusal {
+    // A length rule fails.
+    LengthMismatch { expected: usize, actual: usize },
+    // A valid 608 triple stands after a 708 triple.
+    Cea608AfterCea708 { byte_pos: usize },
+    // A run or a block does not fit, by this many bytes.
+    WouldOverflow(usize),
+    // A run is for service 0.
+    ReadOnly,
+    // A block without payload is pushed.
+    EmptyService,
+    // A sequence number is above 3, or a service number above 63.
+    BadNumber,
+    // A run has no bytes.
+    BadRun,
+    // A frame rate has no budgets.
+    BadRate,
+    // The lent output is shorter than what would be written.
+    OutShort { needed: usize },
+    // No place is left.
+    Full,
+    // A state, packet or block breaks a limit.
+    BadValue,
+}
+
+// The answer of a call that only accepts or refuses.
+pub enum Answer {
+    Accepted,
+    Refused(Refusal),
+}
+
+// The answer of a call that gives a number: a length, a room, a number of bytes written.
+pub enum Counted {
+    Count(usize),
+    Refused(Refusal),
+}
+
+// The answer of a call that says yes or no.
+pub enum Truth {
+    Is(bool),
+    Refused(Refusal),
+}
+
+// A CEA-608 compatibility byte pair.
+pub enum Cea608 {
+    Field1(u8, u8),
+    Field2(u8, u8),
+}
+
+// A frame rate: `numer` frames in `denom` seconds. Rates above 60 are not well supported.
+pub struct Framerate {
+    pub numer: u32,
+    pub denom: u32,
+}
+
+// The most that one frame of a rate carries.
+pub enum Budgets {
+    Of { pairs: usize, triples: usize },
+    BadRate,
+}
+
+impl Framerate {
+    // 24 frames a second, of film.
+    pub const FPS_24: Framerate = Framerate {
+        numer: 24,
+        denom: 1,
+    };
+
+    // 25 frames a second.
+    pub const FPS_25: Framerate = Framerate {
+        numer: 25,
+        denom: 1,
+    };
+
+    // 30000 frames in 1001 seconds, called 29.97.
+    pub const FPS_29_97: Framerate = Framerate {
+        numer: 30000,
+        denom: 1001,
+    };
+
+    // 50 frames a second.
+    pub const FPS_50: Framerate = Framerate {
+        numer: 50,
+        denom: 1,
+    };
+
+    // 60000 frames in 1001 seconds, called 59.94.
+    pub const FPS_59_94: Framerate = Framerate {
+        numer: 60000,
+        denom: 1001,
+    };
+
+    // The rate of `numer` frames in `denom` seconds.
+    pub fn new(numer: u32, denom: u32) -> Self
+        ensures { λ r. ⌜ r ≡ rate numer denom ⌝ }
+    {
+        Self { numer, denom }
+    }
+
+    // The five rates that have names, slowest first.
+    pub fn named() -> [Framerate; 5]
+        ensures { λ r. ⌜ r ≡ namedRates ⌝ }
+    {
+        [
+            Framerate::FPS_24,
+            Framerate::FPS_25,
+            Framerate::FPS_29_97,
+            Framerate::FPS_50,
+            Framerate::FPS_59_94,
+        ]
+    }
+
+    // The numerator of the fraction.
+    pub fn numer(self) -> u32
+        ensures { λ r. ⌜ r ≡ self .numer ⌝ }
+    {
+        self.numer
+    }
+
+    // The denominator of the fraction.
+    pub fn denom(self) -> u32
+        ensures { λ r. ⌜ r ≡ self .denom ⌝ }
+    {
+        self.denom
+    }
+
+    // How many 608 pairs and how many triples one frame carries: 960 bits a second for one field of 608, 9600 for 708.
+    pub fn budgets(self) -> Budgets
+        ensures { λ r. ⌜ saidBudgets r ≡ saysWith pairsThenTriples (budgets (self .numer) (self .denom)) ⌝ }
+    {
+        let numer = self.numer;
+        let denom = self.denom;
+        if numer == 0 {
+            return Budgets::BadRate;
+        }
+        let pairs = mul_div_round(60, denom, numer);
+        if pairs == 0 {
+            return Budgets::BadRate;
+        }
+        let triples = mul_div_round(600, denom, numer);
+        if MOST_TRIPLES < triples {
+            return Budgets::BadRate;
+        }
+        Budgets::Of { pairs, triples }
+    }
+}
+
+// `k` times `denom` over `numer`, rounded: a half goes up.
+fn mul_div_round(k: u16, denom: u32, numer: u32) -> usize
+    requires { ⌜ 0 < numer ⌝ }
+    ensures { λ r. ⌜ r ≡ rounded k numer denom ⌝ }
+{
+    let twice = 2 * (k as usize * denom as usize);
+    (twice + numer as usize) / (2 * numer as usize)
+}

@@ -1,0 +1,16 @@
+use borrow.Author.Tests.{lt-ltb, le-ltb}
+use Rattle.service.proofs.written_header_length.Statement.{statement}
+use Rattle.service.proofs.written_header_length.Tie as tie
+use Rattle.service.proofs.written_header_length.Reads as reads
+use Rattle.service.proofs.written_header_length.Lts as lts
+
+-- src/lib.rt:196:9
+returns : tie.Need-returns
+returns c = simp (lt-ltb _ _ (c .if1 .taken))
+
+-- src/lib.rt:192:1
+returns-2 : tie.Need-returns-2
+returns-2 c = simp (le-ltb _ _ (c .if1 .left))
+
+pub written-header-length-spec : {M : Type 1} → statement M
+written-header-length-spec = tie.close (tie.spec returns returns-2)

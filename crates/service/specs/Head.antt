@@ -1,0 +1,23 @@
+-- What the header of a block says, as an answer of the code. Assumes nothing.
+use mathlib.Core.Bool.{cond}
+use mathlib.Core.List.{List}
+use Prim.Native.Nat.{ℕ, _+_}
+use lib.Dec.{eqb, ltb}
+use lib.ListN.{getD}
+use Rattle.model.specs.Said.{Said, badValue, lengthMismatch}
+use Rattle.model.specs.Block.{headerLength, blockSize, numberIn, needed, isShort}
+use Rattle.service.specs.declared.Head.{Head}
+use Rattle.service.specs.declared.Head.the-variants.{Whole, Short}
+
+-- "On reading, bytes missing give 1 with the count needed"; else the number, where the payload starts and its size
+unfoldable pub headOf : List ℕ → Head
+headOf d = cond (isShort d) (Short (needed d)) (Whole (numberIn d) (headerLength (getD d 0 0)) (blockSize (getD d 0 0)))
+
+-- the length of a block by its number and the size of its payload
+unfoldable pub lengthFor : ℕ → ℕ → ℕ
+lengthFor number size = cond (eqb size 0) 0 (cond (ltb number 7) 1 2 + size)
+
+-- what a header that is short says, `present` bytes being there; one that is whole is none
+abbrev pub saidShort : Head → ℕ → Said
+saidShort (Whole number start size) present = badValue
+saidShort (Short k) present = lengthMismatch k present
