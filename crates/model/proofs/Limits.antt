@@ -118,7 +118,7 @@ module _ (d : List ℕ) (whole : needed d ≤ length d) where
   unfolding plainMove
   plain-some s = simp (ne-eqb (length (blockIn d .payload)) 0 (λ z. omega arith))
 
-  read-from : ReadFrom d (blockIn d)
+  pub read-from : ReadFrom d (blockIn d)
   read-from =
       by-test (eqb (length (blockIn d .payload)) 0)
       (λ e. let z : length (blockIn d .payload) ≡ 0 = eqb-true _ _ e in

@@ -1,0 +1,120 @@
+-- The packet triples of a write, gathered by the reader. Assumes nothing.
+use mathlib.Core.Path.{_≡_, refl, sym, ap, _∙_}
+use mathlib.Core.List.{List, [], _∷_, _++_, append-assoc, append-nil}
+use Prim.Native.Nat.{ℕ, zero, suc, _≤_}
+use native.Mathlib.Omega.{arith}
+use lib.ListN.{length, length-append}
+use lib.Seq.{take-all}
+use borrow.Author.Tests.{ne-eqb}
+use Rattle.model.specs.Packet.{Packet, packetSize, packetHeader, readPacket, readBy}
+use Rattle.model.specs.Frame.{Triple, tri, Seen, seen, seenAll}
+use Rattle.model.specs.Demux.{Gathered, closed, wants, delivered, gather}
+use Rattle.model.specs.Mux.{Sent, behind, send}
+use Rattle.model.proofs.Packets.{shape}
+use Rattle.model.proofs.Sends.{send-none, send-one, send-all}
+use Rattle.journey.proofs.Triples.{Follow, stop, more, opens, bytesOf, Stored, bytes-written, closed-written, send-open}
+
+-- every packet of a queue is one that is stored
+pub data AllStored : List Packet → Type 0 where
+  none : AllStored []
+  also : {p : Packet} {q : List Packet} → Stored p → AllStored q → AllStored (p ∷ q)
+
+-- The triples left of the packet being sent, and the bytes that the reader has gathered of it: none, or some, and then its header gives the
+-- length of those and of what is left.
+pub data Link : List Triple → List ℕ → Type 0 where
+  lost : {ts : List Triple} → Follow ts → Link ts []
+  part : {ts : List Triple} {x : ℕ} {g : List ℕ} → Follow ts → packetSize x ≡ length (x ∷ g ++ bytesOf ts) → Link ts (x ∷ g)
+
+-- the packet that is on its way: that of the bytes gathered and those left
+abbrev pub underway : List ℕ → List Triple → List Packet
+underway [] ts = []
+underway (x ∷ g) ts = closed (x ∷ g ++ bytesOf ts)
+
+-- the reader wants the bytes that are left
+pub wants-part : (ts : List Triple) (x : ℕ) (g : List ℕ) → packetSize x ≡ length (x ∷ g ++ bytesOf ts) → wants (x ∷ g) ≡ length (bytesOf ts)
+unfolding wants
+wants-part ts x g e = rw (ne-eqb (length (x ∷ g)) 0 (λ z. omega arith)) (omega (arith, length-append (x ∷ g) (bytesOf ts)))
+
+-- and none before a start
+pub wants-none : wants [] ≡ 0
+unfolding wants
+wants-none = refl
+
+-- no bytes become no packet
+pub closed-none : closed [] ≡ []
+unfolding closed readPacket readBy
+closed-none = refl
+
+-- one triple gathered: a start
+gather-start : (g : List ℕ) (a b : ℕ) (ts : List Seen) → 2 ≤ packetSize a → gather g (seen (tri 0xFF a b) ∷ ts) ≡ delivered (closed g) (gather (a ∷ b ∷ []) ts)
+unfolding gather seen
+gather-start g a b ts h = rw (take-all (packetSize a) (a ∷ b ∷ []) h)
+
+-- more of a packet
+gather-more : (g : List ℕ) (a b : ℕ) (ts : List Seen) → 2 ≤ wants g → gather g (seen (tri 0xFE a b) ∷ ts) ≡ gather (g ++ (a ∷ b ∷ [])) ts
+unfolding gather seen
+gather-more g a b ts h = rw (take-all (wants g) (a ∷ b ∷ []) h)
+
+-- more of one whose start was not seen
+gather-lost : (a b : ℕ) (ts : List Seen) → gather [] (seen (tri 0xFE a b) ∷ ts) ≡ gather [] ts
+unfolding gather seen
+gather-lost a b ts = rw wants-none
+
+-- What a write sends, and what the reader makes of it: it is linked to what is left as before, and has given the packets in order.
+pub record Passed (ts : List Triple) (g : List ℕ) (q : List Packet) (o : Sent) (r : Gathered) : Type 0 where
+  pub linked : Link (o .sending) (r .bytes)
+  pub same : underway g ts ++ q ≡ r .packets ++ (underway (r .bytes) (o .sending) ++ o .packets)
+  pub stored : AllStored (o .packets)
+
+-- the bytes of a packet's first triple
+abbrev firstOf : Packet → List ℕ
+firstOf p = packetHeader p ∷ opens p .second ∷ []
+
+-- they link the reader to the rest of it
+opened : {p : Packet} → Stored p → Link (opens p .rest) (firstOf p)
+opened {p} k = part (opens p .follow) (shape p (k .valid) (k .some) .header ∙ ap length (sym (bytes-written k)))
+
+-- a start closes what was gathered, and the packet that leaves the queue is on its way
+started : {p : Packet} → Stored p → {g : List ℕ} {q : List Packet} {o : Sent} {r : Gathered} → underway g [] ≡ closed g → Passed (opens p .rest) (firstOf p) q o r
+    → Passed [] g (p ∷ q) (behind (tri 0xFF (packetHeader p) (opens p .second) ∷ []) o) (delivered (closed g) r)
+started {p} k {g} {q} {o} {r} e d =
+    record {
+      linked = d .linked;
+      same = rw (e, append-assoc) (ap (λ (l : List Packet). closed g ++ l) (ap (λ (l : List Packet). l ++ q) (sym (closed-written k)) ∙ d .same));
+      stored = d .stored;
+    }
+
+module _ (tail : List Seen) (inert : (g : List ℕ) → gather g tail ≡ record { packets = []; bytes = g }) where
+  -- what the reader makes of triples sent, with what follows them
+  abbrev pub got : List ℕ → Sent → Gathered
+  got g o = gather g (seenAll (o .out) ++ tail)
+
+  -- nothing is there to send
+  idle : {g : List ℕ} → Link [] g → (m : ℕ) → Passed [] g [] (send m [] []) (got g (send m [] []))
+  unfolding seenAll
+  idle {g} l m = rw (send-all m, inert g) (record { linked = l; same = refl; stored = none })
+
+  -- a packet of the queue is begun
+  begin : (m : ℕ) {p : Packet} → Stored p → {g : List ℕ} {q : List Packet} → underway g [] ≡ closed g → Passed (opens p .rest) (firstOf p) q (send m (opens p .rest) q) (got (firstOf p) (send m (opens p .rest) q))
+      → Passed [] g (p ∷ q) (send (suc m) [] (p ∷ q)) (got g (send (suc m) [] (p ∷ q)))
+  unfolding seenAll
+  begin m {p} k {g} {q} e d =
+      let two : 2 ≤ packetSize (packetHeader p) = omega (arith, shape p (k .valid) (k .some)) in
+      rw (send-open m p q, gather-start g (packetHeader p) (opens p .second) _ two) (started k e d)
+
+  -- m packet triples are sent and gathered
+  pub carry : (m : ℕ) {ts : List Triple} {q : List Packet} {g : List ℕ} → Link ts g → AllStored q → Passed ts g q (send m ts q) (got g (send m ts q))
+  unfolding seenAll
+  carry zero {ts} {q} {g} l h = rw (send-none ts q, inert g) (record { linked = l; same = refl; stored = h })
+  carry (suc m) (lost stop) none = idle (lost stop) (suc m)
+  carry (suc m) (part stop e) none = idle (part stop e) (suc m)
+  carry (suc m) (lost stop) (also k h) = begin m k (sym closed-none) (carry m (opened k) h)
+  carry (suc m) (part {x} {g} stop e) (also k h) = begin m k (ap closed (append-nil (x ∷ g))) (carry m (opened k) h)
+  carry (suc m) {q} (lost (more {a} {b} {ts} f)) h =
+      let c = carry m (lost f) h in
+      rw (send-one m (tri 0xFE a b) ts q, gather-lost a b _) (record { linked = c .linked; same = c .same; stored = c .stored })
+  carry (suc m) {q} (part {x} {g} (more {a} {b} {ts} f) e) h =
+      let shift : (x ∷ g) ++ (a ∷ b ∷ []) ++ bytesOf ts ≡ (x ∷ g) ++ (a ∷ b ∷ bytesOf ts) = append-assoc (x ∷ g) (a ∷ b ∷ []) (bytesOf ts) in
+      let c = carry m (part f (e ∙ ap length (sym shift))) h in
+      let two : 2 ≤ wants (x ∷ g) = omega (arith, wants-part (tri 0xFE a b ∷ ts) x g e) in
+      rw (send-one m (tri 0xFE a b) ts q, gather-more (x ∷ g) a b _ two) (record { linked = c .linked; same = rw shift at (c .same); stored = c .stored })

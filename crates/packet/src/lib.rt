@@ -1,0 +1,275 @@
+// A DTVCC packet: its sequence number and its blocks, how it is read, written and pushed to.
+ghost use mathlib.Core.Path.{_≡_};
+ghost use mathlib.Core.Bool.{cond};
+ghost use Prim.Native.Nat.{ℕ, _+_, _-_, _*_, _%_, _≤_, _<_};
+ghost use lib.ListN.{length, getD, take, drop};
+ghost use lib.Seq.{sets};
+ghost use Rattle.caption.specs.Answers.{saidRefusal, saidAnswer, saidCounted, saidTruth};
+ghost use Rattle.model.specs.Said.{mapped, isGiven};
+ghost use Rattle.model.specs.Packet.{packetSize, plainMove, blocksFrom, readPacket, readTidy};
+ghost use Rattle.model.specs.Packet as model;
+ghost use Rattle.packet.specs.Reading.{headerOf, moveBy, moveFor, wrongLength, readAs, keptFor, behind, Laid, Stored, Room, KeepRoom};
+ghost use Rattle.packet.specs.Packet.{Answers, laid, blank};
+use caption::Answer;
+use caption::Counted;
+use caption::Refusal;
+use service::Head;
+
+// A packet: block i has number `numbers[i]` and the next `sizes[i]` bytes of `payload`.
+pub struct DTVCCPacket {
+    pub seq_no: u8,
+    pub count: usize,
+    pub numbers: [u8; 63],
+    pub sizes: [u8; 63],
+    pub payload: [u8; 127],
+}
+
+// An answer, and the packet beside it.
+pub struct PacketAnswer {
+    pub answer: Answer,
+    pub packet: DTVCCPacket,
+}
+
+// What the first byte of a packet says: its sequence number, and how many bytes it has in all.
+pub struct Header {
+    pub seq_no: u8,
+    pub size: usize,
+}
+
+// How many bytes a packet whose first byte is `h` has in all.
+pub fn packet_size(h: u8) -> usize
+    ensures { λ r. ⌜ r ≡ packetSize h ⌝ }
+{
+    let n = (h % 64) as usize;
+    if n == 0 {
+        return 128;
+    }
+    2 * n
+}
+
+// The header of a packet.
+pub fn parse_hdr_byte(byte: u8) -> Header
+    ensures { λ r. ⌜ r ≡ headerOf byte ⌝ }
+{
+    Header {
+        seq_no: byte / 64 % 4,
+        size: packet_size(byte),
+    }
+}
+
+// How far a reader moves on past a block whose header says this.
+fn moved(tidy: bool, number: u8, start: usize, size: usize) -> usize
+    requires { ⌜ (start ≤ 2) × (size ≤ 31) ⌝ }
+    ensures { λ r. ⌜ r ≡ moveFor tidy number start size ⌝ }
+{
+    if tidy {
+        return start + size;
+    }
+    if number == 0 {
+        return 1;
+    }
+    if size == 0 {
+        return 1;
+    }
+    if number < 7 {
+        return 1 + size;
+    }
+    2 + size
+}
+
+// Whether the blocks from `at` on read: no packet is made of them.
+fn blocks_read(data: &[u8], at: usize) -> bool
+    requires { ⌜ at ≤ length (now «data») ⌝ }
+    ensures { λ r. ⌜ r ≡ isGiven (blocksFrom plainMove 0 (drop at (now («data» .entry)))) ⌝ }
+{
+    if data.len() <= at {
+        return true;
+    }
+    let Head::Whole {
+        number,
+        start,
+        size,
+    } = service::read_head(data, at)
+    else {
+        return false;
+    };
+    blocks_read(data, at + moved(false, number, start, size))
+}
+
+// Whether bytes read as a packet.
+pub fn reads(data: &[u8]) -> bool
+    ensures { λ r. ⌜ r ≡ model.reads (now («data» .entry)) ⌝ }
+{
+    let n = data.len();
+    if n == 0 {
+        return false;
+    }
+    if packet_size(data[0]) < n {
+        return false;
+    }
+    blocks_read(data, 1)
+}
+
+// How many blocks are stored, and how many bytes of payload they have.
+pub struct Kept {
+    pub count: usize,
+    pub used: usize,
+}
+
+// Stores a block that has a payload, as block `count` with its payload from `used` on.
+fn keep_block(
+    data: &[u8],
+    from: usize,
+    number: u8,
+    size: usize,
+    at: Kept,
+    numbers: &mut [u8; 63],
+    sizes: &mut [u8; 63],
+    payload: &mut [u8; 127],
+) -> Kept
+    requires { ⌜ KeepRoom at from size (length (now «data»)) ⌝ }
+    ensures { λ r. ⌜ (r ≡ behind (keptFor number (take size (drop from (now («data» .entry))))) at) × Laid (keptFor number (take size (drop from (now («data» .entry))))) at (now (numbers .entry)) (now (sizes .entry)) (now (payload .entry)) (now (numbers .exit)) (now (sizes .exit)) (now (payload .exit)) ⌝ }
+{
+    let count = at.count;
+    let used = at.used;
+    if number == 0 {
+        return at;
+    }
+    if size == 0 {
+        return at;
+    }
+    let end = from + size;
+    numbers[count] = number;
+    sizes[count] = size as u8;
+    service::put_bytes(payload, used, &data[from..end]);
+    Kept {
+        count: count + 1,
+        used: used + size,
+    }
+}
+
+// Reads the blocks from `at` on into the arrays; answers how many blocks there then are.
+fn read_blocks(
+    data: &[u8],
+    at: usize,
+    tidy: bool,
+    kept: Kept,
+    numbers: &mut [u8; 63],
+    sizes: &mut [u8; 63],
+    payload: &mut [u8; 127],
+) -> Counted
+    requires { ⌜ Room kept at (length (now «data»)) ⌝ }
+    ensures { λ r. ⌜ Stored (blocksFrom (moveBy tidy) 0 (drop at (now («data» .entry)))) kept r (now (numbers .entry)) (now (sizes .entry)) (now (payload .entry)) (now (numbers .exit)) (now (sizes .exit)) (now (payload .exit)) ⌝ }
+{
+    if data.len() <= at {
+        return Counted::Count(kept.count);
+    }
+    let head = service::read_head(data, at);
+    let Head::Whole {
+        number,
+        start,
+        size,
+    } = head
+    else {
+        return Counted::Refused(service::short_of(head, data.len() - at));
+    };
+    let next = keep_block(
+        data,
+        at + start,
+        number,
+        size,
+        kept,
+        numbers,
+        sizes,
+        payload,
+    );
+    read_blocks(
+        data,
+        at + moved(tidy, number, start, size),
+        tidy,
+        next,
+        numbers,
+        sizes,
+        payload,
+    )
+}
+
+// A refusal of reading, beside an empty packet.
+fn unread(why: Refusal) -> PacketAnswer
+    ensures { λ r. ⌜ (saidAnswer (r .answer) ≡ saidRefusal why) × (r .packet ≡ blank) ⌝ }
+{
+    PacketAnswer {
+        answer: Answer::Refused(why),
+        packet: DTVCCPacket {
+            seq_no: 0,
+            count: 0,
+            numbers: [0u8; 63],
+            sizes: [0u8; 63],
+            payload: [0u8; 127],
+        },
+    }
+}
+
+// Whether a reader refuses `actual` bytes where the header says `size`.
+fn wrong_length(tidy: bool, size: usize, actual: usize) -> bool
+    ensures { λ r. ⌜ r ≡ wrongLength tidy size actual ⌝ }
+{
+    if tidy {
+        return size != actual;
+    }
+    size < actual
+}
+
+// Reads a packet, plainly or tidily.
+fn read_packet(data: &[u8], tidy: bool) -> PacketAnswer
+    ensures { λ r. ⌜ Answers (mapped laid (readAs tidy (now («data» .entry)))) blank r ⌝ }
+{
+    let mut numbers = [0u8; 63];
+    let mut sizes = [0u8; 63];
+    let mut payload = [0u8; 127];
+    let n = data.len();
+    if n == 0 {
+        return unread(Refusal::LengthMismatch {
+            expected: 1,
+            actual: 0,
+        });
+    }
+    let header = parse_hdr_byte(data[0]);
+    if wrong_length(tidy, header.size, n) {
+        return unread(Refusal::LengthMismatch {
+            expected: header.size,
+            actual: n,
+        });
+    }
+    let start = Kept { count: 0, used: 0 };
+    let r = read_blocks(data, 1, tidy, start, &mut numbers, &mut sizes, &mut payload);
+    match r {
+        Counted::Refused(why) => unread(why),
+        Counted::Count(count) => PacketAnswer {
+            answer: Answer::Accepted,
+            packet: DTVCCPacket {
+                seq_no: header.seq_no,
+                count,
+                numbers,
+                sizes,
+                payload,
+            },
+        },
+    }
+}
+
+impl DTVCCPacket {
+    // Reads a packet as the crate does: data may be shorter than its header says.
+    pub fn parse(data: &[u8]) -> PacketAnswer
+        ensures { λ r. ⌜ Answers (mapped laid (readPacket (now («data» .entry)))) blank r ⌝ }
+    {
+        read_packet(data, false)
+    }
+
+    // Reads a packet whose length is what its header says, and passes each block whole.
+    pub fn parse_tidy(data: &[u8]) -> PacketAnswer
+        ensures { λ r. ⌜ Answers (mapped laid (readTidy (now («data» .entry)))) blank r ⌝ }
+    {
+        read_packet(data, true)
+    }
+}
