@@ -1,2 +1,7 @@
+pub mod Entries
+pub mod Holds
+pub mod Walks
 pub mod Reading
 pub mod Packets
+pub mod Measures
+pub mod Pushed

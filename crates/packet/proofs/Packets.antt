@@ -21,7 +21,7 @@ use Rattle.model.proofs.Limits.{size-most}
 use Rattle.packet.specs.declared.DTVCCPacket.{DTVCCPacket}
 use Rattle.packet.specs.declared.PacketAnswer.{PacketAnswer}
 use Rattle.packet.specs.declared.Header.{Header}
-use Rattle.packet.specs.Packet.{Answers, laid, blank, numbersOf, sizesOf, payloadsOf}
+use Rattle.packet.specs.Packet.{Answers, over, laid, blank, numbersOf, sizesOf, payloadsOf}
 use Rattle.packet.specs.Reading.{headerOf, moveBy, wrongLength, readAs, Stored, Room}
 use Rattle.packet.proofs.Reading.{given-mapped}
 
@@ -88,7 +88,7 @@ module _ (tidy : Bool) (d : List ℕ) where
       -- all blocks are read
       given-of : (q : ℕ) (o : Outcome (List Block)) (k : ℕ) → Filled o → r ≡ Count k
           → mapped (λ bs. laid (record { sequence = q; blocks = bs })) o ≡ gave (record { «seq_no» = q; count = k; numbers = n; sizes = s; payload = p })
-      unfolding laid Stored
+      unfolding over Stored
       given-of q (gave bs) k (x, l) z = let c : k ≡ length bs = (let y : k ≡ 0 + length bs = cc in y ∙ zero-add (length bs)) in rw (c, l .numbers, l .sizes, l .payload)
       given-of q (refused why) k (y, x, l) z = let z : _≡_ {A = ℕ} 0 1 = cc in absurd (omega arith)
 

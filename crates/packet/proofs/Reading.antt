@@ -30,11 +30,11 @@ use Rattle.packet.specs.Packet.{numbersOf, sizesOf, payloadsOf}
 use Rattle.packet.specs.Reading.{moveBy, moveFor, keptFor, Laid, behind, Stored, Room, KeepRoom}
 
 -- what is laid behind other blocks
-payloads-append : (bs cs : List Block) → payloadsOf (bs ++ cs) ≡ payloadsOf bs ++ payloadsOf cs
+pub payloads-append : (bs cs : List Block) → payloadsOf (bs ++ cs) ≡ payloadsOf bs ++ payloadsOf cs
 payloads-append [] cs = refl
 payloads-append (b ∷ bs) cs = ap (λ (l : List ℕ). b .payload ++ l) (payloads-append bs cs) ∙ sym (append-assoc (b .payload) (payloadsOf bs) (payloadsOf cs))
 
-map-append : {A : Type 0} (f : A → ℕ) (xs ys : List A) → map f (xs ++ ys) ≡ map f xs ++ map f ys
+pub map-append : {A : Type 0} (f : A → ℕ) (xs ys : List A) → map f (xs ++ ys) ≡ map f xs ++ map f ys
 map-append f [] ys = refl
 map-append f (x ∷ xs) ys = ap (λ (l : List ℕ). f x ∷ l) (map-append f xs ys)
 

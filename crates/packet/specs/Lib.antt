@@ -1,2 +1,3 @@
 pub mod Packet
+pub mod Extent
 pub mod Reading

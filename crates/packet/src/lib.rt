@@ -4,16 +4,22 @@ ghost use mathlib.Core.Bool.{cond};
 ghost use Prim.Native.Nat.{ℕ, _+_, _-_, _*_, _%_, _≤_, _<_};
 ghost use lib.ListN.{length, getD, take, drop};
 ghost use lib.Seq.{sets};
+ghost use lib.Dec.{eqb};
 ghost use Rattle.caption.specs.Answers.{saidRefusal, saidAnswer, saidCounted, saidTruth};
-ghost use Rattle.model.specs.Said.{mapped, isGiven};
-ghost use Rattle.model.specs.Packet.{packetSize, plainMove, blocksFrom, readPacket, readTidy};
+ghost use Rattle.model.specs.Said.{mapped, isGiven, measured};
+ghost use Rattle.model.specs.Packet.{packetSize, plainMove, blocksFrom, readPacket, readTidy, newPacket, packetLength, packetRoom};
 ghost use Rattle.model.specs.Packet as model;
 ghost use Rattle.packet.specs.Reading.{headerOf, moveBy, moveFor, wrongLength, readAs, keptFor, behind, Laid, Stored, Room, KeepRoom};
-ghost use Rattle.packet.specs.Packet.{Answers, laid, blank};
+ghost use Rattle.packet.specs.Packet.{Answers, Sized, entries, entriesOf, cut, goodEntry, packetOf, over, laid, blank, validDTVCC};
+ghost use Rattle.packet.specs.Extent.{walked, extentOf, latestIn, sumOf};
 use caption::Answer;
 use caption::Counted;
 use caption::Refusal;
+use caption::Truth;
 use service::Head;
+
+// The most bytes of a packet.
+const MOST_PACKET: usize = 128;
 
 // A packet: block i has number `numbers[i]` and the next `sizes[i]` bytes of `payload`.
 pub struct DTVCCPacket {
@@ -258,7 +264,209 @@ fn read_packet(data: &[u8], tidy: bool) -> PacketAnswer
     }
 }
 
+// How long the blocks of a packet are and how many bytes of payload they have; or that a limit is broken.
+pub enum Extent {
+    Of { lengths: usize, used: usize },
+    Bad,
+}
+
+// A byte as a count.
+fn wide(b: u8) -> usize
+    ensures { λ r. ⌜ (r ≡ b) × (r ≤ 255) ⌝ }
+{
+    b as usize
+}
+
+// Whether a block of this number and size may stand in a packet.
+fn good_entry(number: u8, size: u8) -> bool
+    ensures { λ r. ⌜ r ≡ goodEntry number size ⌝ }
+{
+    if number < 1 {
+        return false;
+    }
+    if 63 < number {
+        return false;
+    }
+    if size < 1 {
+        return false;
+    }
+    if 31 < size {
+        return false;
+    }
+    true
+}
+
+// Goes over the first `count` blocks.
+fn walk(numbers: &[u8; 63], sizes: &[u8; 63], count: usize) -> Extent
+    requires { ⌜ count ≤ 63 ⌝ }
+    ensures { λ r. ⌜ r ≡ walked (entries count (now (numbers .entry)) (now (sizes .entry))) ⌝ }
+{
+    let mut lengths: usize = 0;
+    let mut used: usize = 0;
+    let mut i = 0;
+    while i < count {
+        let number = numbers[i];
+        let size = sizes[i];
+        if !good_entry(number, size) {
+            return Extent::Bad;
+        }
+        lengths += service::block_length(number, size);
+        used += wide(size);
+        i += 1;
+    }
+    Extent::Of { lengths, used }
+}
+
+// The sum of the first `count` sizes.
+fn sum_of(sizes: &[u8; 63], count: usize) -> usize
+    requires { ⌜ count ≤ 63 ⌝ }
+    ensures { λ r. ⌜ r ≡ sumOf (take count (now (sizes .entry))) ⌝ }
+{
+    let mut sum: usize = 0;
+    let mut i = 0;
+    while i < count {
+        sum += wide(sizes[i]);
+        i += 1;
+    }
+    sum
+}
+
+// A place among the blocks.
+pub enum Found {
+    At(usize),
+    Nothing,
+}
+
+// The place of the latest of the first `count` blocks that has this number.
+fn latest(numbers: &[u8; 63], count: usize, number: u8) -> Found
+    requires { ⌜ count ≤ 63 ⌝ }
+    ensures { λ r. ⌜ r ≡ latestIn count (now (numbers .entry)) number ⌝ }
+{
+    let mut i = count;
+    while 0 < i {
+        if numbers[i - 1] == number {
+            return Found::At(i - 1);
+        }
+        i -= 1;
+    }
+    Found::Nothing
+}
+
+// The length of a packet of `count` blocks whose lengths sum up to `lengths`.
+fn length_of(count: usize, lengths: usize) -> usize
+    requires { ⌜ lengths ≤ 127 ⌝ }
+    ensures { λ r. ⌜ r ≡ cond (eqb count 0) 0 (1 + lengths) ⌝ }
+{
+    if count == 0 {
+        return 0;
+    }
+    1 + lengths
+}
+
 impl DTVCCPacket {
+    // The extent of a packet that breaks no limit.
+    fn extent(self) -> Extent
+        ensures { λ r. ⌜ r ≡ extentOf self ⌝ }
+    {
+        let count = self.count;
+        let numbers = self.numbers;
+        let sizes = self.sizes;
+        if 3 < self.seq_no {
+            return Extent::Bad;
+        }
+        if 63 < count {
+            return Extent::Bad;
+        }
+        let walk = walk(&numbers, &sizes, count);
+        let Extent::Of { lengths, used } = walk else {
+            return Extent::Bad;
+        };
+        if 127 < lengths {
+            return Extent::Bad;
+        }
+        Extent::Of { lengths, used }
+    }
+
+    // A packet without blocks.
+    pub fn new(seq_no: u8) -> PacketAnswer
+        ensures { λ r. ⌜ Answers (mapped laid (newPacket «seq_no»)) blank r ⌝ }
+    {
+        if 3 < seq_no {
+            return unread(Refusal::BadNumber);
+        }
+        PacketAnswer {
+            answer: Answer::Accepted,
+            packet: DTVCCPacket {
+                seq_no,
+                count: 0,
+                numbers: [0u8; 63],
+                sizes: [0u8; 63],
+                payload: [0u8; 127],
+            },
+        }
+    }
+
+    // The sequence number of the packet.
+    pub fn sequence_no(self) -> Counted
+        ensures { λ r. ⌜ saidCounted r ≡ measured (validDTVCC self) (self .«seq_no») ⌝ }
+    {
+        match self.extent() {
+            Extent::Of {
+                lengths: _,
+                used: _,
+            } => Counted::Count(wide(self.seq_no)),
+            Extent::Bad => Counted::Refused(Refusal::BadValue),
+        }
+    }
+
+    // How many bytes more the packet has room for.
+    pub fn free_space(self) -> Counted
+        ensures { λ r. ⌜ saidCounted r ≡ measured (validDTVCC self) (packetRoom (packetOf self)) ⌝ }
+    {
+        match self.extent() {
+            Extent::Of { lengths, used: _ } => {
+                Counted::Count(MOST_PACKET - length_of(self.count, lengths))
+            }
+            Extent::Bad => Counted::Refused(Refusal::BadValue),
+        }
+    }
+
+    // The length of the packet; 0 without blocks.
+    pub fn len(self) -> Counted
+        ensures { λ r. ⌜ saidCounted r ≡ measured (validDTVCC self) (packetLength (packetOf self)) ⌝ }
+    {
+        match self.extent() {
+            Extent::Of { lengths, used: _ } => Counted::Count(length_of(self.count, lengths)),
+            Extent::Bad => Counted::Refused(Refusal::BadValue),
+        }
+    }
+
+    // Whether the packet has no blocks.
+    pub fn is_empty(self) -> Truth
+        ensures { λ r. ⌜ saidTruth r ≡ measured (validDTVCC self) (cond (eqb (length (packetOf self .blocks)) 0) 1 0) ⌝ }
+    {
+        match self.extent() {
+            Extent::Of {
+                lengths: _,
+                used: _,
+            } => Truth::Is(self.count == 0),
+            Extent::Bad => Truth::Refused(Refusal::BadValue),
+        }
+    }
+
+    // How many blocks the packet has.
+    pub fn service_count(self) -> Counted
+        ensures { λ r. ⌜ saidCounted r ≡ measured (validDTVCC self) (length (packetOf self .blocks)) ⌝ }
+    {
+        match self.extent() {
+            Extent::Of {
+                lengths: _,
+                used: _,
+            } => Counted::Count(self.count),
+            Extent::Bad => Counted::Refused(Refusal::BadValue),
+        }
+    }
+
     // Reads a packet as the crate does: data may be shorter than its header says.
     pub fn parse(data: &[u8]) -> PacketAnswer
         ensures { λ r. ⌜ Answers (mapped laid (readPacket (now («data» .entry)))) blank r ⌝ }

@@ -1,5 +1,4 @@
 use mathlib.Core.Path.{refl}
-use Rattle.packet.specs.Packet.{blank, laid}
 use Rattle.packet.proofs.unread.Statement.{statement}
 use Rattle.packet.proofs.unread.Tie as tie
 use Rattle.packet.proofs.unread.Reads as reads
@@ -7,7 +6,6 @@ use Rattle.packet.proofs.unread.Lts as lts
 
 -- src/lib.rt:162:1
 returns : tie.Need-returns
-unfolding blank laid
 returns c = (refl, refl)
 
 pub unread-spec : {M : Type 1} → statement M
