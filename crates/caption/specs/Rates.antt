@@ -1,5 +1,5 @@
 -- Frame rates: those that have names, and what their budgets say. Document 01, "Writing frames". Assumes nothing.
-use mathlib.Core.List.{List, [], _∷_}
+use mathlib.Core.List.{List, [], _∷_, map}
 use Prim.Native.Nat.{ℕ}
 use Rattle.model.specs.Said.{Said, Outcome, gave, refused, accepted, badRate}
 use Rattle.model.specs.Rate as model
@@ -11,9 +11,9 @@ use Rattle.caption.specs.declared.Budgets.the-variants.{Of, BadRate}
 abbrev pub rate : ℕ → ℕ → Framerate
 rate numer denom = record { numer = numer; denom = denom }
 
--- "Five rates have names: 24, 25, 30000/1001, 50, 60000/1001."
+-- "Five rates have names": those of the model
 abbrev pub namedRates : List Framerate
-namedRates = rate 24 1 ∷ rate 25 1 ∷ rate 30000 1001 ∷ rate 50 1 ∷ rate 60000 1001 ∷ []
+namedRates = map (λ (r : model.Rate). rate (r .numer) (r .denom)) model.namedRates
 
 -- accepted, with the pairs and the triples of a frame
 abbrev pub saidBudgets : Budgets → Said

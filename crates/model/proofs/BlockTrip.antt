@@ -1,14 +1,13 @@
 -- A block that is written is read back, whatever follows it, and both readers move on past it. Assumes nothing.
-use mathlib.Core.Path.{_≡_, refl, sym, ap, _∙_}
-use mathlib.Core.Bool.{true, false, cond}
+use mathlib.Core.Path.{_≡_, refl}
 use mathlib.Core.List.{List, [], _∷_, _++_}
-use Prim.Native.Nat.{ℕ, suc, _+_, _*_, _/_, _%_, _≤_, _<_}
+use Prim.Native.Nat.{ℕ, suc, _+_, _*_, _%_, _≤_, _<_}
 use native.Mathlib.Omega.{arith}
-use lib.Dec.{eqb, ltb}
-use lib.ListN.{length, getD, drop, length-append}
+use lib.Dec.{ltb}
+use lib.ListN.{length, getD, length-append}
 use borrow.Author.Tests.{ne-eqb, le-ltb, ltb-true, ltb-false}
 use Rattle.model.specs.Said.{gave}
-use Rattle.model.specs.Block.{Block, topNumber, blockSize, headerLength, numberIn, needed, blockIn, readBlock, writtenBlock, blockLength}
+use Rattle.model.specs.Block.{Block, topNumber, blockSize, headerLength, numberIn, needed, blockIn, readBlock, writtenBlock}
 use Rattle.model.specs.Packet.{plainMove, tidyMove}
 use Rattle.model.proofs.Cases.{by-test}
 use Rattle.model.proofs.Blocks.{Carriable, header-one, header-two, written-short, written-long, block-length, block-at, read-at, read-whole}
@@ -20,6 +19,7 @@ pub record Begins (b : Block) (d : List ℕ) : Type 0 where
   pub tidy : headerLength (getD d 0 0) + blockSize (getD d 0 0) ≡ length (writtenBlock b)
 
 module _ (b : Block) (rest : List ℕ) (f : Carriable b) where
+  -- one of number 1 to 6, behind a header of one byte
   begins-short : b .number < 7 → Begins b (writtenBlock b ++ rest)
   unfolding numberIn
   begins-short small =
@@ -37,6 +37,7 @@ module _ (b : Block) (rest : List ℕ) (f : Carriable b) where
         tidy = rw (one, size, written-short b small) (omega arith);
       })
 
+  -- one of number 7 to 63, behind a header of two
   begins-long : 7 ≤ b .number → Begins b (writtenBlock b ++ rest)
   unfolding numberIn
   begins-long large =
@@ -55,21 +56,25 @@ module _ (b : Block) (rest : List ℕ) (f : Carriable b) where
         tidy = rw (two, size, written-long b large) (omega arith);
       })
 
+  -- any block that may stand in a packet
   begins : Begins b (writtenBlock b ++ rest)
   begins = by-test (ltb (b .number) 7) (λ e. begins-short (ltb-true _ _ e)) (λ e. begins-long (ltb-false _ _ e))
 
-  -- "block .. written then read"
+  -- a block that is written is read back
   pub read-written : readBlock (writtenBlock b ++ rest) ≡ gave b
   read-written = begins .read
 
+  -- the plain reader moves on past it
   pub plain-passes : plainMove (writtenBlock b ++ rest) ≡ length (writtenBlock b)
   unfolding plainMove
   plain-passes = rw (begins .block) (simp (ne-eqb (length (b .payload)) 0 (λ e. omega (arith, f .filled))) (block-length b (f .filled)))
 
+  -- and so does the tidy one
   pub tidy-passes : tidyMove (writtenBlock b ++ rest) ≡ length (writtenBlock b)
   unfolding tidyMove
   tidy-passes = begins .tidy
 
+  -- it takes at least a header byte and one of payload
   pub written-some : 2 ≤ length (writtenBlock b)
   written-some = by-test (ltb (b .number) 7) (λ e. rw (written-short b (ltb-true _ _ e)) (omega (arith, f .filled))) (λ e. rw (written-long b (ltb-false _ _ e)) (omega arith))
 
@@ -78,10 +83,12 @@ pub fill-read : (rest : List ℕ) → readBlock (0x00 ∷ rest) ≡ gave (record
 unfolding blockIn numberIn headerLength needed
 fill-read rest = rw (read-whole (0x00 ∷ rest) (simp (le-ltb (suc (length rest)) 1 (omega arith)) (omega arith)))
 
+-- the plain reader passes it
 pub plain-fill : (rest : List ℕ) → plainMove (0x00 ∷ rest) ≡ 1
 unfolding plainMove blockIn numberIn headerLength
 plain-fill rest = refl
 
+-- and so does the tidy one
 pub tidy-fill : (rest : List ℕ) → tidyMove (0x00 ∷ rest) ≡ 1
 unfolding tidyMove headerLength
 tidy-fill rest = refl

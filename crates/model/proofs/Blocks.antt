@@ -1,17 +1,17 @@
 -- What follows of the definitions of a block: how a header reads, how long a block is, and that a block written is read back. Assumes nothing.
-use mathlib.Core.Path.{_≡_, refl, sym, ap, _∙_}
-use mathlib.Core.Bool.{Bool, true, false, cond, not, _&&_, _||_}
-use mathlib.Core.List.{List, [], _∷_, _++_, append-assoc}
-use Prim.Native.Nat.{ℕ, suc, _+_, _-_, _*_, _/_, _%_, _≤_, _<_}
+use mathlib.Core.Path.{_≡_, refl, ap, _∙_}
+use mathlib.Core.Bool.{true, false, cond, _&&_}
+use mathlib.Core.List.{List, _∷_, _++_}
+use Prim.Native.Nat.{ℕ, _+_, _*_, _≤_, _<_}
 use native.Mathlib.Omega.{arith}
 use lib.Dec.{eqb, leb, ltb}
-use lib.ListN.{length, getD, take, drop, length-append, length-take, length-drop}
-use lib.Seq.{take-at, length-take-le}
-use borrow.Author.Tests.{eq-eqb, ne-eqb, le-leb, lt-ltb, le-ltb, eqb-true, eqb-false, leb-true, ltb-true, ltb-false, not-true}
-use Rattle.model.specs.Said.{Said, Outcome, gave, refused, lengthMismatch}
-use Rattle.model.specs.Block.{Block, validBlock, topNumber, blockSize, headerLength, numberIn, needed, isShort, blockIn, readBlock, partIn, writtenHeader, writtenBlock, blockLength}
+use lib.ListN.{length, getD, drop, length-append}
+use lib.Seq.{take-at}
+use borrow.Author.Tests.{eq-eqb, ne-eqb, le-leb, lt-ltb, le-ltb, leb-true}
+use Rattle.model.specs.Said.{gave, refused, lengthMismatch}
+use Rattle.model.specs.Block.{Block, validBlock, topNumber, blockSize, headerLength, numberIn, needed, isShort, blockIn, readBlock, writtenHeader, writtenBlock, blockLength}
 use Rattle.model.specs.Packet.{carriable}
-use Rattle.model.proofs.Cases.{by-test, both, and-both, not-intro}
+use Rattle.model.proofs.Cases.{by-test, both}
 
 -- what a block has to be to stand in a packet, as facts on numbers
 pub record Carriable (b : Block) : Type 0 where
@@ -20,6 +20,7 @@ pub record Carriable (b : Block) : Type 0 where
   pub filled : 1 ≤ length (b .payload)
   pub small : length (b .payload) ≤ 31
 
+-- what passes the test is so,
 pub carriable-facts : (b : Block) → carriable b ≡ true → Carriable b
 unfolding carriable
 carriable-facts b e =
@@ -30,6 +31,7 @@ carriable-facts b e =
     let x = both (leb 1 k) (leb k 31) (v .1) in
     record { named = leb-true 1 n (w .0); known = leb-true n 63 (w .1); filled = leb-true 1 k (x .0); small = leb-true k 31 (x .1) }
 
+-- and what is so passes the test
 pub facts-carriable : (b : Block) → Carriable b → carriable b ≡ true
 unfolding carriable
 facts-carriable b f = simp (le-leb _ _ (f .named), le-leb _ _ (f .known), le-leb _ _ (f .filled), le-leb _ _ (f .small))
@@ -46,10 +48,12 @@ pub header-two : (h : ℕ) → topNumber h ≡ 7 → (blockSize h ≡ 0 → ⊥)
 unfolding headerLength
 header-two h t s = simp (eq-eqb _ _ t, ne-eqb _ _ s)
 
+-- one byte where the number is not 7
 pub header-one : (h : ℕ) → (topNumber h ≡ 7 → ⊥) → headerLength h ≡ 1
 unfolding headerLength
 header-one h t = simp (ne-eqb _ _ t)
 
+-- one byte where the size is 0
 pub header-bare : (h : ℕ) → blockSize h ≡ 0 → headerLength h ≡ 1
 unfolding headerLength
 header-bare h s = by-test (eqb (topNumber h) 7) (λ e. simp (e, eq-eqb _ _ s)) (λ e. simp e)
@@ -59,6 +63,7 @@ pub read-short : (d : List ℕ) → length d < needed d → readBlock d ≡ refu
 unfolding readBlock isShort
 read-short d h = simp (lt-ltb _ _ h)
 
+-- none missing
 pub read-whole : (d : List ℕ) → needed d ≤ length d → readBlock d ≡ gave (blockIn d)
 unfolding readBlock isShort
 read-whole d h = simp (le-ltb _ _ h)
@@ -68,41 +73,54 @@ pub written-short : (b : Block) → b .number < 7 → writtenBlock b ≡ (b .num
 unfolding writtenBlock writtenHeader
 written-short b h = simp (lt-ltb _ _ h)
 
+-- numbers 7 to 63
 pub written-long : (b : Block) → 7 ≤ b .number → writtenBlock b ≡ (0xE0 + length (b .payload)) ∷ b .number ∷ b .payload
 unfolding writtenBlock writtenHeader
 written-long b h = simp (le-ltb _ _ h)
 
+-- how long the header is written
 pub header-written : (number size : ℕ) → length (writtenHeader number size) ≡ cond (ltb number 7) 1 2
 unfolding writtenHeader
 header-written number size = by-test (ltb number 7) (λ e. rw e) (λ e. rw e)
 
+-- and how long the block
 pub written-length : (b : Block) → length (writtenBlock b) ≡ cond (ltb (b .number) 7) 1 2 + length (b .payload)
 unfolding writtenBlock
-written-length b = length-append (writtenHeader (b .number) (length (b .payload))) (b .payload) ∙ ap (λ n. n + length (b .payload)) (header-written (b .number) (length (b .payload)))
+written-length b =
+    length-append (writtenHeader (b .number) (length (b .payload))) (b .payload)
+    ∙ ap (λ n. n + length (b .payload)) (header-written (b .number) (length (b .payload)))
 
+-- with a payload its length is that of what it is written in
 pub block-length : (b : Block) → 1 ≤ length (b .payload) → blockLength b ≡ length (writtenBlock b)
 unfolding blockLength
 block-length b h = simp (ne-eqb (length (b .payload)) 0 (λ e. omega arith))
 
+-- without payload it is 0
 pub block-length-none : (b : Block) → length (b .payload) ≡ 0 → blockLength b ≡ 0
 unfolding blockLength
 block-length-none b h = simp (eq-eqb _ _ h)
 
+-- the length for numbers 0 to 6
 pub length-short : (b : Block) → b .number < 7 → 1 ≤ length (b .payload) → blockLength b ≡ 1 + length (b .payload)
 length-short b n h = block-length b h ∙ rw (written-short b n) (omega arith)
 
+-- the length for numbers 7 to 63
 pub length-long : (b : Block) → 7 ≤ b .number → 1 ≤ length (b .payload) → blockLength b ≡ 2 + length (b .payload)
 length-long b n h = block-length b h ∙ rw (written-long b n) (omega arith)
 
 -- bytes d that begin with a header of k bytes for number n and the payload p
-module _ (d p rest : List ℕ) (n k : ℕ) (head : headerLength (getD d 0 0) ≡ k) (size : blockSize (getD d 0 0) ≡ length p) (number : numberIn d ≡ n) (named : n ≡ 0 → ⊥) (body : drop k d ≡ p ++ rest) (enough : k + length p ≤ length d) where
+module _ (d p rest : List ℕ) (n k : ℕ) (head : headerLength (getD d 0 0) ≡ k) (size : blockSize (getD d 0 0) ≡ length p) (number : numberIn d ≡ n)
+    (named : n ≡ 0 → ⊥) (body : drop k d ≡ p ++ rest) (enough : k + length p ≤ length d) where
+  -- so many bytes are needed
   pub needed-at : needed d ≡ k + length p
   unfolding needed
   needed-at = simp (head, size, le-ltb (length d) k (omega arith))
 
+  -- it is the block of that number and payload
   pub block-at : blockIn d ≡ record { number = n; payload = p }
   unfolding blockIn
   block-at = simp (number, ne-eqb _ _ named, head, size, body, take-at p rest (length p) refl)
 
+  -- and the reader gives it
   pub read-at : readBlock d ≡ gave (record { number = n; payload = p })
   read-at = rw (read-whole d (omega (arith, needed-at)), block-at)

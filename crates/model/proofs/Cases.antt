@@ -1,7 +1,7 @@
 -- Reasoning by cases on a test and on an outcome. Assumes nothing.
 use mathlib.Core.Path.{_≡_, refl, ap, subst}
 use mathlib.Core.Bool.{Bool, true, false, cond, not, _&&_, false≢true}
-use Rattle.model.specs.Said.{Said, Outcome, gave, refused, andThen, mapped}
+use Rattle.model.specs.Said.{Outcome, gave, refused, andThen, mapped}
 
 -- what holds under either outcome of a test holds
 pub by-test : {P : Type 0} (b : Bool) → (b ≡ true → P) → (b ≡ false → P) → P
@@ -18,9 +18,11 @@ pub both : (a b : Bool) → a && b ≡ true → (a ≡ true) × (b ≡ true)
 both true b e = (refl, e)
 both false b e = absurd (false≢true e)
 
+-- a conjunction of both parts
 pub and-both : (a b : Bool) → a ≡ true → b ≡ true → a && b ≡ true
 and-both a b p q = rw (p, q)
 
+-- what is false is not so
 pub not-intro : (b : Bool) → b ≡ false → not b ≡ true
 not-intro b e = rw e
 
@@ -30,10 +32,12 @@ Gives P (gave x) = P x
 Gives P (refused why) = Unit {0}
 
 module _ {A B : Type 0} where
+  -- what the second of two calls gives, by what the first gives
   pub gives-then : (P : B → Type 0) (Q : A → Type 0) (o : Outcome A) (f : A → Outcome B) → Gives Q o → ((x : A) → Q x → Gives P (f x)) → Gives P (andThen o f)
   gives-then P Q (gave x) f q h = h x q
   gives-then P Q (refused why) f q h = tt
 
+  -- what is made of a value that a call gives
   pub gives-mapped : (P : B → Type 0) (Q : A → Type 0) (o : Outcome A) (f : A → B) → Gives Q o → ((x : A) → Q x → P (f x)) → Gives P (mapped f o)
   gives-mapped P Q (gave x) f q h = h x q
   gives-mapped P Q (refused why) f q h = tt
@@ -47,10 +51,12 @@ pub mapped-mapped : {A B C : Type 0} (f : B → C) (g : A → B) (o : Outcome A)
 mapped-mapped f g (gave x) = refl
 mapped-mapped f g (refused why) = refl
 
+-- a map that changes nothing
 pub mapped-same : {A : Type 0} (o : Outcome A) → mapped (λ x. x) o ≡ o
 mapped-same (gave x) = refl
 mapped-same (refused why) = refl
 
+-- two maps that agree
 pub mapped-by : {A B : Type 0} {f g : A → B} → ((x : A) → f x ≡ g x) → (o : Outcome A) → mapped f o ≡ mapped g o
 mapped-by same (gave x) = ap gave (same x)
 mapped-by same (refused why) = refl

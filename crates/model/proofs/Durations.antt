@@ -1,7 +1,7 @@
 -- What the durations are beside the exact times, and what the bytes are that they measure. Assumes nothing.
-use mathlib.Core.Path.{_≡_, refl}
+use mathlib.Core.Path.{_≡_}
 use mathlib.Core.List.{List, [], _∷_, _++_}
-use Prim.Native.Nat.{ℕ, zero, suc, _+_, _-_, _*_, _/_, _^_, _≤_, _<_}
+use Prim.Native.Nat.{ℕ, _+_, _-_, _*_, _/_, _^_, _≤_, _<_}
 use native.Mathlib.Nat.{lt-div-mul-add, div-mul-le-self}
 use native.Mathlib.Omega.{arith}
 use Rattle.model.specs.Packet.{Packet, packetLength}
@@ -12,6 +12,7 @@ pub record Upward (a b m : ℕ) : Type 0 where
   pub enough : a ≤ m * b
   pub least : m * b < a + b
 
+-- "ceil" is that number
 pub ceil-upward : (a b : ℕ) → 0 < b → Upward a b (ceil a b)
 unfolding ceil
 ceil-upward a b h =
@@ -30,6 +31,7 @@ pub record Tight (bytes micros : ℕ) : Type 0 where
   pub enough : bytes * (1001 * 10 ^ 6) ≤ micros * 1200000
   pub close : micros * 1200000 < (bytes + 1) * (1001 * 10 ^ 6) + 1200000
 
+-- the duration of bytes is that close
 pub bytes-time : (bytes : ℕ) → Tight bytes (bytesDuration bytes)
 unfolding bytesDuration
 bytes-time bytes =
@@ -41,6 +43,7 @@ pub lengths-one : (p : Packet) → lengthsOf (p ∷ []) ≡ packetLength p
 unfolding lengthsOf
 lengths-one p = omega arith
 
+-- and the sum is over the packets one by one
 pub lengths-append : (ps qs : List Packet) → lengthsOf (ps ++ qs) ≡ lengthsOf ps + lengthsOf qs
 unfolding lengthsOf
 lengths-append [] qs = omega arith

@@ -1,17 +1,16 @@
 -- The examples that document 01 marks with a star, as one table with one statement: what the definitions compute is what document 01 says.
 -- Assumes nothing.
 use mathlib.Core.Path.{_≡_, refl}
-use mathlib.Core.Bool.{true, false, cond}
 use mathlib.Core.List.{List, [], _∷_, _++_, map}
 use Prim.Native.Nat.{ℕ}
-use Rattle.model.specs.Said.{Said, Outcome, lengthMismatch, cea608AfterCea708, accepted, gave, refused, mapped, saysWith, putInto}
-use Rattle.model.specs.Block.{Block, headerLength, numberIn, needed, isShort, blockIn, readBlock, writtenHeader, writtenBlock, blockLength}
+use Rattle.model.specs.Said.{Said, Outcome, lengthMismatch, cea608AfterCea708, accepted, gave, refused, mapped}
+use Rattle.model.specs.Block.{headerLength, numberIn, needed, isShort, blockIn, readBlock, writtenHeader, writtenBlock, blockLength}
 use Rattle.model.specs.Packet.{Packet, sequenceIn, packetSize, plainMove, tidyMove, blocksFrom, readBy, readPacket, readTidy, blocksLength, packetLength, writtenBlocks, packetHeader, fill, writtenPacket}
-use Rattle.model.specs.Frame.{Frame, Triple, Pair, pair, Cea608, field1, field2, seen, seenAll, flat, triplesIn, flagged, frameBytes}
-use Rattle.model.specs.Demux.{Demux, turn608On, freshDemux, pairsIn, lateAfter, lateFrom, carries708, closed, wants, gather, ended, gathered, takeGathered, takeTriples, unread, takeFrame}
-use Rattle.model.specs.Rate.{Budgets, rounded, budgets}
-use Rattle.model.specs.Mux.{Mux, freshMux, queued, pushPacket, isNull, pushPair, pushCea608, turnsDue, turn1, turn2, turned, continued, started, packetTriples, triplesQueued, countDue, send, padding, framed, writeFrame, writeAt}
-use Rattle.model.specs.Run.{Call, pushes, pushes608, Run, call, run, Read, readFrames}
+use Rattle.model.specs.Frame.{pair, field1, field2, seen, seenAll, flat, triplesIn, flagged, frameBytes}
+use Rattle.model.specs.Demux.{turn608On, freshDemux, pairsIn, lateAfter, lateFrom, carries708, closed, wants, gather, ended, gathered, takeGathered, takeTriples, unread, takeFrame}
+use Rattle.model.specs.Rate.{rounded, budgets}
+use Rattle.model.specs.Mux.{freshMux, queued, pushPacket, isNull, pushPair, pushCea608, turnsDue, turn1, turn2, turned, continued, started, packetTriples, triplesQueued, countDue, send, padding, framed, writeFrame}
+use Rattle.model.specs.Run.{Call, pushes, pushes608, call, run, readFrames}
 
 -- what a row asks
 pub data Input : Type 0 where
@@ -33,6 +32,7 @@ pub data Result : Type 0 where
 abbrev one : ℕ → ℕ → List ℕ → Packet
 one sequence number payload = record { sequence = sequence; blocks = record { number = number; payload = payload } ∷ [] }
 
+-- a refusal is told as such, whatever was asked
 abbrev told : {A : Type 0} → (A → Result) → Outcome A → Result
 told f (gave x) = f x
 told f (refused why) = refusal why
@@ -43,6 +43,7 @@ unpadded numer denom calls =
     let s = run calls freshMux .last in
     mapped (λ b. frameBytes (writeFrame b s .frame)) (budgets numer denom)
 
+-- what the definitions compute
 abbrev answer : Input → Result
 answer (header h) = size (sequenceIn h) (packetSize h)
 answer (written p) = bytes (writtenPacket p)
@@ -51,16 +52,20 @@ answer (tidy d) = told packet (readTidy d)
 answer (frames fs) = let r = readFrames fs (turn608On freshDemux) in packets (r .answers) (r .packets)
 answer (frame numer denom calls) = told bytes (unpadded numer denom calls)
 
+-- an example of document 01
 pub record Row : Type 0 where
   pub input : Input
   pub result : Result
 
+-- an input and its result
 abbrev row : Input → Result → Row
 row i r = record { input = i; result = r }
 
+-- "field 1 94 2C twice"
 abbrev twice942C : List Call
 twice942C = pushes608 (field1 (pair 0x94 0x2C)) ∷ pushes608 (field1 (pair 0x94 0x2C)) ∷ []
 
+-- the starred examples, in document 01's order
 unfoldable pub table : List Row
 table =
     row (header 0x40) (size 1 128)
@@ -85,6 +90,7 @@ table =
     (bytes (0xC4 ∷ 0xFF ∷ 0xFC ∷ 0x94 ∷ 0x2C ∷ 0xFF ∷ 0x82 ∷ 0x21 ∷ 0xFE ∷ 0x41 ∷ 0x00 ∷ []))
     ∷ []
 
+-- every row computes to its result
 pub examples : map (λ (r : Row). answer (r .input)) table ≡ map (λ (r : Row). r .result) table
 unfolding table
     headerLength numberIn needed isShort blockIn readBlock writtenHeader writtenBlock blockLength

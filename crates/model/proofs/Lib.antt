@@ -9,3 +9,5 @@ pub mod Durations
 pub mod Frames
 pub mod Sends
 pub mod Examples
+pub mod DemuxStates
+pub mod MuxStates

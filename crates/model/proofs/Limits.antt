@@ -1,20 +1,20 @@
 -- What a packet reader gives is a packet within the limits. Assumes nothing.
-use mathlib.Core.Path.{_≡_, refl, sym, ap, _∙_}
-use mathlib.Core.Bool.{Bool, true, false, cond, not, _&&_}
-use mathlib.Core.List.{List, [], _∷_, _++_}
-use Prim.Native.Nat.{ℕ, zero, suc, _+_, _-_, _*_, _/_, _%_, _≤_, _<_}
+use mathlib.Core.Path.{_≡_, refl}
+use mathlib.Core.Bool.{Bool, true, false, not}
+use mathlib.Core.List.{List, [], _∷_}
+use Prim.Native.Nat.{ℕ, zero, suc, _+_, _-_, _%_, _≤_}
 use native.Mathlib.Omega.{arith}
-use lib.Dec.{eqb, leb, ltb}
+use lib.Dec.{eqb, ltb}
 use lib.ListN.{length, getD, take, drop, length-take, length-drop}
 use lib.Seq.{length-take-le}
-use borrow.Author.Tests.{eq-eqb, ne-eqb, le-ltb, le-leb, leb-true, eqb-true, eqb-false, ltb-true, ltb-false, not-false}
-use Rattle.model.specs.Said.{Outcome, gave, refused, mapped, andThen}
-use Rattle.model.specs.Block.{Block, validBlock, topNumber, blockSize, headerLength, numberIn, needed, isShort, blockIn, readBlock, writtenBlock, blockLength}
-use Rattle.model.specs.Packet.{Packet, sequenceIn, packetSize, plainMove, tidyMove, kept, blocksFrom, readBy, readPacket, readTidy, blocksLength, packetLength, allCarriable, carriable, validPacket}
-use Rattle.model.proofs.Cases.{by-test, by-cond, both, and-both, Gives, gives-then, gives-mapped, gives-at}
+use borrow.Author.Tests.{eq-eqb, ne-eqb, le-leb, eqb-true, eqb-false, ltb-true, ltb-false, not-false}
+use Rattle.model.specs.Said.{gave}
+use Rattle.model.specs.Block.{Block, validBlock, topNumber, blockSize, headerLength, numberIn, needed, isShort, blockIn, readBlock, blockLength}
+use Rattle.model.specs.Packet.{Packet, packetSize, plainMove, tidyMove, kept, blocksFrom, readBy, readPacket, readTidy, blocksLength, packetLength, allCarriable, carriable}
+use Rattle.model.proofs.Cases.{by-test, by-cond, and-both, Gives, gives-then, gives-mapped, gives-at}
 use Rattle.model.proofs.Blocks.{Carriable, facts-carriable, header-one, header-two, header-bare, block-length, block-length-none, length-short, length-long}
 use Rattle.model.proofs.BlockTrip.{written-some}
-use Rattle.model.proofs.Packets.{Valid, blocks-two, length-some, length-empty}
+use Rattle.model.proofs.Packets.{Valid, blocks-two, length-some}
 
 -- a move by m: forward, within the n bytes that there are, and over the l bytes that the block is written in
 pub record Moves (m n l : ℕ) : Type 0 where
@@ -37,24 +37,28 @@ header-cases h one two =
     (λ z. two (header-two h (eqb-true _ _ e) (eqb-false _ _ z)) (eqb-false _ _ z)))
     (λ e. one (header-one h (eqb-false _ _ e)) (λ t. absurd (eqb-false _ _ e t)))
 
+-- the number that a header of one byte gives
 number-one : (d : List ℕ) → headerLength (getD d 0 0) ≡ 1 → numberIn d ≡ topNumber (getD d 0 0)
 unfolding numberIn
 number-one d e = simp (ne-eqb (headerLength (getD d 0 0)) 2 (λ z. omega arith))
 
+-- and one of two
 number-two : (d : List ℕ) → headerLength (getD d 0 0) ≡ 2 → numberIn d ≡ getD d 1 0 % 64
 unfolding numberIn
 number-two d e = simp (eq-eqb (headerLength (getD d 0 0)) 2 e)
 
+-- neither is above 63
 number-known : (d : List ℕ) → numberIn d ≤ 63
 number-known d = header-cases (getD d 0 0) (λ e _. rw (number-one d e) (omega arith)) (λ e _. rw (number-two d e) (omega arith))
 
--- the payload is as long as the header says, or empty for number 0
+-- a block of number 0 has no payload
 payload-none : (d : List ℕ) → numberIn d ≡ 0 → length (blockIn d .payload) ≡ 0
 unfolding blockIn
 payload-none d z = simp (eq-eqb _ _ z)
 
 -- bytes d that are all there
 module _ (d : List ℕ) (whole : needed d ≤ length d) where
+  -- the header and its body are there
   pub all-there : headerLength (getD d 0 0) + blockSize (getD d 0 0) ≤ length d
   unfolding needed
   all-there =
@@ -62,6 +66,7 @@ module _ (d : List ℕ) (whole : needed d ≤ length d) where
       (λ e. let w : headerLength (getD d 0 0) ≤ length d = simp e at whole in absurd (omega (arith, ltb-true (length d) (headerLength (getD d 0 0)) e)))
       (λ e. simp e at whole)
 
+  -- so that the payload has the size that the header gives
   payload-length : (numberIn d ≡ 0 → ⊥) → length (blockIn d .payload) ≡ blockSize (getD d 0 0)
   unfolding blockIn
   payload-length n =
@@ -70,9 +75,11 @@ module _ (d : List ℕ) (whole : needed d ≤ length d) where
 
   -- a block with a payload
   module _ (some : 1 ≤ length (blockIn d .payload)) where
+    -- it has a number
     named : numberIn d ≡ 0 → ⊥
     named z = omega (arith, payload-none d z)
 
+    -- and may stand in a packet
     pub carried : Carriable (blockIn d)
     unfolding blockIn
     carried =
@@ -83,6 +90,7 @@ module _ (d : List ℕ) (whole : needed d ≤ length d) where
           small = omega (arith, payload-length named);
         }
 
+    -- a number from 7 on was read from two bytes
     long-header : 7 ≤ blockIn d .number → headerLength (getD d 0 0) ≡ 2
     unfolding blockIn
     long-header l =
@@ -99,25 +107,31 @@ module _ (d : List ℕ) (whole : needed d ≤ length d) where
         header-cases (getD d 0 0) (λ q _. omega (arith, payload-length named)) (λ q _. omega (arith, payload-length named)))
         (λ e. let l : 7 ≤ blockIn d .number = ltb-false _ _ e in omega (arith, length-long (blockIn d) l some, payload-length named, long-header l))
 
+    -- it is written in a byte or more
     written-from : 1 ≤ blockLength (blockIn d)
     written-from = omega (arith, block-length (blockIn d) some, written-some (blockIn d) [] carried)
 
+  -- the tidy reader moves forward
   tidy-least : 1 ≤ tidyMove d
   unfolding tidyMove
   tidy-least = header-cases (getD d 0 0) (λ q _. omega arith) (λ q _. omega arith)
 
+  -- and stays within the bytes
   tidy-most : tidyMove d ≤ length d
   unfolding tidyMove
   tidy-most = all-there
 
+  -- the plain reader moves on by one past a block without payload
   plain-none : length (blockIn d .payload) ≡ 0 → plainMove d ≡ 1
   unfolding plainMove
   plain-none z = simp (eq-eqb _ _ z)
 
+  -- and by the written length past any other
   plain-some : 1 ≤ length (blockIn d .payload) → plainMove d ≡ blockLength (blockIn d)
   unfolding plainMove
   plain-some s = simp (ne-eqb (length (blockIn d .payload)) 0 (λ z. omega arith))
 
+  -- the block at the head of such bytes is so read
   pub read-from : ReadFrom d (blockIn d)
   read-from =
       by-test (eqb (length (blockIn d .payload)) 0)
@@ -141,12 +155,16 @@ block-valid d whole =
     by-test (eqb (numberIn d) 0)
     (λ e. simp (le-leb _ _ (number-known d), e))
     (λ e. let n : (numberIn d ≡ 0 → ⊥) = eqb-false _ _ e in
-    let small : length (take (blockSize (getD d 0 0)) (drop (headerLength (getD d 0 0)) d)) ≤ 31 = omega (arith, length-take (blockSize (getD d 0 0)) (drop (headerLength (getD d 0 0)) d)) in
+    let small : length (take (blockSize (getD d 0 0)) (drop (headerLength (getD d 0 0)) d)) ≤ 31 =
+    omega (arith, length-take (blockSize (getD d 0 0)) (drop (headerLength (getD d 0 0)) d)) in
     simp (le-leb _ _ (number-known d), e, le-leb _ _ small))
 
+-- a block that the reader gives breaks no limit
 pub read-valid : (d : List ℕ) {b : Block} → readBlock d ≡ gave b → validBlock b ≡ true
 unfolding readBlock isShort
-read-valid d e = gives-at (λ (b : Block). validBlock b ≡ true) _ e (by-cond (Gives (λ (b : Block). validBlock b ≡ true)) (ltb (length d) (needed d)) (λ _. tt) (λ q. block-valid d (ltb-false _ _ q)))
+read-valid d e =
+    gives-at (λ (b : Block). validBlock b ≡ true) _ e
+    (by-cond (Gives (λ (b : Block). validBlock b ≡ true)) (ltb (length d) (needed d)) (λ _. tt) (λ q. block-valid d (ltb-false _ _ q)))
 
 -- a block reader gives blocks of that kind
 read-gives : (d : List ℕ) → Gives (ReadFrom d) (readBlock d)
@@ -158,6 +176,7 @@ pub record Within (n : ℕ) (bs : List Block) : Type 0 where
   pub carriable : allCarriable bs ≡ true
   pub short : blocksLength bs ≤ n
 
+-- one more block, kept if it has a payload
 within-kept : (b : Block) (bs : List Block) (n : ℕ) → (1 ≤ length (b .payload) → Carriable b) → Within n bs → Within (blockLength b + n) (kept b bs)
 unfolding allCarriable blocksLength
 within-kept b bs n c w =
@@ -171,12 +190,14 @@ packet-short : (q : ℕ) (bs : List Block) → blocksLength bs ≤ 127 → packe
 unfolding packetLength
 packet-short q bs h = by-cond (λ n. n ≤ 128) (eqb (length bs) 0) (λ _. omega arith) (λ _. omega arith)
 
+-- no header says more than 128 bytes
 pub size-most : (h : ℕ) → packetSize h ≤ 128
 unfolding packetSize
 size-most h = by-cond (λ n. n ≤ 128) (eqb (h % 64) 0) (λ _. omega arith) (λ _. omega arith)
 
 -- a way of moving on that stays within the bytes and behind no written block
 module _ (move : List ℕ → ℕ) (moves : (d : List ℕ) (b : Block) → ReadFrom d b → Moves (move d) (length d) (blockLength b)) where
+  -- the blocks read from some bytes are written in no more of them
   pub blocks-within : (k : ℕ) (d : List ℕ) → k ≤ length d → Gives (Within (length d - k)) (blocksFrom move k d)
   unfolding blocksFrom allCarriable blocksLength
   blocks-within k [] h = record { carriable = refl; short = omega arith }
@@ -199,30 +220,29 @@ module _ (move : List ℕ → ℕ) (moves : (d : List ℕ) (b : Block) → ReadF
       gives-mapped Valid (Within (length (drop 1 d) - 0)) (blocksFrom move 0 (drop 1 d)) _ (blocks-within 0 (drop 1 d) (omega arith))
       (λ bs w. record { sequence = omega arith; blocks = w .carriable; length = packet-short _ bs (omega (arith, w .short, length-drop 1 d)) })))
 
+-- the plain reader
 plain-within : (d : List ℕ) → Gives Valid (readPacket d)
 unfolding readPacket
 plain-within d = packet-within plainMove (λ _ _ f. f .plain) ltb d (λ e. omega (arith, size-most (getD d 0 0), ltb-false (packetSize (getD d 0 0)) (length d) e))
 
+-- the tidy reader
 tidy-within : (d : List ℕ) → Gives Valid (readTidy d)
 unfolding readTidy
 tidy-within d =
     packet-within tidyMove (λ _ _ f. f .tidy) (λ size actual. not (eqb size actual)) d
     (λ e. omega (arith, size-most (getD d 0 0), eqb-true (packetSize (getD d 0 0)) (length d) (not-false _ e)))
 
--- "a packet that reads has at most 63 blocks and length at most 128", and breaks no other limit
+-- a packet within the limits has at most 63 blocks
 pub few-blocks : (p : Packet) → Valid p → length (p .blocks) ≤ 63
 few-blocks p v =
     by-test (eqb (length (p .blocks)) 0)
     (λ e. omega (arith, eqb-true (length (p .blocks)) 0 e))
     (λ e. omega (arith, length-some p (omega (arith, eqb-false (length (p .blocks)) 0 e)), blocks-two (p .blocks) (v .blocks), v .length))
 
+-- what the plain reader gives breaks no limit
 pub plain-valid : (d : List ℕ) {p : Packet} → readPacket d ≡ gave p → Valid p
 plain-valid d e = gives-at Valid (readPacket d) e (plain-within d)
 
+-- nor does what the tidy reader gives
 pub tidy-valid : (d : List ℕ) {p : Packet} → readTidy d ≡ gave p → Valid p
 tidy-valid d e = gives-at Valid (readTidy d) e (tidy-within d)
-
--- what breaks no limit passes the test of it
-pub facts-valid : (p : Packet) → Valid p → validPacket p ≡ true
-unfolding validPacket
-facts-valid p v = simp (le-leb _ _ (v .sequence), v .blocks, le-leb _ _ (v .length))

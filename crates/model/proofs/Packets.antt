@@ -1,17 +1,17 @@
 -- Packets as they are written: how long they are, what their header says, and that both readers give them back. Assumes nothing.
-use mathlib.Core.Path.{_≡_, refl, sym, ap, _∙_}
-use mathlib.Core.Bool.{Bool, true, false, cond, not, _&&_}
+use mathlib.Core.Path.{_≡_, refl, ap, _∙_}
+use mathlib.Core.Bool.{Bool, true, false, not, _&&_}
 use mathlib.Core.List.{List, [], _∷_, _++_, append-nil}
-use Prim.Native.Nat.{ℕ, zero, suc, _+_, _-_, _*_, _/_, _%_, _≤_, _<_}
+use Prim.Native.Nat.{ℕ, suc, _+_, _*_, _/_, _%_, _≤_}
 use native.Mathlib.Omega.{arith}
 use lib.Dec.{eqb, leb, ltb}
-use lib.ListN.{length, getD, drop, length-append}
-use borrow.Author.Tests.{eq-eqb, ne-eqb, le-ltb, leb-true, eqb-true, eqb-false}
-use Rattle.model.specs.Said.{Outcome, gave, mapped}
-use Rattle.model.specs.Block.{Block, writtenBlock, blockLength}
-use Rattle.model.specs.Packet.{Packet, sequenceIn, packetSize, blocksFrom, readBy, readPacket, readTidy, blocksLength, packetLength, writtenBlocks, packetHeader, fill, writtenPacket, mostPacket, carriable, allCarriable, validPacket}
-use Rattle.model.proofs.Cases.{by-test, both}
-use Rattle.model.proofs.Blocks.{Carriable, carriable-facts, block-length}
+use lib.ListN.{length, length-append}
+use borrow.Author.Tests.{eq-eqb, ne-eqb, le-leb, le-ltb, leb-true, eqb-true, eqb-false}
+use Rattle.model.specs.Said.{gave}
+use Rattle.model.specs.Block.{Block, writtenBlock}
+use Rattle.model.specs.Packet.{Packet, sequenceIn, packetSize, blocksFrom, readBy, readPacket, readTidy, blocksLength, packetLength, writtenBlocks, packetHeader, fill, writtenPacket, carriable, allCarriable, validPacket, allPackets}
+use Rattle.model.proofs.Cases.{by-test, both, and-both}
+use Rattle.model.proofs.Blocks.{carriable-facts, block-length}
 use Rattle.model.proofs.BlockTrip.{written-some}
 use Rattle.model.proofs.Walk.{Passes, plain-passing, tidy-passing, blocks-none, blocks-fill, blocks-written}
 
@@ -21,12 +21,26 @@ pub record Valid (p : Packet) : Type 0 where
   pub blocks : allCarriable (p .blocks) ≡ true
   pub length : packetLength p ≤ 128
 
+-- what passes the test is within the limits,
 pub valid-facts : (p : Packet) → validPacket p ≡ true → Valid p
 unfolding validPacket
 valid-facts p e =
     let v = both (leb (p .sequence) 3 && allCarriable (p .blocks)) (leb (packetLength p) 128) e in
     let w = both (leb (p .sequence) 3) (allCarriable (p .blocks)) (v .0) in
     record { sequence = leb-true _ _ (w .0); blocks = w .1; length = leb-true _ _ (v .1) }
+
+-- and what is within them passes it
+pub facts-valid : (p : Packet) → Valid p → validPacket p ≡ true
+unfolding validPacket
+facts-valid p v = simp (le-leb _ _ (v .sequence), v .blocks, le-leb _ _ (v .length))
+
+-- two lists of packets that pass a test
+pub all-append : (test : Packet → Bool) (ps qs : List Packet) → allPackets test ps ≡ true → allPackets test qs ≡ true → allPackets test (ps ++ qs) ≡ true
+unfolding allPackets
+all-append test [] qs v w = w
+all-append test (p ∷ ps) qs v w =
+    let u = both (test p) (allPackets test ps) v in
+    and-both (test p) (allPackets test (ps ++ qs)) (u .0) (all-append test ps qs (u .1) w)
 
 -- blocks of a packet: their lengths' sum is the length of what they are written in, two bytes or more each
 pub blocks-length : (bs : List Block) → allCarriable bs ≡ true → length (writtenBlocks bs) ≡ blocksLength bs
@@ -37,6 +51,7 @@ blocks-length (b ∷ bs) ok =
     let e = block-length b (carriable-facts b (f .0) .filled) in
     omega (arith, length-append (writtenBlock b) (writtenBlocks bs), blocks-length bs (f .1), e)
 
+-- each of them has two bytes or more
 pub blocks-two : (bs : List Block) → allCarriable bs ≡ true → 2 * length bs ≤ blocksLength bs
 unfolding allCarriable blocksLength
 blocks-two [] ok = omega arith
@@ -50,15 +65,17 @@ pub length-empty : (p : Packet) → length (p .blocks) ≡ 0 → packetLength p 
 unfolding packetLength
 length-empty p h = simp (eq-eqb _ _ h)
 
+-- a packet with blocks
 pub length-some : (p : Packet) → 1 ≤ length (p .blocks) → packetLength p ≡ 1 + blocksLength (p .blocks)
 unfolding packetLength
 length-some p h = simp (ne-eqb (length (p .blocks)) 0 (λ e. omega arith))
 
+-- the filling makes the length even
 fill-length : (n : ℕ) → length (fill n) ≡ n % 2
 unfolding fill
 fill-length n = by-test (eqb (n % 2) 1) (λ e. simp e (omega (arith, eqb-true (n % 2) 1 e))) (λ e. simp e (omega (arith, eqb-false (n % 2) 1 e)))
 
--- "written packets have even length from 4 to 128 and a header that gives that size"
+-- a packet as written has an even length from 4 to 128, and a header that gives this size and its sequence number
 pub record Shape (p : Packet) : Type 0 where
   pub even : length (writtenPacket p) ≡ 2 * ((packetLength p + 1) / 2)
   pub least : 4 ≤ length (writtenPacket p)
@@ -67,14 +84,17 @@ pub record Shape (p : Packet) : Type 0 where
   pub sequence : sequenceIn (packetHeader p) ≡ p .sequence
 
 module _ (p : Packet) (v : Valid p) (some : 1 ≤ length (p .blocks)) where
+  -- a packet with a block has at least three bytes
   least-length : 3 ≤ packetLength p
   least-length = omega (arith, length-some p some, blocks-two (p .blocks) (v .blocks))
 
+  -- it is written in an even number of bytes
   written-even : length (writtenPacket p) ≡ 2 * ((packetLength p + 1) / 2)
   unfolding writtenPacket
   written-even =
       omega (arith, length-append (writtenBlocks (p .blocks)) (fill (packetLength p)), blocks-length (p .blocks) (v .blocks), fill-length (packetLength p), length-some p some)
 
+  -- its header says that number
   header-size : packetSize (packetHeader p) ≡ length (writtenPacket p)
   unfolding packetSize packetHeader
   header-size =
@@ -85,6 +105,7 @@ module _ (p : Packet) (v : Valid p) (some : 1 ≤ length (p .blocks)) where
       (λ e. simp (low, e) (omega (arith, eqb-true (n % 64) 0 e, written-even, v .length)))
       (λ e. simp (low, e) (omega (arith, eqb-false (n % 64) 0 e, written-even, v .length)))
 
+  -- both, and the bounds of that number
   pub shape : Shape p
   unfolding packetHeader
   shape =
@@ -98,19 +119,23 @@ module _ (p : Packet) (v : Valid p) (some : 1 ≤ length (p .blocks)) where
 
 -- written blocks and the byte that may fill them are read as the blocks
 module _ (move : List ℕ → ℕ) (passes : Passes move) where
+  -- the filling alone is no block
   filled-none : (n : ℕ) → blocksFrom move 0 (fill n) ≡ gave []
   unfolding fill
   filled-none n = by-test (eqb (n % 2) 1) (λ e. simp e (blocks-fill move passes [] ∙ blocks-none move)) (λ e. simp e (blocks-none move))
 
+  -- the blocks are read back
   pub blocks-back : (bs : List Block) (n : ℕ) → allCarriable bs ≡ true → blocksFrom move 0 (writtenBlocks bs ++ fill n) ≡ gave bs
   blocks-back bs n ok = blocks-written move passes bs (fill n) ok ∙ rw (filled-none n) (ap gave (append-nil bs))
 
   -- a reader whose length rule the written packet meets
-  pub back-by : (wrong : ℕ → ℕ → Bool) (p : Packet) → Valid p → wrong (packetSize (packetHeader p)) (length (writtenPacket p)) ≡ false → readBy move wrong (writtenPacket p) ≡ gave p
+  pub back-by : (wrong : ℕ → ℕ → Bool) (p : Packet) → Valid p → wrong (packetSize (packetHeader p)) (length (writtenPacket p)) ≡ false
+      → readBy move wrong (writtenPacket p) ≡ gave p
   unfolding readBy writtenPacket packetHeader
   back-by wrong p v fits =
       let top : sequenceIn (p .sequence * 64 + (packetLength p + 1) / 2 % 64) ≡ p .sequence = omega (arith, v .sequence) in
-      let n : eqb (suc (length (writtenBlocks (p .blocks) ++ fill (packetLength p)))) 0 ≡ false = ne-eqb (suc (length (writtenBlocks (p .blocks) ++ fill (packetLength p)))) 0 (λ e. omega arith) in
+      let n : eqb (suc (length (writtenBlocks (p .blocks) ++ fill (packetLength p)))) 0 ≡ false =
+      ne-eqb (suc (length (writtenBlocks (p .blocks) ++ fill (packetLength p)))) 0 (λ e. omega arith) in
       rw (n, fits, blocks-back (p .blocks) (packetLength p) (v .blocks)) (ap (λ (q : ℕ). gave (record { sequence = q; blocks = p .blocks })) top)
 
 -- a written packet is not longer than its header says
@@ -118,12 +143,13 @@ empty-size : (q : ℕ) → packetSize (packetHeader (record { sequence = q; bloc
 unfolding packetSize packetHeader packetLength
 empty-size q = let e : (q * 64 + 0) % 64 ≡ 0 = omega arith in rw e
 
+-- a packet with blocks, and one without
 not-longer : (q : ℕ) (bs : List Block) → (let p : Packet = record { sequence = q; blocks = bs } in Valid p → length (writtenPacket p) ≤ packetSize (packetHeader p))
 unfolding writtenPacket writtenBlocks packetLength fill
 not-longer q [] v = rw (empty-size q) (omega arith)
 not-longer q (b ∷ bs) v = omega (arith, shape (record { sequence = q; blocks = b ∷ bs }) v (omega arith) .header)
 
--- "packet written then read give the packet back (sequence number, block numbers, payloads)": plain, the empty packet too,
+-- a packet that is written is read back, with its sequence number, block numbers and payloads: plain, the empty packet too,
 pub plain-back : (p : Packet) → Valid p → readPacket (writtenPacket p) ≡ gave p
 unfolding readPacket
 plain-back p v = back-by _ plain-passing ltb p v (le-ltb _ _ (not-longer (p .sequence) (p .blocks) v))

@@ -1,10 +1,9 @@
 -- How the blocks of a packet are read one after another, for any way of moving on. Assumes nothing.
 use mathlib.Core.Path.{_≡_, refl, sym, ap, _∙_}
-use mathlib.Core.Bool.{true, false, cond}
+use mathlib.Core.Bool.{true}
 use mathlib.Core.List.{List, [], _∷_, _++_, append-assoc}
-use Prim.Native.Nat.{ℕ, zero, suc, _+_, _-_, _≤_, _<_}
+use Prim.Native.Nat.{ℕ, zero, suc, _-_, _≤_}
 use native.Mathlib.Omega.{arith}
-use lib.Dec.{eqb}
 use lib.ListN.{length, drop, length-append}
 use lib.Seq.{drop-nil, drop-at}
 use borrow.Author.Tests.{ne-eqb}
@@ -20,9 +19,11 @@ pub record Passes (move : List ℕ → ℕ) : Type 0 where
   pub block : (b : Block) (rest : List ℕ) → Carriable b → move (writtenBlock b ++ rest) ≡ length (writtenBlock b)
   pub fill : (rest : List ℕ) → move (0x00 ∷ rest) ≡ 1
 
+-- the plain reader does
 pub plain-passing : Passes plainMove
 plain-passing = record { block = plain-passes; fill = plain-fill }
 
+-- the tidy reader does
 pub tidy-passing : Passes tidyMove
 tidy-passing = record { block = tidy-passes; fill = tidy-fill }
 
@@ -39,6 +40,7 @@ module _ (move : List ℕ → ℕ) where
   unfolding blocksFrom
   blocks-none = refl
 
+  -- a move over the head and the rest
   less-one : (m : ℕ) (x : ℕ) (d : List ℕ) → 1 ≤ m → drop (m - 1) d ≡ drop m (x ∷ d)
   less-one zero x d h = absurd (omega arith)
   less-one (suc m) x d h = let e : suc m - 1 ≡ m = omega arith in rw e
@@ -70,7 +72,8 @@ module _ (move : List ℕ → ℕ) where
         blocks-next (0x00 ∷ rest) (omega arith) (omega arith) ∙ rw (fill-read rest, e) (mapped-same (blocksFrom move 0 rest))
 
     -- written blocks are read, whatever follows them
-    pub blocks-written : (bs : List Block) (rest : List ℕ) → allCarriable bs ≡ true → blocksFrom move 0 (writtenBlocks bs ++ rest) ≡ mapped (λ cs. bs ++ cs) (blocksFrom move 0 rest)
+    pub blocks-written : (bs : List Block) (rest : List ℕ) → allCarriable bs ≡ true
+        → blocksFrom move 0 (writtenBlocks bs ++ rest) ≡ mapped (λ cs. bs ++ cs) (blocksFrom move 0 rest)
     unfolding allCarriable writtenBlocks
     blocks-written [] rest ok = sym (mapped-same (blocksFrom move 0 rest))
     blocks-written (b ∷ bs) rest ok =

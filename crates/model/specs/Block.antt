@@ -4,8 +4,9 @@ use mathlib.Core.List.{List, [], _∷_, _++_}
 use Prim.Native.Nat.{ℕ, _+_, _-_, _*_, _/_, _%_}
 use lib.Dec.{eqb, leb, ltb}
 use lib.ListN.{length, getD, take, drop}
-use Rattle.model.specs.Said.{Said, Outcome, gave, refused, lengthMismatch, wouldOverflow, readOnly, badNumber, badRun}
+use Rattle.model.specs.Said.{Outcome, gave, refused, lengthMismatch, wouldOverflow, readOnly, badNumber, badRun}
 
+-- "a block: number, payload"
 pub record Block : Type 0 where
   pub number : ℕ
   pub payload : List ℕ
@@ -22,10 +23,11 @@ validBlock b = leb (b .number) 63 && leb (length (b .payload)) mostPayload && (n
 unfoldable pub newBlock : ℕ → Outcome Block
 newBlock n = cond (ltb 63 n) (refused badNumber) (gave (record { number = n; payload = [] }))
 
--- "Block header: top three bits number, low five bits size."
+-- "Block header: top three bits number"
 abbrev pub topNumber : ℕ → ℕ
 topNumber h = h / 32 % 8
 
+-- "low five bits size"
 abbrev pub blockSize : ℕ → ℕ
 blockSize h = h % 32
 
@@ -37,10 +39,11 @@ headerLength h = cond (eqb (topNumber h) 7 && not (eqb (blockSize h) 0)) 2 1
 unfoldable pub numberIn : List ℕ → ℕ
 numberIn d = cond (eqb (headerLength (getD d 0 0)) 2) (getD d 1 0 % 64) (topNumber (getD d 0 0))
 
--- "On reading, bytes missing give 1 with the count needed and the count present": the header's bytes are needed, and then its body's.
+-- "the count needed": the header's bytes, and once they are there its body's too
 unfoldable pub needed : List ℕ → ℕ
 needed d = let h = getD d 0 0 in cond (ltb (length d) (headerLength h)) (headerLength h) (headerLength h + blockSize h)
 
+-- whether there are "bytes missing"
 unfoldable pub isShort : List ℕ → Bool
 isShort d = ltb (length d) (needed d)
 
@@ -50,6 +53,7 @@ blockIn d =
     let h = getD d 0 0 in
     record { number = numberIn d; payload = cond (eqb (numberIn d) 0) [] (take (blockSize h) (drop (headerLength h) d)) }
 
+-- "On reading, bytes missing give 1 with the count needed and the count present."
 unfoldable pub readBlock : List ℕ → Outcome Block
 readBlock d = cond (isShort d) (refused (lengthMismatch (needed d) (length d))) (gave (blockIn d))
 
@@ -62,6 +66,7 @@ partIn d = cond (isShort d) [] (blockIn d .payload)
 unfoldable pub writtenHeader : ℕ → ℕ → List ℕ
 writtenHeader number size = cond (ltb number 7) ((number * 32 + size) ∷ []) ((0xE0 + size) ∷ number ∷ [])
 
+-- a block as it is written: its header, then its payload
 unfoldable pub writtenBlock : Block → List ℕ
 writtenBlock b = writtenHeader (b .number) (length (b .payload)) ++ b .payload
 
@@ -73,6 +78,7 @@ blockLength b = cond (eqb (length (b .payload)) 0) 0 (length (writtenBlock b))
 abbrev pub blockRoom : Block → ℕ
 blockRoom b = mostPayload - length (b .payload)
 
+-- the block with a run of bytes behind its payload
 abbrev pub withRun : List ℕ → Block → Block
 withRun run b = record { number = b .number; payload = b .payload ++ run }
 

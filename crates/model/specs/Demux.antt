@@ -2,12 +2,12 @@
 use mathlib.Core.Bool.{Bool, true, false, cond, not, _&&_, _||_}
 use mathlib.Core.List.{List, [], _∷_, _++_}
 use mathlib.Core.Option.{Option, none, some}
-use Prim.Native.Nat.{ℕ, suc, _+_, _-_, _*_}
+use Prim.Native.Nat.{ℕ, suc, _+_, _-_, _*_, _%_}
 use lib.Dec.{eqb, leb, ltb}
 use lib.ListN.{length, getD, take, drop}
 use Rattle.model.specs.Said.{Said, Outcome, gave, refused, accepted, lengthMismatch, cea608AfterCea708, full}
-use Rattle.model.specs.Packet.{Packet, packetSize, readPacket}
-use Rattle.model.specs.Frame.{Pair, pair, Cea608, field1, field2, Seen, first, second, start, more, void608, void708, seenAll, triplesIn, flagged, countIn}
+use Rattle.model.specs.Packet.{Packet, packetSize, readPacket, validPacket, allPackets}
+use Rattle.model.specs.Frame.{pair, Cea608, field1, field2, Seen, first, second, start, more, void608, void708, seenAll, triplesIn, flagged, countIn}
 
 -- whether 608 is on, the pairs of the last frame, the bytes of a packet that is not complete, the packets not yet drawn
 pub record Demux : Type 0 where
@@ -16,13 +16,28 @@ pub record Demux : Type 0 where
   pub pending : List ℕ
   pub waiting : List Packet
 
--- "32 waiting packets, 31 pairs from the last frame"
+-- "32 waiting packets"
 abbrev pub mostWaiting : ℕ
 mostWaiting = 32
 
+-- "31 pairs from the last frame"
 abbrev pub mostPairs : ℕ
 mostPairs = 31
 
+-- Pending bytes: none, or an even number from 2 to below the size that the first of them gives.
+unfoldable pub validPending : List ℕ → Bool
+validPending g = eqb (length g) 0 || (eqb (length g % 2) 0 && ltb (length g) (packetSize (getD g 0 0)))
+
+-- A demultiplexer that breaks no limit: "32 waiting packets, 31 pairs from the last frame", each packet within its own limits, and pending bytes
+-- of a packet that is not complete.
+unfoldable pub validDemux : Demux → Bool
+validDemux d =
+    leb (length (d .pairs)) mostPairs
+    && (leb (length (d .waiting)) mostWaiting
+    && (allPackets validPacket (d .waiting)
+    && validPending (d .pending)))
+
+-- a fresh demultiplexer: it holds nothing, and 608 is off
 abbrev pub freshDemux : Demux
 freshDemux = record { on608 = false; pairs = []; pending = []; waiting = [] }
 
@@ -54,6 +69,7 @@ lateAfter i (start a b ∷ ts) = lateAfter (suc i) ts
 lateAfter i (more a b ∷ ts) = lateAfter (suc i) ts
 lateAfter i (void708 ∷ ts) = lateAfter (suc i) ts
 
+-- the first late triple of a frame whose 608 part still lasts: "A type 2 or 3 triple, valid or not, ends the 608 part"
 unfoldable pub lateFrom : ℕ → List Seen → Option ℕ
 lateFrom i [] = none
 lateFrom i (first a b ∷ ts) = lateFrom (suc i) ts
@@ -78,22 +94,25 @@ pub record Gathered : Type 0 where
   pub packets : List Packet
   pub bytes : List ℕ
 
--- "which become a packet if they read as one and vanish otherwise"
+-- the packet that a reading gives, or none
 abbrev pub givenIn : Outcome Packet → List Packet
 givenIn (gave p) = p ∷ []
 givenIn (refused why) = []
 
+-- the bytes gathered, "which become a packet if they read as one and vanish otherwise"
 unfoldable pub closed : List ℕ → List Packet
 closed g = givenIn (readPacket g)
 
--- the bytes that a packet of which g is gathered still wants: those "beyond that size, or before any start, are ignored"
+-- how many bytes are still wanted where g is gathered: up to the size that the first byte gives, and none before any start
 unfoldable pub wants : List ℕ → ℕ
 wants g = cond (eqb (length g) 0) 0 (packetSize (getD g 0 0) - length g)
 
+-- packets delivered before those that are gathered next
 abbrev pub delivered : List Packet → Gathered → Gathered
 delivered ps o = record { packets = ps ++ o .packets; bytes = o .bytes }
 
--- "A valid type 3 triple closes the bytes gathered so far .. and starts a new packet of its header's size"
+-- "A valid type 3 triple closes the bytes gathered so far .. and starts a new packet of its header's size; bytes beyond that size, or before any
+-- start, are ignored."
 unfoldable pub gather : List ℕ → List Seen → Gathered
 gather g [] = record { packets = []; bytes = g }
 gather g (start a b ∷ ts) = delivered (closed g) (gather (take (packetSize a) (a ∷ b ∷ [])) ts)
@@ -138,7 +157,8 @@ takeTriples ts none d = takeGathered (pairsIn ts) (gathered (d .pending) ts) d
 unfoldable pub unread : List ℕ → Bool
 unread f = ltb (length f) 5 || (not (flagged (getD f 0 0)) || eqb (countIn (getD f 0 0)) 0)
 
--- "In this order: the pair list is emptied; .. length other than 3n+2 is refused with 1, *expected 3n+1*. Triples start at byte 2"
+-- "In this order: the pair list is emptied; .. length other than 3n+2 is refused with 1, *expected 3n+1*. Triples start at byte 2"; "a frame
+-- refused with 1 empties the pair list".
 unfoldable pub takeFrame : List ℕ → Demux → Taken
 takeFrame f d =
     let n = countIn (getD f 0 0) in
@@ -153,15 +173,17 @@ pub data Item : Type 0 where
   aPacket : Packet → Item
   noItem : Item
 
+-- what is drawn, and the demultiplexer without it
 pub record Drawn : Type 0 where
   pub item : Item
   pub next : Demux
 
--- "first the list's pairs in order, then packets, oldest first, each removed"
+-- by what there is: a pair of the list, else the oldest packet, else nothing
 abbrev drawBy : Bool → List ℕ → List Cea608 → List Packet → Drawn
 drawBy on pending (x ∷ pairs) waiting = record { item = aPair x; next = record { on608 = on; pairs = pairs; pending = pending; waiting = waiting } }
 drawBy on pending [] (p ∷ waiting) = record { item = aPacket p; next = record { on608 = on; pairs = []; pending = pending; waiting = waiting } }
 drawBy on pending [] [] = record { item = noItem; next = record { on608 = on; pairs = []; pending = pending; waiting = [] } }
 
+-- "first the list's pairs in order, then packets, oldest first, each removed; with none left it says so"
 unfoldable pub draw : Demux → Drawn
 draw d = drawBy (d .on608) (d .pending) (d .pairs) (d .waiting)

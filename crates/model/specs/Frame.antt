@@ -1,9 +1,10 @@
 -- A frame of `cc_data`: its triples, and what a reader sees in one. Document 01, "Reading frames". Assumes nothing.
-use mathlib.Core.Bool.{Bool, true, false, cond}
+use mathlib.Core.Bool.{Bool, true, false}
 use mathlib.Core.List.{List, [], _∷_}
-use Prim.Native.Nat.{ℕ, zero, suc, _+_, _*_, _/_, _%_}
+use Prim.Native.Nat.{ℕ, zero, suc, _+_, _/_, _%_}
 use lib.Dec.{eqb, leb}
 
+-- a triple: the byte with its valid bit and type, and the two bytes that it carries
 pub data Triple : Type 0 where
   tri : ℕ → ℕ → ℕ → Triple
 
@@ -25,6 +26,7 @@ pub data Seen : Type 0 where
   first second start more : ℕ → ℕ → Seen
   void608 void708 : Seen
 
+-- by whether the triple is valid and by its type: 0 and 1 are pairs, 2 is more of a packet, 3 a packet's start
 abbrev seenBy : Bool → ℕ → ℕ → ℕ → Seen
 seenBy true zero a b = first a b
 seenBy true (suc zero) a b = second a b
@@ -38,28 +40,34 @@ seenBy false (suc (suc n)) a b = void708
 unfoldable pub seen : Triple → Seen
 seen (tri h a b) = seenBy (leb 4 (h % 8)) (h % 4) a b
 
+-- what a reader sees in triples, one after the other
 unfoldable pub seenAll : List Triple → List Seen
 seenAll [] = []
 seenAll (t ∷ ts) = seen t ∷ seenAll ts
 
--- three bytes a triple
+-- the bytes of triples, three each
 unfoldable pub flat : List Triple → List ℕ
 flat [] = []
 flat (tri h a b ∷ ts) = h ∷ a ∷ b ∷ flat ts
 
+-- the triples of bytes, three each; one or two bytes left over are none
 unfoldable pub triplesIn : List ℕ → List Triple
 triplesIn [] = []
 triplesIn (h ∷ []) = []
 triplesIn (h ∷ a ∷ []) = []
 triplesIn (h ∷ a ∷ b ∷ d) = tri h a b ∷ triplesIn d
 
--- "flag 0x40"
+-- whether "flag 0x40" is set
 unfoldable pub flagged : ℕ → Bool
 flagged h = eqb (h / 64 % 2) 1
 
 -- "count (low five bits)"
 abbrev pub countIn : ℕ → ℕ
 countIn h = h % 32
+
+-- "A frame is at most 95 bytes."
+abbrev pub mostFrame : ℕ
+mostFrame = 95
 
 -- "Frame: 0xC0 + count, 0xFF, then triples."
 unfoldable pub frameBytes : Frame → List ℕ

@@ -2,10 +2,10 @@
 use mathlib.Core.Bool.{Bool, true, false, cond, _&&_}
 use mathlib.Core.List.{List, [], _∷_, _++_}
 use Prim.Native.Nat.{ℕ, zero, suc, _+_, _-_, _*_, min, max}
-use lib.Dec.{eqb, leb, ltb}
+use lib.Dec.{eqb, leb}
 use lib.ListN.{length, take, drop, replicate}
 use Rattle.model.specs.Said.{Outcome, gave, refused, andThen, mapped, putInto, full}
-use Rattle.model.specs.Packet.{Packet, packetHeader, writtenBlocks}
+use Rattle.model.specs.Packet.{Packet, packetHeader, writtenBlocks, mostPacket, validPacket, allPackets}
 use Rattle.model.specs.Frame.{Frame, Triple, tri, Pair, pair, Cea608, field1, field2, frameBytes}
 use Rattle.model.specs.Rate.{Budgets, budgets}
 
@@ -23,6 +23,7 @@ pub record Mux : Type 0 where
 abbrev pub freshMux : Mux
 freshMux = record { pad608 = false; padOut = false; packets = []; sending = []; queue1 = []; queue2 = []; next1 = true }
 
+-- the multiplexer with its padding switches set
 abbrev pub withPads : Bool → Bool → Mux → Mux
 withPads a b s = record { pad608 = a; padOut = b; packets = s .packets; sending = s .sending; queue1 = s .queue1; queue2 = s .queue2; next1 = s .next1 }
 
@@ -30,34 +31,53 @@ withPads a b s = record { pad608 = a; padOut = b; packets = s .packets; sending 
 abbrev pub flushMux : Mux → Mux
 flushMux s = record { pad608 = s .pad608; padOut = s .padOut; packets = []; sending = []; queue1 = []; queue2 = []; next1 = s .next1 }
 
--- "16 packets beside the one being sent; each field's queue is 64 places"
+-- "16 packets beside the one being sent"
 abbrev pub mostPackets : ℕ
 mostPackets = 16
 
+-- "each field's queue is 64 places of two bytes each"
 abbrev pub mostQueued : ℕ
 mostQueued = 64
 
+-- a packet that may be queued: it breaks no limit, and is not "An empty packet"
+unfoldable pub storable : Packet → Bool
+storable p = validPacket p && leb 1 (length (p .blocks))
+
+-- A multiplexer that breaks no limit: "16 packets beside the one being sent; each field's queue is 64 places". Of the triples left of the packet
+-- being sent only the number is bounded, two bytes each within the most of a packet; that they are the last of some packet's is not asked.
+unfoldable pub validMux : Mux → Bool
+validMux s =
+    leb (length (s .packets)) mostPackets
+    && (allPackets storable (s .packets)
+    && (leb (2 * length (s .sending)) mostPacket
+    && (leb (length (s .queue1)) mostQueued
+    && leb (length (s .queue2)) mostQueued)))
+
+-- the multiplexer with other packets queued
 abbrev pub withPackets : List Packet → Mux → Mux
 withPackets ps s = record { pad608 = s .pad608; padOut = s .padOut; packets = ps; sending = s .sending; queue1 = s .queue1; queue2 = s .queue2; next1 = s .next1 }
 
+-- the multiplexer with other pairs queued
 abbrev pub withQueues : List Pair → List Pair → Mux → Mux
 withQueues q1 q2 s = record { pad608 = s .pad608; padOut = s .padOut; packets = s .packets; sending = s .sending; queue1 = q1; queue2 = q2; next1 = s .next1 }
 
--- a queue with one more at its end, or 10
+-- a queue with one more at its end, or 10: "no place left"
 unfoldable pub queued : {A : Type 0} → ℕ → A → List A → Outcome (List A)
 queued most x q = cond (leb most (length q)) (refused full) (gave (q ++ (x ∷ [])))
 
--- "An empty packet is accepted, even when full, and not stored"
+-- "An empty packet is accepted, even when full, and not stored (the Rust stores it; no frame differs)."
 unfoldable pub pushPacket : Packet → Mux → Outcome Mux
 pushPacket p s = cond (eqb (length (p .blocks)) 0) (gave s) (mapped (λ ps. withPackets ps s) (queued mostPackets p (s .packets)))
 
--- "Pushing pair 0x80,0x80 is accepted and dropped, even on a full queue."
+-- whether it is the pair 0x80,0x80
 unfoldable pub isNull : Pair → Bool
 isNull (pair a b) = eqb a 0x80 && eqb b 0x80
 
+-- "Pushing pair 0x80,0x80 is accepted and dropped, even on a full queue."
 unfoldable pub pushPair : Pair → List Pair → Outcome (List Pair)
 pushPair x q = cond (isNull x) (gave q) (queued mostQueued x q)
 
+-- a pair goes to the queue of its field
 unfoldable pub pushCea608 : Cea608 → Mux → Outcome Mux
 pushCea608 (field1 x) s = mapped (λ q. withQueues q (s .queue2) s) (pushPair x (s .queue1))
 pushCea608 (field2 x) s = mapped (λ q. withQueues (s .queue1) q s) (pushPair x (s .queue2))
@@ -73,13 +93,13 @@ pub record Turned : Type 0 where
   pub queue2 : List Pair
   pub next1 : Bool
 
+-- a triple sent before those of the turns that follow
 abbrev pub sentBefore : Triple → Turned → Turned
 sentBefore t r = record { out = t ∷ r .out; queue1 = r .queue1; queue2 = r .queue2; next1 = r .next1 }
 
--- "A field 1 turn is followed by a field 2 turn, and that by a field 1 turn, until no turns are left".
--- "Field 1: its pair under 0xFC; else, queue 2 not empty, FC 80 80; else, 608 padding on, F8 80 80; else nothing."
--- "Field 2: its pair under 0xFD; else, 608 padding on, F9 80 80; else nothing."
+-- "A field 1 turn is followed by a field 2 turn, and that by a field 1 turn, until no turns are left"
 unfoldable mutual
+  -- "Field 1: its pair under 0xFC; else, queue 2 not empty, FC 80 80; else, 608 padding on, F8 80 80; else nothing."
   pub turn1 : ℕ → Bool → List Pair → List Pair → Turned
   turn1 zero pad q1 q2 = record { out = []; queue1 = q1; queue2 = q2; next1 = true }
   turn1 (suc n) pad (pair a b ∷ q1) q2 = sentBefore (tri 0xFC a b) (turn2 n pad q1 q2)
@@ -87,6 +107,7 @@ unfoldable mutual
   turn1 (suc n) true [] [] = sentBefore (tri 0xF8 0x80 0x80) (turn2 n true [] [])
   turn1 (suc n) false [] [] = turn2 n false [] []
 
+  -- "Field 2: its pair under 0xFD; else, 608 padding on, F9 80 80; else nothing."
   pub turn2 : ℕ → Bool → List Pair → List Pair → Turned
   turn2 zero pad q1 q2 = record { out = []; queue1 = q1; queue2 = q2; next1 = false }
   turn2 (suc n) pad q1 (pair a b ∷ q2) = sentBefore (tri 0xFD a b) (turn1 n pad q1 q2)
@@ -97,25 +118,28 @@ unfoldable mutual
 unfoldable pub turned : ℕ → Mux → Turned
 turned n s = cond (s .next1) (turn1 n (s .pad608) (s .queue1) (s .queue2)) (turn2 n (s .pad608) (s .queue1) (s .queue2))
 
--- "packet triples ..: 0xFF first, 0xFE after, an odd last one filled with 0x00"
+-- of what follows a packet's first two bytes: "0xFE after, an odd last one filled with 0x00"
 unfoldable pub continued : List ℕ → List Triple
 continued [] = []
 continued (a ∷ []) = tri 0xFE a 0x00 ∷ []
 continued (a ∷ b ∷ d) = tri 0xFE a b ∷ continued d
 
+-- of a packet's bytes: "0xFF first, 0xFE after, an odd last one filled with 0x00"
 unfoldable pub started : List ℕ → List Triple
 started [] = []
 started (a ∷ []) = tri 0xFF a 0x00 ∷ []
 started (a ∷ b ∷ d) = tri 0xFF a b ∷ continued d
 
+-- the "packet triples" of a packet: of its header and its blocks
 unfoldable pub packetTriples : Packet → List Triple
 packetTriples p = started (packetHeader p ∷ writtenBlocks (p .blocks))
 
--- "packet triples not yet sent, the packet being sent included"
+-- how many triples the queued packets are
 unfoldable pub triplesQueued : List Packet → ℕ
 triplesQueued [] = 0
 triplesQueued (p ∷ ps) = length (packetTriples p) + triplesQueued ps
 
+-- "packet triples not yet sent, the packet being sent included"
 abbrev pub unsent : Mux → ℕ
 unsent s = length (s .sending) + triplesQueued (s .packets)
 
@@ -129,10 +153,11 @@ pub record Sent : Type 0 where
   pub sending : List Triple
   pub packets : List Packet
 
+-- triples sent before those that are sent next
 abbrev pub behind : List Triple → Sent → Sent
 behind ts r = record { out = ts ++ r .out; sending = r .sending; packets = r .packets }
 
--- "Then packet triples up to the count": m of them, of the packet being sent first; "Place 1 leaves next"
+-- "Then packet triples up to the count": m of them, of the packet being sent first; "Place 1 leaves next; places come free as items leave."
 unfoldable pub send : ℕ → List Triple → List Packet → Sent
 send m ts [] = record { out = take m ts; sending = drop m ts; packets = [] }
 send m ts (p ∷ ps) =
@@ -148,6 +173,7 @@ pub record Framed : Type 0 where
   pub frame : Frame
   pub next : Mux
 
+-- the frame of n, with the triples of the turns, the packet triples and the padding; and what these leave of the multiplexer
 unfoldable pub framed : ℕ → Turned → Sent → Mux → Framed
 framed n t o s =
     record {

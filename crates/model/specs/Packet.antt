@@ -8,6 +8,7 @@ use lib.ListN.{length, getD, set, drop}
 use Rattle.model.specs.Said.{Outcome, gave, refused, isGiven, andThen, mapped, lengthMismatch, wouldOverflow, readOnly, emptyService, badNumber, badRun}
 use Rattle.model.specs.Block.{Block, mostPayload, headerLength, blockSize, blockIn, readBlock, writtenBlock, blockLength, blockRoom, withRun}
 
+-- a packet: "sequence number, blocks"
 pub record Packet : Type 0 where
   pub sequence : ℕ
   pub blocks : List Block
@@ -16,16 +17,16 @@ pub record Packet : Type 0 where
 unfoldable pub newPacket : ℕ → Outcome Packet
 newPacket q = cond (ltb 3 q) (refused badNumber) (gave (record { sequence = q; blocks = [] }))
 
--- "Packet header: top two bits sequence; low six bits n."
+-- "Packet header: top two bits sequence"
 abbrev pub sequenceIn : ℕ → ℕ
 sequenceIn h = h / 64 % 4
 
--- "n = 0 means 128 bytes in all, otherwise 2n, header included."
+-- "low six bits n. n = 0 means 128 bytes in all, otherwise 2n, header included."
 unfoldable pub packetSize : ℕ → ℕ
 packetSize h = cond (eqb (h % 64) 0) 128 (2 * (h % 64))
 
 -- "A block read without payload, or of number 0 whatever its size, moves on by one byte; its advertised size must still be present.
--- Any other moves on by its written length."
+-- Any other moves on by its written length. So a two-byte header carrying 1 to 6 moves one byte too few."
 unfoldable pub plainMove : List ℕ → ℕ
 plainMove d = cond (eqb (length (blockIn d .payload)) 0) 1 (blockLength (blockIn d))
 
@@ -44,7 +45,7 @@ blocksFrom move passed [] = gave []
 blocksFrom move (suc passed) (x ∷ d) = blocksFrom move passed d
 blocksFrom move zero (x ∷ d) = andThen (readBlock (x ∷ d)) (λ b. mapped (kept b) (blocksFrom move (move (x ∷ d) - 1) d))
 
--- A packet reader: how far a block moves on, and which length is wrong where the header says `size`.
+-- A packet reader, by how far a block moves on and by which length is wrong where the header says `size`; it "refuses 1 for no data (1, 0)".
 unfoldable pub readBy : (List ℕ → ℕ) → (ℕ → ℕ → Bool) → List ℕ → Outcome Packet
 readBy move wrong d =
     let size = packetSize (getD d 0 0) in
@@ -60,51 +61,64 @@ readPacket d = readBy plainMove ltb d
 unfoldable pub readTidy : List ℕ → Outcome Packet
 readTidy d = readBy tidyMove (λ size actual. not (eqb size actual)) d
 
--- whether bytes "read as one"
+-- whether bytes "become a packet if they read as one"
 unfoldable pub reads : List ℕ → Bool
 reads d = isGiven (readPacket d)
 
+-- the sum of the lengths of blocks
 unfoldable pub blocksLength : List Block → ℕ
 blocksLength [] = 0
 blocksLength (b ∷ bs) = blockLength b + blocksLength bs
 
--- "An empty packet has length 0"
+-- "An empty packet has length 0"; any other has the header's byte and its blocks' lengths.
 unfoldable pub packetLength : Packet → ℕ
 packetLength p = cond (eqb (length (p .blocks)) 0) 0 (1 + blocksLength (p .blocks))
 
+-- blocks as they are written, one behind the other
 unfoldable pub writtenBlocks : List Block → List ℕ
 writtenBlocks [] = []
 writtenBlocks (b ∷ bs) = writtenBlock b ++ writtenBlocks bs
 
--- "Writing a packet: header with n = (length + 1) / 2 kept to six bits, the blocks, one 0x00 if the length is odd." An empty packet
--- "writes one byte".
+-- "header with n = (length + 1) / 2 kept to six bits"
 unfoldable pub packetHeader : Packet → ℕ
 packetHeader p = p .sequence * 64 + (packetLength p + 1) / 2 % 64
 
+-- "one 0x00 if the length is odd"
 unfoldable pub fill : ℕ → List ℕ
 fill n = cond (eqb (n % 2) 1) (0x00 ∷ []) []
 
+-- "Writing a packet: header with n = (length + 1) / 2 kept to six bits, the blocks, one 0x00 if the length is odd. An empty packet has length 0
+-- and writes one byte."
 unfoldable pub writtenPacket : Packet → List ℕ
 writtenPacket p = packetHeader p ∷ (writtenBlocks (p .blocks) ++ fill (packetLength p))
 
--- "Room of a packet is 128 minus its length."
+-- the most bytes of a packet: "n = 0 means 128 bytes in all", and no header says more
 abbrev pub mostPacket : ℕ
 mostPacket = 128
 
+-- "Room of a packet is 128 minus its length."
 abbrev pub packetRoom : Packet → ℕ
 packetRoom p = mostPacket - packetLength p
 
--- A packet that breaks no limit: "a packet holding a block 0 or a block without payload" does.
+-- A block that may stand in a packet: neither "a block 0" nor "a block without payload", and within the limits of a block.
 unfoldable pub carriable : Block → Bool
 carriable b = (leb 1 (b .number) && leb (b .number) 63) && (leb 1 (length (b .payload)) && leb (length (b .payload)) mostPayload)
 
+-- every one of the blocks may stand in a packet
 unfoldable pub allCarriable : List Block → Bool
 allCarriable [] = true
 allCarriable (b ∷ bs) = carriable b && allCarriable bs
 
+-- A packet that breaks no limit: "sequence above 3", "a packet holding a block 0 or a block without payload" and a length above 128 do.
 unfoldable pub validPacket : Packet → Bool
 validPacket p = leb (p .sequence) 3 && allCarriable (p .blocks) && leb (packetLength p) mostPacket
 
+-- every one of the packets passes a test
+unfoldable pub allPackets : (Packet → Bool) → List Packet → Bool
+allPackets test [] = true
+allPackets test (p ∷ ps) = test p && allPackets test ps
+
+-- the packet with other blocks
 abbrev pub withBlocks : List Block → Packet → Packet
 withBlocks bs p = record { sequence = p .sequence; blocks = bs }
 
@@ -124,17 +138,20 @@ pushNew n run p =
     (cond (ltb (packetRoom p) (blockLength b)) (refused (wouldOverflow (blockLength b - packetRoom p)))
     (gave (withBlocks (p .blocks ++ (b ∷ [])) p))))
 
+-- what stands for the block at a place that has none
 abbrev pub noBlock : Block
 noBlock = record { number = 0; payload = [] }
 
+-- the block at place i, from 0
 abbrev pub blockAt : Packet → ℕ → Block
 blockAt p i = getD (p .blocks) i noBlock
 
--- "the latest block of that number": its place among the first k blocks
+-- among the first k blocks, the last place with a block of number n
 unfoldable pub latestOf : ℕ → ℕ → List Block → Option ℕ
 latestOf n zero bs = none
 latestOf n (suc k) bs = cond (eqb (getD bs k noBlock .number) n) (some k) (latestOf n k bs)
 
+-- where "the latest block of that number" stands
 abbrev pub latest : ℕ → Packet → Option ℕ
 latest n p = latestOf n (length (p .blocks)) (p .blocks)
 
@@ -142,7 +159,8 @@ latest n p = latestOf n (length (p .blocks)) (p .blocks)
 abbrev pub extended : ℕ → List ℕ → Packet → Packet
 extended i run p = withBlocks (set (p .blocks) i (withRun run (blockAt p i))) p
 
--- "a lack of room in the packet then refuses"
+-- A run pushed to the block at place i: it "tests the packet first and then the block". Where the block has room, only "a lack of room in the
+-- packet then refuses".
 unfoldable pub pushAt : ℕ → List ℕ → Packet → Outcome Packet
 pushAt i run p =
     cond (ltb (packetRoom p) (length run)) (refused (wouldOverflow (length run - packetRoom p)))

@@ -1,6 +1,7 @@
--- Sequences of calls on a multiplexer, and on a demultiplexer that is emptied after each frame. Assumes nothing.
+-- Sequences of calls on a multiplexer, and on a demultiplexer that is emptied after each frame. The quotations in this file are of demand 3, of
+-- which document 01 says that it "is read over demand 2's layouts". Assumes nothing.
 use mathlib.Core.Path.{_≡_}
-use mathlib.Core.Bool.{Bool, true, false, cond, not, _&&_, _||_}
+use mathlib.Core.Bool.{Bool, true, cond, not, _&&_, _||_}
 use mathlib.Core.List.{List, [], _∷_, _++_}
 use Prim.Native.Nat.{ℕ, zero, suc, _+_, _≤_}
 use lib.Dec.{eqb}
@@ -27,16 +28,30 @@ pub record Run : Type 0 where
   pub pairs2 : List Pair
   pub last : Mux
 
+-- one item under a test, else none
 abbrev pub onlyIf : {A : Type 0} → Bool → A → List A
 onlyIf b x = cond b (x ∷ []) []
 
+-- what one call does
 unfoldable pub call : Call → Mux → Run
-call (pushes p) s = record { frames = []; packets = onlyIf (isGiven (pushPacket p s) && not (eqb (length (p .blocks)) 0)) p; pairs1 = []; pairs2 = []; last = after s (pushPacket p s) }
-call (pushes608 (field1 x)) s = record { frames = []; packets = []; pairs1 = onlyIf (isGiven (pushPair x (s .queue1))) x; pairs2 = []; last = after s (pushCea608 (field1 x) s) }
-call (pushes608 (field2 x)) s = record { frames = []; packets = []; pairs1 = []; pairs2 = onlyIf (isGiven (pushPair x (s .queue2))) x; last = after s (pushCea608 (field2 x) s) }
+call (pushes p) s =
+    record {
+      frames = [];
+      packets = onlyIf (isGiven (pushPacket p s) && not (eqb (length (p .blocks)) 0)) p;
+      pairs1 = [];
+      pairs2 = [];
+      last = after s (pushPacket p s);
+    }
+call (pushes608 (field1 x)) s =
+    record { frames = []; packets = []; pairs1 = onlyIf (isGiven (pushPair x (s .queue1))) x; pairs2 = []; last = after s (pushCea608 (field1 x) s) }
+call (pushes608 (field2 x)) s =
+    record { frames = []; packets = []; pairs1 = []; pairs2 = onlyIf (isGiven (pushPair x (s .queue2))) x; last = after s (pushCea608 (field2 x) s) }
 call (pads a b) s = record { frames = []; packets = []; pairs1 = []; pairs2 = []; last = withPads a b s }
-call (writes b) s = let w : Framed = writeFrame b s in record { frames = frameBytes (w .frame) ∷ []; packets = []; pairs1 = []; pairs2 = []; last = w .next }
+call (writes b) s =
+    let w : Framed = writeFrame b s in
+    record { frames = frameBytes (w .frame) ∷ []; packets = []; pairs1 = []; pairs2 = []; last = w .next }
 
+-- what calls do, one after the other
 unfoldable pub run : List Call → Mux → Run
 run [] s = record { frames = []; packets = []; pairs1 = []; pairs2 = []; last = s }
 run (c ∷ cs) s =
@@ -44,7 +59,7 @@ run (c ∷ cs) s =
     let r = run cs (k .last) in
     record { frames = k .frames ++ r .frames; packets = k .packets ++ r .packets; pairs1 = k .pairs1 ++ r .pairs1; pairs2 = k .pairs2 ++ r .pairs2; last = r .last }
 
--- "an accepted rate": what its budgets are
+-- What the budgets of "an accepted rate" are bounded by. Budgets that no rate has are within these bounds too.
 pub record Accepted (b : Budgets) : Type 0 where
   pub some-pair : 1 ≤ b .pairs
   pub apart : b .pairs + 4 ≤ b .triples
@@ -57,6 +72,7 @@ AllowedCall (pushes608 x) s = Unit {0}
 AllowedCall (pads a b) s = Unit {0}
 AllowedCall (writes b) s = Accepted b × (s .pad608 || s .padOut ≡ true)
 
+-- each call is allowed at the multiplexer that it meets
 abbrev pub Allowed : List Call → Mux → Type 0
 Allowed [] s = Unit {0}
 Allowed (c ∷ cs) s = AllowedCall c s × Allowed cs (call c s .last)
@@ -73,6 +89,7 @@ pub record Draws : Type 0 where
   pub items : List Item
   pub last : Demux
 
+-- n draws, one after the other
 unfoldable pub drawTimes : ℕ → Demux → Draws
 drawTimes zero d = record { items = []; last = d }
 drawTimes (suc n) d = let r = drawTimes n (draw d .next) in record { items = draw d .item ∷ r .items; last = r .last }
@@ -96,12 +113,13 @@ readFrames (f ∷ fs) d =
     let r = readFrames fs (emptied (t .next)) in
     record { answers = t .answer ∷ r .answers; pairs = t .next .pairs ++ r .pairs; packets = t .next .waiting ++ r .packets; last = r .last }
 
--- the pairs of each field
+-- the pairs of field 1
 unfoldable pub ofField1 : List Cea608 → List Pair
 ofField1 [] = []
 ofField1 (field1 x ∷ xs) = x ∷ ofField1 xs
 ofField1 (field2 x ∷ xs) = ofField1 xs
 
+-- the pairs of field 2
 unfoldable pub ofField2 : List Cea608 → List Pair
 ofField2 [] = []
 ofField2 (field1 x ∷ xs) = ofField2 xs

@@ -1,4 +1,5 @@
--- What a call answers: document 01, "What comes back". Assumes nothing.
+-- What a call answers: document 01, "What comes back". Of several refusals that a call could give, "11 comes first, then 6, 7, 8, then the
+-- Rust's own, then 10; 9 is last." Each call of this folder tests in that order. Assumes nothing.
 use mathlib.Core.Bool.{Bool, true, false, cond}
 use mathlib.Core.List.{List, [], _∷_, _++_}
 use Prim.Native.Nat.{ℕ}
@@ -10,6 +11,7 @@ pub record Said : Type 0 where
   pub number : ℕ
   pub values : List ℕ
 
+-- 0: accepted, with the values that the call gives
 abbrev pub accepted : List ℕ → Said
 accepted values = record { number = 0; values = values }
 
@@ -33,7 +35,7 @@ readOnly = record { number = 4; values = [] }
 abbrev pub emptyService : Said
 emptyService = record { number = 5; values = [] }
 
--- 6: "an argument: sequence above 3, service above 63"
+-- 6: "an argument: sequence above 3, service above 63; the Rust panics"
 abbrev pub badNumber : Said
 badNumber = record { number = 6; values = [] }
 
@@ -53,7 +55,8 @@ outShort needed = record { number = 9; values = needed ∷ [] }
 abbrev pub full : Said
 full = record { number = 10; values = [] }
 
--- 11: "a state, packet or block whose counts, numbers or lengths break this page's limits"
+-- 11: "a state, packet or block whose counts, numbers or lengths break this page's limits; a block 0 with payload; a packet holding a block 0
+-- or a block without payload"
 abbrev pub badValue : Said
 badValue = record { number = 11; values = [] }
 
@@ -68,9 +71,11 @@ module _ {A : Type 0} where
   saysWith values (gave x) = accepted (values x)
   saysWith values (refused why) = why
 
+  -- what an outcome says whose value is not told
   abbrev pub says : Outcome A → Said
   says o = saysWith (λ _. []) o
 
+  -- whether a call is accepted
   abbrev pub isGiven : Outcome A → Bool
   isGiven (gave x) = true
   isGiven (refused why) = false
@@ -80,7 +85,7 @@ module _ {A : Type 0} where
   after old (gave new) = new
   after old (refused why) = old
 
-  -- "11 comes first, then 6, 7, 8, then the Rust's own, then 10; 9 is last."
+  -- "11 comes first": a call on a value that breaks a limit is refused, whatever else it would answer
   abbrev pub checked : Bool → Outcome A → Outcome A
   checked valid o = cond valid o (refused badValue)
 
@@ -94,10 +99,12 @@ module _ {A B : Type 0} where
   andThen (gave x) next = next x
   andThen (refused why) next = refused why
 
+  -- what a call gives, made into another value; a refusal stays what it is
   abbrev pub mapped : (A → B) → Outcome A → Outcome B
   mapped f (gave x) = gave (f x)
   mapped f (refused why) = refused why
 
--- Bytes written to a lent output: 9 with the length that would be written; else "output bytes past the written length are unchanged"
+-- Bytes written to a lent output: 9 where it is "shorter than what would be written", with that length; else "output bytes past the written
+-- length are unchanged".
 unfoldable pub putInto : List ℕ → List ℕ → Outcome (List ℕ)
 putInto out bytes = cond (ltb (length out) (length bytes)) (refused (outShort (length bytes))) (gave (bytes ++ drop (length bytes) out))

@@ -3,17 +3,19 @@ use mathlib.Core.Path.{_≡_, refl, sym, ap, ap₂, _∙_}
 use mathlib.Core.List.{List, [], _∷_, _++_, map, append-nil, append-assoc}
 use Prim.Native.Nat.{ℕ, zero, suc, _+_, _-_, _≤_, _<_}
 use native.Mathlib.Nat.{zero-add}
+use native.Mathlib.Numerals.{add-one}
 use native.Mathlib.Omega.{arith}
 use lib.ListN.{length, take, drop, getD, set, length-append, length-set, take-append-drop, List·getD-map}
-use lib.Seq.{sets, length-take-le, drop-drop, getD-take, map-set-same, take-set-lt, drop-set-lt}
+use lib.Seq.{sets, length-take-le, drop-drop, take-nil, getD-take, map-set-same, take-set-lt, drop-set-lt}
 use Rattle.model.specs.Block.{Block, withRun}
 use Rattle.model.specs.Packet.{noBlock, withBlocks, blockAt, extended}
 use Rattle.service.proofs.Runs.{sets-front, sets-append}
 use Rattle.packet.specs.declared.DTVCCPacket.{DTVCCPacket}
-use Rattle.packet.specs.Packet.{Entry, entriesOf, cut, usedBy, packetOf, over, numbersOf, sizesOf, payloadsOf}
+use Rattle.packet.specs.Packet.{Entry, Sized, entries, entriesOf, cut, usedBy, packetOf, over, numbersOf, sizesOf, payloadsOf, appendedTo}
+use Rattle.packet.specs.Extent.{sumOf}
 use Rattle.packet.proofs.Entries.{entries-length, entries-numbers, entries-sizes, cut-numbers, cut-sizes, cut-payloads}
 use Rattle.packet.proofs.Reading.{map-append, payloads-append}
-use Rattle.packet.proofs.Holds.{Places, Within, used-fits, blocks-count}
+use Rattle.packet.proofs.Holds.{Places, Within, within-facts, used-fits, blocks-count}
 
 -- the front of a list laid over itself changes nothing; a run behind it is laid there
 sets-own : (l : List ℕ) (k : ℕ) → k ≤ length l → sets l 0 (take k l) ≡ l
@@ -129,3 +131,29 @@ module _ (p : DTVCCPacket) (w : Within p) (places : Places p) (i : ℕ) (there :
       let fs : sets (p .payload) 0 (payloadsOf (set bs i b)) ≡ sets (sets (p .payload) before run) (before + length run) (take (usedBy (entriesOf p) - before) (drop before (p .payload))) =
           rw ds (sets-behind (p .payload) _ before (omega (arith, used-fits p w places)) ∙ sets-append run _ (p .payload) before) in
       rw (c, ns, ss, fs)
+
+-- the payloads before a place, by the sizes alone
+used-sum : (j k : ℕ) (ns ss : List ℕ) → j ≤ k → usedBy (take j (entries k ns ss)) ≡ sumOf (take j ss)
+unfolding usedBy entries sumOf
+used-sum zero k ns ss h = refl
+used-sum (suc j) zero ns ss h = absurd (omega arith)
+used-sum (suc j) (suc k) ns [] h = zero-add _ ∙ used-sum j k (drop 1 ns) [] (omega arith) ∙ rw (take-nil {A = ℕ} j)
+used-sum (suc j) (suc k) ns (s ∷ ss) h = ap (λ n. s + n) (used-sum j k (drop 1 ns) ss (omega arith))
+
+-- what the two pushes leave, as the code makes it
+module _ (p : DTVCCPacket) (lengths used : ℕ) (s : Sized p lengths used) (places : Places p) where
+  pub append-as : (n k : ℕ) (run d : List ℕ) → length run ≡ k → d ≡ sets (p .payload) used run
+    → record { «seq_no» = p .«seq_no»; count = p .count + 1; numbers = set (p .numbers) (p .count) n; sizes = set (p .sizes) (p .count) k; payload = d } ≡ over p (appendedTo n run (packetOf p))
+  append-as n k run d e f = rw (f, s .used-are) (sym (appended p (within-facts p (s .valid)) places n k run e))
+
+  module _ (i : ℕ) (there : i < p .count) (before : ℕ) (is : before ≡ sumOf (take (i + 1) (p .sizes))) where
+    before-is : before ≡ usedBy (take (suc i) (entriesOf p))
+    before-is = is ∙ rw (add-one i) (sym (used-sum (suc i) (p .count) (p .numbers) (p .sizes) (omega arith)))
+
+    pub before-within : before ≤ used
+    before-within = omega (arith, before-is, s .used-are, used-parts (suc i) (entriesOf p))
+
+    pub extend-as : (v : ℕ) (run d₁ d₂ : List ℕ) → v ≡ getD (p .sizes) i 0 + length run → d₁ ≡ sets (p .payload) before run
+      → d₂ ≡ sets d₁ (before + length run) (take (used - before) (drop before (p .payload)))
+      → record { «seq_no» = p .«seq_no»; count = p .count; numbers = p .numbers; sizes = set (p .sizes) i v; payload = d₂ } ≡ over p (extended i run (packetOf p))
+    extend-as v run d₁ d₂ a b c = rw (a, c, b, s .used-are, before-is) (sym (grown-over p (within-facts p (s .valid)) places i there run))

@@ -2,14 +2,14 @@
 use mathlib.Core.Path.{_≡_}
 use mathlib.Core.Bool.{Bool, true, _&&_}
 use mathlib.Core.List.{List, [], _∷_, _++_, map}
-use Prim.Native.Nat.{ℕ, zero, suc, _+_}
+use Prim.Native.Nat.{ℕ, zero, suc, _+_, _≤_, _<_}
 use lib.Dec.{leb}
 use lib.ListN.{length, getD, take, drop, replicate}
 use lib.Seq.{sets}
 use Rattle.caption.specs.Answers.{saidAnswer}
 use Rattle.model.specs.Said.{Outcome, says, after}
 use Rattle.model.specs.Block.{Block}
-use Rattle.model.specs.Packet.{Packet}
+use Rattle.model.specs.Packet.{Packet, withBlocks}
 use Rattle.service.specs.Head.{lengthFor}
 use Rattle.packet.specs.declared.DTVCCPacket.{DTVCCPacket}
 use Rattle.packet.specs.declared.PacketAnswer.{PacketAnswer}
@@ -97,3 +97,19 @@ pub record Sized (p : DTVCCPacket) (lengths used : ℕ) : Type 0 where
   pub valid : validDTVCC p ≡ true
   pub lengths-are : lengths ≡ lengthsOf (entriesOf p)
   pub used-are : used ≡ usedBy (entriesOf p)
+
+-- the packet with one block more
+abbrev pub appendedTo : ℕ → List ℕ → Packet → Packet
+appendedTo number run p = withBlocks (p .blocks ++ (record { number = number; payload = run } ∷ [])) p
+
+-- the places that a block of k bytes needs behind the others
+pub record RoomBehind (p : DTVCCPacket) (used k : ℕ) : Type 0 where
+  pub block : p .count ≤ 62
+  pub bytes : used + k ≤ 127
+  pub small : k ≤ 31
+
+-- the places that k bytes more need in the block at place i
+pub record RoomAt (p : DTVCCPacket) (used i k : ℕ) : Type 0 where
+  pub there : i < p .count
+  pub bytes : used + k ≤ 127
+  pub small : getD (p .sizes) i 0 + k ≤ 31

@@ -7,10 +7,10 @@ ghost use lib.Seq.{sets};
 ghost use lib.Dec.{eqb};
 ghost use Rattle.caption.specs.Answers.{saidRefusal, saidAnswer, saidCounted, saidTruth};
 ghost use Rattle.model.specs.Said.{mapped, isGiven, measured};
-ghost use Rattle.model.specs.Packet.{packetSize, plainMove, blocksFrom, readPacket, readTidy, newPacket, packetLength, packetRoom};
+ghost use Rattle.model.specs.Packet.{packetSize, plainMove, blocksFrom, readPacket, readTidy, newPacket, packetLength, packetRoom, extended};
 ghost use Rattle.model.specs.Packet as model;
 ghost use Rattle.packet.specs.Reading.{headerOf, moveBy, moveFor, wrongLength, readAs, keptFor, behind, Laid, Stored, Room, KeepRoom};
-ghost use Rattle.packet.specs.Packet.{Answers, Sized, entries, entriesOf, cut, goodEntry, packetOf, over, laid, blank, validDTVCC};
+ghost use Rattle.packet.specs.Packet.{Answers, Sized, entries, entriesOf, cut, goodEntry, packetOf, over, laid, blank, validDTVCC, appendedTo, RoomBehind, RoomAt};
 ghost use Rattle.packet.specs.Extent.{walked, extentOf, latestIn, sumOf};
 use caption::Answer;
 use caption::Counted;
@@ -361,6 +361,61 @@ fn length_of(count: usize, lengths: usize) -> usize
         return 0;
     }
     1 + lengths
+}
+
+// A refusal of a push, with the packet as it was.
+fn refused(why: Refusal, packet: DTVCCPacket) -> PacketAnswer
+    ensures { λ r. ⌜ (saidAnswer (r .answer) ≡ saidRefusal why) × (r .packet ≡ packet) ⌝ }
+{
+    PacketAnswer {
+        answer: Answer::Refused(why),
+        packet,
+    }
+}
+
+// The packet with a block behind the others.
+fn append(packet: DTVCCPacket, lengths: usize, used: usize, number: u8, run: &[u8]) -> DTVCCPacket
+    requires { ⌜ Sized packet lengths used × RoomBehind packet used (length (now run)) ⌝ }
+    ensures { λ r. ⌜ r ≡ over packet (appendedTo number (now (run .entry)) (packetOf packet)) ⌝ }
+{
+    let count = packet.count;
+    let mut numbers = packet.numbers;
+    let mut sizes = packet.sizes;
+    let mut payload = packet.payload;
+    numbers[count] = number;
+    sizes[count] = run.len() as u8;
+    service::put_bytes(&mut payload, used, run);
+    DTVCCPacket {
+        seq_no: packet.seq_no,
+        count: count + 1,
+        numbers,
+        sizes,
+        payload,
+    }
+}
+
+// The packet whose block at `place` has taken a run: the payloads behind it move up.
+fn extend(packet: DTVCCPacket, lengths: usize, used: usize, place: usize, run: &[u8]) -> DTVCCPacket
+    requires { ⌜ Sized packet lengths used × RoomAt packet used place (length (now run)) ⌝ }
+    ensures { λ r. ⌜ r ≡ over packet (extended place (now (run .entry)) (packetOf packet)) ⌝ }
+{
+    let numbers = packet.numbers;
+    let mut sizes = packet.sizes;
+    let mut payload = packet.payload;
+    let old = packet.payload;
+    let n = run.len();
+    let before = sum_of(&sizes, place + 1);
+    let size = sizes[place];
+    sizes[place] = size + n as u8;
+    service::put_bytes(&mut payload, before, run);
+    service::put_bytes(&mut payload, before + n, &old[before..used]);
+    DTVCCPacket {
+        seq_no: packet.seq_no,
+        count: packet.count,
+        numbers,
+        sizes,
+        payload,
+    }
 }
 
 impl DTVCCPacket {

@@ -1,43 +1,47 @@
 -- What the header of a block says, by each way out of its reader. Assumes nothing.
-use mathlib.Core.Path.{_≡_, refl, sym, ap, _∙_}
+use mathlib.Core.Path.{_≡_, refl, sym, _∙_}
 use mathlib.Core.Bool.{Bool, true, false, cond, not, _&&_}
-use mathlib.Core.List.{List, [], _∷_, _++_}
+use mathlib.Core.List.{List, []}
 use Prim.Native.Nat.{ℕ, suc, _+_, _-_, _*_, _/_, _%_, _≤_, _<_}
 use native.Mathlib.Nat.{add-zero}
 use native.Mathlib.Numerals.{add-one}
 use native.Mathlib.Omega.{arith}
 use lib.Dec.{eqb, ltb}
 use lib.ListN.{length, take, drop, getD, set, length-drop, drop-of-length-le, length-set}
-use lib.Seq.{sets, getD-drop, set-out, length-take-le}
+use lib.Seq.{sets, getD-drop, set-out}
 use borrow.Author.Tests.{eq-eqb, ne-eqb, lt-ltb, le-ltb, ltb-false}
 use Rattle.model.specs.Block.{Block, topNumber, blockSize, headerLength, numberIn, needed, isShort, blockIn, partIn, writtenHeader, writtenBlock}
 use Rattle.model.proofs.Cases.{by-cond}
 use Rattle.model.proofs.Blocks.{header-one, header-two, header-bare, header-written}
 use Rattle.model.proofs.Limits.{all-there}
-use Rattle.service.specs.declared.Head.{Head}
 use Rattle.service.specs.declared.Head.the-variants.{Whole, Short}
-use Rattle.service.specs.Head.{headOf, lengthFor}
+use Rattle.service.specs.Head.{headOf}
 use Rattle.service.proofs.Runs.{sets-append}
 
 -- the header's own length
 pub two-bytes : (h : ℕ) → h / 32 % 8 ≡ 7 → (h % 32 ≡ 0 → ⊥) → 2 ≡ headerLength h
 two-bytes h t s = sym (header-two h t s)
 
+-- one byte where the number is not 7
 pub one-byte : (h : ℕ) → (h / 32 % 8 ≡ 7 → ⊥) → 1 ≡ headerLength h
 one-byte h t = sym (header-one h t)
 
+-- one byte where the size is 0
 pub bare-byte : (h : ℕ) → h % 32 ≡ 0 → 1 ≡ headerLength h
 bare-byte h s = sym (header-bare h s)
 
+-- there is always a byte
 pub header-least : (h : ℕ) → 1 ≤ headerLength h
 unfolding headerLength
 header-least h = by-cond (λ n. 1 ≤ n) (eqb (topNumber h) 7 && not (eqb (blockSize h) 0)) (λ _. omega arith) (λ _. omega arith)
 
 -- bytes from a place on
 module _ (d : List ℕ) (at : ℕ) where
+  -- the first of them
   first-of : getD (drop at d) 0 0 ≡ getD d at 0
   first-of = getD-drop at d 0 0 ∙ rw add-zero
 
+  -- the second of them
   second-of : getD (drop at d) 1 0 ≡ getD d (at + 1) 0
   second-of = getD-drop at d 1 0
 
@@ -46,6 +50,7 @@ module _ (d : List ℕ) (at : ℕ) where
   unfolding numberIn
   number-second start e t = rw (first-of, second-of, ← e, t)
 
+  -- one byte: the number is its top bits
   pub number-first : (start : ℕ) → start ≡ headerLength (getD d at 0) → (start ≡ 2 → ⊥) → getD d at 0 / 32 % 8 ≡ numberIn (drop at d)
   unfolding numberIn
   number-first start e t = rw (first-of, ← e, ne-eqb start 2 t)
@@ -56,28 +61,35 @@ module _ (d : List ℕ) (at : ℕ) where
   head-none h = rw (drop-of-length-le d h)
 
   module _ (start : ℕ) (e : start ≡ headerLength (getD d at 0)) where
+    -- the header is cut
     pub head-cut : length d - at < start → Short start ≡ headOf (drop at d)
     unfolding headOf isShort needed
     head-cut h = rw (first-of, ← e, length-drop at d) (simp (lt-ltb _ _ h))
 
+    -- the body is cut
     pub body-cut : start ≤ length d - at → length d - at < start + getD d at 0 % 32 → Short (start + getD d at 0 % 32) ≡ headOf (drop at d)
     unfolding headOf isShort needed
     body-cut k h = rw (first-of, ← e, length-drop at d) (simp (le-ltb _ _ k, lt-ltb _ _ h))
 
-    pub head-whole : (number : ℕ) → start ≤ length d - at → start + getD d at 0 % 32 ≤ length d - at → number ≡ numberIn (drop at d) → Whole number start (getD d at 0 % 32) ≡ headOf (drop at d)
+    -- all is there
+    pub head-whole : (number : ℕ) → start ≤ length d - at → start + getD d at 0 % 32 ≤ length d - at → number ≡ numberIn (drop at d)
+        → Whole number start (getD d at 0 % 32) ≡ headOf (drop at d)
     unfolding headOf isShort needed
     head-whole number k h q = rw (first-of, ← e, length-drop at d, ← q) (simp (le-ltb _ _ k, le-ltb _ _ h))
 
 -- a header laid into a list: of one byte, of two, and of two where there is room for one
 module _ (l : List ℕ) (at number size : ℕ) where
+  -- one byte
   pub laid-one : number < 7 → set l at (number * 32 + size) ≡ sets l at (writtenHeader number size)
   unfolding writtenHeader
   laid-one h = simp (lt-ltb _ _ h)
 
+  -- two bytes
   pub laid-two : 7 ≤ number → set (set l at (224 + size)) (at + 1) number ≡ sets l at (writtenHeader number size)
   unfolding writtenHeader
   laid-two h = simp (le-ltb _ _ h, add-one)
 
+  -- two bytes, of which one has room
   pub laid-cut : 7 ≤ number → length l ≤ at + 1 → set l at (224 + size) ≡ sets l at (writtenHeader number size)
   unfolding writtenHeader
   laid-cut h k = simp (le-ltb _ _ h) (sym (set-out (set l at (224 + size)) (suc at) number (rw length-set (omega arith))))
@@ -104,19 +116,23 @@ pub record Headed (d : List ℕ) (n st sz : ℕ) : Type 0 where
   pub some : 1 ≤ st
   pub small : sz ≤ 31
 
+-- no byte is missing
 not-short : (d : List ℕ) → isShort d ≡ false → needed d ≤ length d
 unfolding isShort
 not-short d e = ltb-false _ _ e
 
+-- an answer that is whole came by the second way, with these values
 whole-parts : (b : Bool) (k n st sz n′ st′ sz′ : ℕ) → cond b (Short k) (Whole n st sz) ≡ Whole n′ st′ sz′ → (b ≡ false) × (n ≡ n′) × (st ≡ st′) × (sz ≡ sz′)
 whole-parts false k n st sz n′ st′ sz′ e = (refl, cc, cc, cc)
 whole-parts true k n st sz n′ st′ sz′ e = let z : _≡_ {A = ℕ} 0 1 = cc in absurd (omega arith)
 
+-- one that is short came by the first
 short-parts : (b : Bool) (k n st sz k′ : ℕ) → cond b (Short k) (Whole n st sz) ≡ Short k′ → (b ≡ true) × (k ≡ k′)
 short-parts true k n st sz k′ e = (refl, cc)
 short-parts false k n st sz k′ e = let z : _≡_ {A = ℕ} 0 1 = cc in absurd (omega arith)
 
 module _ (d : List ℕ) where
+  -- a whole header is so
   pub headed : (n st sz : ℕ) → headOf d ≡ Whole n st sz → Headed d n st sz
   unfolding headOf
   headed n st sz e =
@@ -124,6 +140,7 @@ module _ (d : List ℕ) where
       let m = all-there d (not-short d (w .0)) in
       record { whole = w .0; number = w .1; start = w .2; size = w .3; fits = omega (arith, m, w .2, w .3); some = omega (arith, header-least (getD d 0 0), w .2); small = omega (arith, w .3) }
 
+  -- a short one misses bytes
   pub head-short : (k : ℕ) → headOf d ≡ Short k → (isShort d ≡ true) × (needed d ≡ k)
   unfolding headOf
   head-short k e = short-parts (isShort d) _ _ _ _ k e
@@ -133,10 +150,12 @@ module _ (d : List ℕ) where
   unfolding partIn
   part-short k e = simp (head-short k e .0)
 
+  -- none where the number is 0
   pub part-null : (n st sz : ℕ) → headOf d ≡ Whole n st sz → n ≡ 0 → [] ≡ partIn d
   unfolding partIn blockIn
   part-null n st sz e z = let h = headed n st sz e in simp (h .whole, h .number, eq-eqb n 0 z)
 
+  -- else the payload
   pub part-some : (n st sz : ℕ) → headOf d ≡ Whole n st sz → (n ≡ 0 → ⊥) → take sz (drop st d) ≡ partIn d
   unfolding partIn blockIn
   part-some n st sz e z = let h = headed n st sz e in simp (h .whole, h .number, ne-eqb n 0 z, h .start, h .size)

@@ -1,8 +1,8 @@
 -- What reading gives and pushing leaves is a valid block, and means what the model says; a block written is read back. Assumes nothing.
-use mathlib.Core.Path.{_≡_, refl, sym, ap, _∙_}
-use mathlib.Core.Bool.{true, false}
-use mathlib.Core.List.{List, [], _∷_, _++_}
-use Prim.Native.Nat.{ℕ, _+_, _-_, _≤_, _<_}
+use mathlib.Core.Path.{_≡_, refl, sym, ap}
+use mathlib.Core.Bool.{true}
+use mathlib.Core.List.{List, _++_}
+use Prim.Native.Nat.{ℕ, _+_, _≤_}
 use native.Mathlib.Omega.{arith}
 use lib.Dec.{eqb}
 use lib.ListN.{length, take, drop, replicate, length-append}
@@ -21,7 +21,8 @@ use Rattle.service.proofs.Services.{valid-number, valid-len, valid-null
 -- a block in its places holds the block
 pub laid-means : (b : Block) → length (b .payload) ≤ 31 → blockOf (laid b) ≡ b
 laid-means b h =
-    let e : take (length (b .payload)) (sets (replicate 31 0) 0 (b .payload)) ≡ b .payload = rw (sets-front (replicate 31 0) (b .payload) h) (take-at (b .payload) _ (length (b .payload)) refl) in
+    let e : take (length (b .payload)) (sets (replicate 31 0) 0 (b .payload)) ≡ b .payload =
+    rw (sets-front (replicate 31 0) (b .payload) h) (take-at (b .payload) _ (length (b .payload)) refl) in
     ap (λ (p : List ℕ). record { number = b .number; payload = p }) e
 
 -- a run laid behind the payload is pushed
@@ -38,16 +39,17 @@ pub laid-valid : (b : Block) → validBlock b ≡ true → validService (laid b)
 unfolding validBlock validService
 laid-valid b e = e
 
--- "what a reader gives is valid"
+-- what the reader gives breaks no limit
 pub parsed-valid : (d : List ℕ) {b : Block} → readBlock d ≡ gave b → validService (laid b) ≡ true
 parsed-valid d {b} e = laid-valid b (read-valid d e)
 
--- "validity is kept by every push"
+-- nor does what a push leaves
 pub pushed-valid : (run : List ℕ) (s : Service) → validService s ≡ true → (s .number ≡ 0 → ⊥) → s .len + length run ≤ 31 → validService (withRunLaid run s) ≡ true
 pushed-valid run s v n fits = sym (named-valid (withRunLaid run s) (valid-number s v) fits n)
 
 -- a block with a payload that is written is read back, whatever follows it
-pub written-back : (s : Service) (rest : List ℕ) → validService s ≡ true → length (s .payload) ≡ 31 → 1 ≤ s .len → readBlock (writtenBlock (blockOf s) ++ rest) ≡ gave (blockOf s)
+pub written-back : (s : Service) (rest : List ℕ) → validService s ≡ true → length (s .payload) ≡ 31 → 1 ≤ s .len
+    → readBlock (writtenBlock (blockOf s) ++ rest) ≡ gave (blockOf s)
 written-back s rest v places some =
     let n : length (take (s .len) (s .payload)) ≡ s .len = payload-length s _ refl places v in
     let named : 1 ≤ s .number = by-test (eqb (s .number) 0) (λ e. absurd (omega (arith, valid-null s v (eqb-true (s .number) 0 e)))) (λ e. omega (arith, eqb-false (s .number) 0 e)) in

@@ -1,20 +1,20 @@
 -- What the functions of a `Service` answer, by each way out of them. Assumes nothing.
 use mathlib.Core.Path.{_≡_, refl, sym, ap, _∙_}
 use mathlib.Core.Bool.{Bool, true, false, cond, not, _&&_, _||_}
-use mathlib.Core.List.{List, [], _∷_, _++_}
-use Prim.Native.Nat.{ℕ, _+_, _-_, _*_, _%_, _≤_, _<_}
+use mathlib.Core.List.{List, [], _∷_}
+use Prim.Native.Nat.{ℕ, _+_, _-_, _%_, _≤_, _<_}
 use native.Mathlib.Nat.{zero-add}
 use native.Mathlib.Omega.{arith}
 use lib.Dec.{eqb, leb, ltb}
 use lib.ListN.{length, take, drop, replicate, length-drop}
 use lib.Seq.{sets, length-take-le}
-use borrow.Author.Tests.{eq-eqb, ne-eqb, le-leb, lt-leb, lt-ltb, le-ltb, leb-true, eqb-true, eqb-false, ltb-true, ltb-false, not-true}
+use borrow.Author.Tests.{eq-eqb, ne-eqb, le-leb, lt-leb, lt-ltb, le-ltb, leb-true, eqb-true, eqb-false}
 use Rattle.caption.specs.declared.Counted.{Counted}
 use Rattle.caption.specs.Answers.{saidAnswer, saidCounted}
-use Rattle.model.specs.Said.{Said, Outcome, gave, refused, says, after, mapped, checked, measured, putInto, accepted, badValue, badNumber, badRun, readOnly, wouldOverflow, lengthMismatch, outShort}
-use Rattle.model.specs.Block.{Block, newBlock, readBlock, isShort, needed, blockIn, pushToBlock, writtenHeader, writtenBlock, blockLength}
+use Rattle.model.specs.Said.{Said, Outcome, gave, refused, says, after, mapped, measured, putInto, accepted, badValue, badNumber, badRun, readOnly, wouldOverflow, lengthMismatch, outShort}
+use Rattle.model.specs.Block.{newBlock, readBlock, blockIn, pushToBlock, writtenHeader, writtenBlock, blockLength}
 use Rattle.model.proofs.Cases.{by-test, by-cond, both}
-use Rattle.model.proofs.Blocks.{block-length, block-length-none, header-written, written-length}
+use Rattle.model.proofs.Blocks.{block-length, block-length-none, written-length}
 use Rattle.service.specs.declared.Service.{Service}
 use Rattle.service.specs.declared.ServiceAnswer.{ServiceAnswer}
 use Rattle.service.specs.declared.Head.the-variants.{Whole, Short}
@@ -24,10 +24,13 @@ use Rattle.service.proofs.Runs.{sets-front}
 use Rattle.service.proofs.Heads.{headed, head-short, laid-block}
 
 -- an answer that refuses, and one that gives
-pub refuses : (o : Outcome Service) (beside : Service) (why : Said) (r : ServiceAnswer) → o ≡ refused why → saidAnswer (r .answer) ≡ why → r .service ≡ beside → Answers o beside r
+pub refuses : (o : Outcome Service) (beside : Service) (why : Said) (r : ServiceAnswer) → o ≡ refused why → saidAnswer (r .answer) ≡ why
+    → r .service ≡ beside → Answers o beside r
 refuses o beside why r e a s = record { answer = a ∙ ap says (sym e); service = s ∙ ap (after beside) (sym e) }
 
-pub gives : (o : Outcome Service) (beside given : Service) (r : ServiceAnswer) → o ≡ gave given → saidAnswer (r .answer) ≡ accepted [] → r .service ≡ given → Answers o beside r
+-- one that gives
+pub gives : (o : Outcome Service) (beside given : Service) (r : ServiceAnswer) → o ≡ gave given → saidAnswer (r .answer) ≡ accepted []
+    → r .service ≡ given → Answers o beside r
 gives o beside given r e a s = record { answer = a ∙ ap says (sym e); service = s ∙ ap (after beside) (sym e) }
 
 -- a header is written in at most two bytes
@@ -35,10 +38,13 @@ pub header-most : (n start : ℕ) → start ≡ cond (ltb n 7) 1 2 → start ≤
 header-most n start e = rw e (by-cond (λ k. k ≤ 2) (ltb n 7) (λ _. omega arith) (λ _. omega arith))
 
 -- a block and the places that it is laid in
-pub laid-as : (n k : ℕ) (p q : List ℕ) → length q ≡ k → p ≡ sets (replicate 31 0) 0 q → _≡_ {A = Service} (record { number = n; len = k; payload = p }) (laid (record { number = n; payload = q }))
+pub laid-as : (n k : ℕ) (p q : List ℕ) → length q ≡ k → p ≡ sets (replicate 31 0) 0 q
+    → _≡_ {A = Service} (record { number = n; len = k; payload = p }) (laid (record { number = n; payload = q }))
 laid-as n k p q e f = rw (← e, f)
 
-pub pushed-as : (s : Service) (run p : List ℕ) → p ≡ sets (s .payload) (s .len) run → _≡_ {A = Service} (record { number = s .number; len = s .len + length run; payload = p }) (withRunLaid run s)
+-- and the places of a block that a run was laid into
+pub pushed-as : (s : Service) (run p : List ℕ) → p ≡ sets (s .payload) (s .len) run
+    → _≡_ {A = Service} (record { number = s .number; len = s .len + length run; payload = p }) (withRunLaid run s)
 pushed-as s run p e = rw e
 
 -- a new block
@@ -46,24 +52,29 @@ pub new-bad : (n : ℕ) → 63 < n → mapped laid (newBlock n) ≡ refused badN
 unfolding newBlock
 new-bad n h = simp (lt-ltb _ _ h)
 
+-- any other number makes one
 pub new-good : (n : ℕ) → n ≤ 63 → mapped laid (newBlock n) ≡ gave (laid (record { number = n; payload = [] }))
 unfolding newBlock
 new-good n h = simp (le-ltb _ _ h)
 
 -- the test of the limits, in its order
 module _ (s : Service) where
+  -- a number above 63 fails it
   pub over-number : 63 < s .number → false ≡ validService s
   unfolding validService
   over-number h = simp (lt-leb _ _ h)
 
+  -- a length above 31 fails it
   pub over-length : s .number ≤ 63 → 31 < s .len → false ≡ validService s
   unfolding validService
   over-length k h = simp (le-leb _ _ k, lt-leb _ _ h)
 
+  -- number 0 passes without payload
   pub null-valid : s .number ≤ 63 → s .len ≤ 31 → s .number ≡ 0 → eqb (s .len) 0 ≡ validService s
   unfolding validService
   null-valid k h z = simp (le-leb _ _ k, le-leb _ _ h, eq-eqb _ _ z)
 
+  -- any other number passes
   pub named-valid : s .number ≤ 63 → s .len ≤ 31 → (s .number ≡ 0 → ⊥) → true ≡ validService s
   unfolding validService
   named-valid k h z = simp (le-leb _ _ k, le-leb _ _ h, ne-eqb _ _ z)
@@ -73,36 +84,46 @@ module _ (s : Service) where
   unfolding validService
   valid-both e = both (leb (s .number) 63 && leb (s .len) 31) (not (eqb (s .number) 0) || eqb (s .len) 0) e
 
+  -- the number is at most 63
   pub valid-number : validService s ≡ true → s .number ≤ 63
   valid-number e = leb-true _ _ (both (leb (s .number) 63) (leb (s .len) 31) (valid-both e .0) .0)
 
+  -- the length is at most 31
   pub valid-len : validService s ≡ true → s .len ≤ 31
   valid-len e = leb-true _ _ (both (leb (s .number) 63) (leb (s .len) 31) (valid-both e .0) .1)
 
+  -- number 0 has no payload
   pub valid-null : validService s ≡ true → s .number ≡ 0 → s .len ≡ 0
   valid-null e z = let w : eqb (s .len) 0 ≡ true = simp (eq-eqb _ _ z) at (valid-both e .1) in eqb-true _ _ w
 
 -- a block whose payload has its 31 places, and what the test of its limits answered
 module _ (s : Service) (v : Bool) (is : v ≡ validService s) where
+  -- the length is at most 31
   pub small-len : v ≡ true → s .len ≤ 31
   small-len e = valid-len s (sym is ∙ e)
 
+  -- a number asked of a block that breaks a limit
   pub measure-bad : (n : ℕ) → v ≡ false → badValue ≡ measured (validService s) n
   measure-bad n e = rw (← is, e)
 
+  -- and of one that breaks none
   pub measure-good : (n k : ℕ) → v ≡ true → n ≡ k → accepted (n ∷ []) ≡ measured (validService s) k
   measure-good n k e q = rw (← is, e, q)
 
   module _ (places : length (s .payload) ≡ 31) where
+    -- the payload is as long as the block says
     pub payload-length : v ≡ true → length (take (s .len) (s .payload)) ≡ s .len
     payload-length e = length-take-le (s .len) (s .payload) (omega (arith, small-len e))
 
+    -- its room
     pub measure-room : v ≡ true → accepted ((31 - s .len) ∷ []) ≡ measured (validService s) (31 - length (take (s .len) (s .payload)))
     measure-room e = measure-good _ _ e (ap (λ n. 31 - n) (sym (payload-length e)))
 
+    -- whether it is empty
     pub measure-empty : v ≡ true → accepted (cond (eqb (s .len) 0) 1 0 ∷ []) ≡ measured (validService s) (cond (eqb (length (take (s .len) (s .payload))) 0) 1 0)
     measure-empty e = measure-good _ _ e (ap (λ n. cond (eqb n 0) 1 0) (sym (payload-length e)))
 
+    -- how long it is written
     pub payload-written : v ≡ true → length (writtenBlock (blockOf s)) ≡ cond (ltb (s .number) 7) 1 2 + s .len
     payload-written e = written-length (blockOf s) ∙ ap (λ n. cond (ltb (s .number) 7) 1 2 + n) (payload-length e)
 
@@ -115,47 +136,59 @@ module _ (s : Service) (v : Bool) (is : v ≡ validService s) where
         (λ z. let some : 1 ≤ length (take (s .len) (s .payload)) = omega (arith, payload-length e, eqb-false (s .len) 0 z) in
         simp z (sym (block-length (blockOf s) some ∙ payload-written e)))
 
+    -- its length
     pub measure-length : (n : ℕ) → v ≡ true → n ≡ lengthFor (s .number) (s .len) → accepted (n ∷ []) ≡ measured (validService s) (blockLength (blockOf s))
     measure-length n e q = measure-good _ _ e (q ∙ length-for e)
 
     -- a run pushed, in the order of the refusals
     module _ (run : List ℕ) where
+      -- 11: the block breaks a limit
       pub push-invalid : v ≡ false → pushed run s ≡ refused badValue
       push-invalid e = rw (← is, e)
 
       module _ (e : v ≡ true) where
+        -- 7: the run has no bytes
         pub push-empty : length run ≡ 0 → pushed run s ≡ refused badRun
         unfolding pushToBlock
         push-empty z = rw (← is, e) (simp (eq-eqb _ _ z))
 
+        -- 4: the run is for service 0
         pub push-null : (length run ≡ 0 → ⊥) → s .number ≡ 0 → pushed run s ≡ refused readOnly
         unfolding pushToBlock
         push-null n z = rw (← is, e) (simp (ne-eqb _ _ n, eq-eqb _ _ z))
 
+        -- 3: the run does not fit
         pub push-over : (length run ≡ 0 → ⊥) → (s .number ≡ 0 → ⊥) → 31 - s .len < length run → pushed run s ≡ refused (wouldOverflow (length run - (31 - s .len)))
         unfolding pushToBlock
         push-over n m h = rw (← is, e) (simp (ne-eqb _ _ n, ne-eqb _ _ m, payload-length e, lt-ltb _ _ h))
 
+        -- accepted: the run stands behind the payload
         pub push-fits : (length run ≡ 0 → ⊥) → (s .number ≡ 0 → ⊥) → length run ≤ 31 - s .len → pushed run s ≡ gave (withRunLaid run s)
         unfolding pushToBlock
         push-fits n m h = rw (← is, e) (simp (ne-eqb _ _ n, ne-eqb _ _ m, payload-length e, le-ltb _ _ h))
 
     -- a block written, in the order of the refusals
     module _ (out : List ℕ) where
+      -- the block is written to these bytes
       abbrev Wrote : Counted → List ℕ → Type 0
       Wrote r now = Writes (validService s) (writtenBlock (blockOf s)) out r now
 
+      -- 11: the block breaks a limit
       pub write-invalid : (r : Counted) → v ≡ false → saidCounted r ≡ badValue → Wrote r out
       write-invalid r e q = rw (← is, e) (record { answer = q; output = refl })
 
-      pub write-short : (r : Counted) (start : ℕ) → v ≡ true → start ≡ cond (ltb (s .number) 7) 1 2 → length out < start + s .len → saidCounted r ≡ outShort (start + s .len) → Wrote r out
+      -- 9: the output is too short
+      pub write-short : (r : Counted) (start : ℕ) → v ≡ true → start ≡ cond (ltb (s .number) 7) 1 2 → length out < start + s .len
+          → saidCounted r ≡ outShort (start + s .len) → Wrote r out
       unfolding putInto
       write-short r start e q h w =
           let n : length (writtenBlock (blockOf s)) ≡ start + s .len = payload-written e ∙ ap (λ k. k + s .len) (sym q) in
           let t : ltb (length out) (start + s .len) ≡ true = lt-ltb _ _ h in
           record { answer = rw (← is, e, n, t) w; output = rw (← is, e, n, t) }
 
-      pub write-fits : (r : Counted) (now : List ℕ) (start : ℕ) → v ≡ true → start ≡ cond (ltb (s .number) 7) 1 2 → start + s .len ≤ length out → saidCounted r ≡ accepted ((start + s .len) ∷ [])
+      -- accepted: header and payload stand at the front of the output
+      pub write-fits : (r : Counted) (now : List ℕ) (start : ℕ) → v ≡ true → start ≡ cond (ltb (s .number) 7) 1 2 → start + s .len ≤ length out
+          → saidCounted r ≡ accepted ((start + s .len) ∷ [])
           → now ≡ sets (sets out 0 (writtenHeader (s .number) (s .len % 32))) start (take (s .len) (s .payload)) → Wrote r now
       unfolding putInto
       write-fits r now start e q h w k =
@@ -169,17 +202,22 @@ module _ (s : Service) (v : Bool) (is : v ≡ validService s) where
 
 -- a block read
 module _ (d : List ℕ) where
+  -- bytes missing
   pub parse-short : (k : ℕ) → headOf d ≡ Short k → mapped laid (readBlock d) ≡ refused (lengthMismatch k (length d))
   unfolding readBlock
   parse-short k e = let h = head-short d k e in simp (h .0, h .1)
 
+  -- number 0
   pub parse-null : (n st sz : ℕ) → headOf d ≡ Whole n st sz → n ≡ 0 → mapped laid (readBlock d) ≡ gave blank
   unfolding readBlock blockIn
   parse-null n st sz e z = let h = headed d n st sz e in simp (h .whole, h .number, z)
 
-  pub parse-some : (n st sz : ℕ) → headOf d ≡ Whole n st sz → (n ≡ 0 → ⊥) → mapped laid (readBlock d) ≡ gave (laid (record { number = n; payload = take sz (drop st d) }))
+  -- any other number
+  pub parse-some : (n st sz : ℕ) → headOf d ≡ Whole n st sz → (n ≡ 0 → ⊥)
+      → mapped laid (readBlock d) ≡ gave (laid (record { number = n; payload = take sz (drop st d) }))
   unfolding readBlock blockIn
   parse-some n st sz e z = let h = headed d n st sz e in simp (h .whole, h .number, ne-eqb n 0 z, h .start, h .size)
 
+  -- its payload is as long as the header says
   pub part-length : (n st sz : ℕ) → headOf d ≡ Whole n st sz → length (take sz (drop st d)) ≡ sz
   part-length n st sz e = length-take-le sz (drop st d) (rw length-drop (omega (arith, headed d n st sz e .fits)))

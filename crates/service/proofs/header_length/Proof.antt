@@ -1,19 +1,15 @@
+-- `service::header_length` meets its contract: one law of `Heads` for each way out, two bytes only for number 7 with a size. Assumes nothing.
 use borrow.Author.Needs.{needs}
 use Rattle.service.proofs.Heads.{two-bytes, one-byte, bare-byte}
 use Rattle.service.proofs.header_length.Statement.{statement}
 use Rattle.service.proofs.header_length.Tie as tie
-use Rattle.service.proofs.header_length.Reads as reads
-use Rattle.service.proofs.header_length.Lts as lts
 
--- src/lib.rt:66:13
 returns : tie.Need-returns
 returns c = search (needs, two-bytes)
 
--- src/lib.rt:61:1
 returns-2 : tie.Need-returns-2
 returns-2 c = search (needs, one-byte, bare-byte)
 
--- src/lib.rt:61:1
 returns-3 : tie.Need-returns-3
 returns-3 c = search (needs, one-byte, bare-byte)
 

@@ -1,96 +1,83 @@
+-- `service::payload_of` meets its contract: what `read_head` promises of the header says where the payload stands, and a whole header has all
+-- its bytes there. Assumes nothing.
 use mathlib.Core.Path.{_≡_, sym, _∙_}
 use mathlib.Core.List.{List}
-use Prim.Native.Nat.{ℕ, _+_, _≤_}
+use Prim.Native.Nat.{ℕ}
 use native.Mathlib.Nat.{add-sub-cancel-left}
 use native.Mathlib.Omega.{arith}
 use denote.Ref.{now}
+use borrow.Author.Needs.{needs}
 use Rattle.service.specs.declared.Head.the-variants.{Whole}
 use Rattle.service.specs.Head.{headOf}
 use Rattle.service.proofs.Heads.{Headed, headed, part-short, part-null, part-some}
-use borrow.Author.Needs.{needs}
 use Rattle.service.proofs.payload_of.Statement.{statement}
 use Rattle.service.proofs.payload_of.Tie as tie
-use Rattle.service.proofs.payload_of.Reads as reads
-use Rattle.service.proofs.payload_of.Lts as lts
-use Rattle.service.proofs.read_head.Reads as read-head-reads
 
--- the bytes, and what their header says
+-- the bytes
 abbrev D : tie.After-head → List ℕ
 D c = now (c .before .before .before .before .args .«data»)
 
+-- where the payload starts
 abbrev St : tie.After-head → ℕ
 St c = c .head .given .0 .1 .0
 
+-- how long it is
 abbrev Sz : tie.After-head → ℕ
 Sz c = c .head .given .0 .1 .1 .0
 
+-- the header is whole, with these values
 is : (c : tie.After-head) → headOf (D c) ≡ Whole (c .head .given .0 .0) (St c) (Sz c)
 is c = sym (c .before .before .read-head .ensures) ∙ c .head .given .1
 
+-- what follows of that
 known : (c : tie.After-head) → Headed (D c) (c .head .given .0 .0) (St c) (Sz c)
 known c = headed (D c) _ _ _ (is c)
 
--- src/lib.rt:115:9
 read-head-requires : tie.Need-read-head-requires
 read-head-requires c κs = search needs
 
--- src/lib.rt:117:9
 enum-known-head : tie.Need-enum-known-head
 enum-known-head c = search needs
 
--- src/lib.rt:121:16
 enum-told : tie.Need-enum-told
 enum-told c = search needs
 
--- src/lib.rt:121:16
 sub-result : tie.Need-sub-result
 sub-result c = search needs
 
--- src/lib.rt:121:16
 part-result-start : tie.Need-part-result-start
 part-result-start c = search needs
 
--- src/lib.rt:121:16
 part-result-end : tie.Need-part-result-end
 part-result-end c = search needs
 
--- src/lib.rt:121:9
 returns : tie.Need-returns
 returns c = part-short _ _ (sym (c .before .before .before .read-head .ensures) ∙ c .before .enum-told .given .1)
 
--- src/lib.rt:124:16
 sub-result-2 : tie.Need-sub-result-2
 sub-result-2 c = search needs
 
--- src/lib.rt:124:16
 part-result-start-2 : tie.Need-part-result-start-2
 part-result-start-2 c = search needs
 
--- src/lib.rt:124:16
 part-result-end-2 : tie.Need-part-result-end-2
 part-result-end-2 c = search needs
 
--- src/lib.rt:124:9
 returns-2 : tie.Need-returns-2
 returns-2 c = part-null _ _ _ _ (is (c .before .before .before)) (c .before .if1 .taken)
 
--- src/lib.rt:126:15
 add-end : tie.Need-add-end
 add-end c = omega (arith, known (c .before .before) .fits)
 
--- src/lib.rt:127:5
 sub-result-3 : tie.Need-sub-result-3
 sub-result-3 c = search needs
 
--- src/lib.rt:127:5
 part-result-start-3 : tie.Need-part-result-start-3
 part-result-start-3 c = search needs
 
--- src/lib.rt:127:5
 part-result-end-3 : tie.Need-part-result-end-3
 part-result-end-3 c = known (c .before .before) .fits
 
--- src/lib.rt:112:1
 returns-3 : tie.Need-returns-3
 returns-3 c = rw add-sub-cancel-left (part-some _ _ _ _ (is (c .before .before .before)) (c .before .if1 .left))
 

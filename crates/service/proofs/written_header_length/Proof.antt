@@ -1,14 +1,11 @@
+-- `service::written_header_length` meets its contract: its two ways out are the two cases of the number. Assumes nothing.
 use borrow.Author.Tests.{lt-ltb, le-ltb}
 use Rattle.service.proofs.written_header_length.Statement.{statement}
 use Rattle.service.proofs.written_header_length.Tie as tie
-use Rattle.service.proofs.written_header_length.Reads as reads
-use Rattle.service.proofs.written_header_length.Lts as lts
 
--- src/lib.rt:196:9
 returns : tie.Need-returns
 returns c = simp (lt-ltb _ _ (c .if1 .taken))
 
--- src/lib.rt:192:1
 returns-2 : tie.Need-returns-2
 returns-2 c = simp (le-ltb _ _ (c .if1 .left))
 

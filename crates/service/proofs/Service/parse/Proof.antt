@@ -1,97 +1,87 @@
-use mathlib.Core.Path.{_≡_, refl, sym, ap, _∙_}
+-- `Service::parse` meets its contract: what `read_head` promises of the header says which case of the reader it is, and the payload is laid into
+-- blank places. Assumes nothing.
+use mathlib.Core.Path.{_≡_, refl, sym, _∙_}
 use mathlib.Core.List.{List}
-use Prim.Native.Nat.{ℕ, _+_, _≤_}
+use Prim.Native.Nat.{ℕ}
 use native.Mathlib.Nat.{add-sub-cancel-left}
 use native.Mathlib.Omega.{arith}
-use denote.Ref.{now}
 use lib.ListN.{take, drop, replicate}
 use lib.Seq.{sets}
+use denote.Ref.{now}
+use borrow.Author.Needs.{needs}
 use Rattle.service.specs.declared.Head.the-variants.{Whole}
 use Rattle.service.specs.Head.{headOf}
 use Rattle.service.proofs.Heads.{Headed, headed}
 use Rattle.service.proofs.Services.{refuses, gives, parse-short, parse-null, parse-some, part-length, laid-as}
-use borrow.Author.Needs.{needs}
 use Rattle.service.proofs.Service.parse.Statement.{statement}
 use Rattle.service.proofs.Service.parse.Tie as tie
-use Rattle.service.proofs.Service.parse.Reads as reads
-use Rattle.service.proofs.Service.parse.Lts as lts
-use Rattle.service.proofs.put_bytes.Reads as put-bytes-reads
-use Rattle.service.proofs.read_head.Reads as read-head-reads
-use Rattle.service.proofs.refused.Reads as refused-reads
-use Rattle.service.proofs.short_of.Reads as short-of-reads
 
--- the bytes, and what their header says
+-- the bytes
 abbrev D : tie.After-head → List ℕ
 D c = now (c .before .before .before .before .args .«data»)
 
+-- the number that their header gives
 abbrev N : tie.After-head → ℕ
 N c = c .head .given .0 .0
 
+-- where the payload starts
 abbrev St : tie.After-head → ℕ
 St c = c .head .given .0 .1 .0
 
+-- how long it is
 abbrev Sz : tie.After-head → ℕ
 Sz c = c .head .given .0 .1 .1 .0
 
+-- the header is whole, with these values
 is : (c : tie.After-head) → headOf (D c) ≡ Whole (N c) (St c) (Sz c)
 is c = sym (c .before .before .read-head .ensures) ∙ c .head .given .1
 
+-- what follows of that
 known : (c : tie.After-head) → Headed (D c) (N c) (St c) (Sz c)
 known c = headed (D c) _ _ _ (is c)
 
--- src/lib.rt:319:13
 read-head-requires : tie.Need-read-head-requires
 read-head-requires c κs = search needs
 
--- src/lib.rt:321:13
 enum-known-head : tie.Need-enum-known-head
 enum-known-head c = search needs
 
--- src/lib.rt:326:32
 enum-told : tie.Need-enum-told
 enum-told c = search needs
 
--- src/lib.rt:326:17
 short-of-requires : tie.Need-short-of-requires
 short-of-requires c κs = search needs
 
--- src/lib.rt:325:13
 refused-requires : tie.Need-refused-requires
 refused-requires c κs = search needs
 
--- src/lib.rt:325:13
 returns : tie.Need-returns
-returns c = let e = c .before .before .enum-told .given .1 in refuses _ _ _ _ (parse-short _ _ (sym (c .before .before .before .before .read-head .ensures) ∙ e)) (c .refused .ensures .0 ∙ c .before .short-of .ensures ∙ simp e) (c .refused .ensures .1)
+returns c =
+    let e = c .before .before .enum-told .given .1 in
+    refuses _ _ _ _ (parse-short _ _ (sym (c .before .before .before .before .read-head .ensures) ∙ e))
+    (c .refused .ensures .0 ∙ c .before .short-of .ensures ∙ simp e) (c .refused .ensures .1)
 
--- src/lib.rt:335:13
 returns-2 : tie.Need-returns-2
 returns-2 c = gives _ _ _ _ (parse-null _ _ _ _ (is (c .before .before)) (c .if1 .taken)) refl refl
 
--- src/lib.rt:344:19
 add-end : tie.Need-add-end
 add-end c = omega (arith, known (c .before .before) .fits)
 
--- src/lib.rt:345:19
 slice-aggregate-put-bytes : tie.Need-slice-aggregate-put-bytes
 slice-aggregate-put-bytes c = search needs
 
--- src/lib.rt:345:36
 sub-put-bytes : tie.Need-sub-put-bytes
 sub-put-bytes c = search needs
 
--- src/lib.rt:345:36
 part-put-bytes-start : tie.Need-part-put-bytes-start
 part-put-bytes-start c = search needs
 
--- src/lib.rt:345:36
 part-put-bytes-end : tie.Need-part-put-bytes-end
 part-put-bytes-end c = known (c .before .before .before) .fits
 
--- src/lib.rt:345:9
 put-bytes-requires : tie.Need-put-bytes-requires
 put-bytes-requires c κs = search needs
 
--- src/lib.rt:315:5
 returns-3 : tie.Need-returns-3
 returns-3 c = let n = c .before .before .before .before .before .before in
     let p : List ℕ = take (Sz n) (drop (St n) (D n)) in

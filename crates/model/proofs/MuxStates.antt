@@ -1,0 +1,226 @@
+-- Every call leaves a multiplexer within its limits, if it was. Assumes nothing.
+use mathlib.Core.Path.{_≡_, refl}
+use mathlib.Core.Bool.{Bool, true, false}
+use mathlib.Core.List.{List, [], _∷_}
+use Prim.Native.Nat.{ℕ, zero, suc, _-_, _*_, _≤_}
+use native.Mathlib.Omega.{arith}
+use lib.Dec.{eqb, leb}
+use lib.ListN.{length, length-append, length-take, length-drop, length-replicate}
+use borrow.Author.Tests.{le-leb, leb-true, leb-false, eqb-false}
+use Rattle.model.specs.Packet.{Packet, validPacket, allPackets}
+use Rattle.model.specs.Frame.{Triple, Pair, pair, Cea608, field1, field2, frameBytes, mostFrame}
+use Rattle.model.specs.Rate.{Budgets}
+use Rattle.model.specs.Mux.{Mux, freshMux, withPads, flushMux, storable, validMux, queued, pushPacket, isNull, pushPair, pushCea608, Turned, turnsDue, turn1, turn2, turned, packetTriples, countDue, Sent, send, padding, framed, writeFrame}
+use Rattle.model.specs.Run.{Accepted}
+use Rattle.model.proofs.Cases.{by-test, by-cond, both, and-both, Gives, gives-mapped}
+use Rattle.model.proofs.Packets.{valid-facts, all-append}
+use Rattle.model.proofs.Sends.{triples-length}
+use Rattle.model.proofs.Frames.{frame-length}
+
+-- the limits of a multiplexer, as facts
+pub record MuxLimits (s : Mux) : Type 0 where
+  pub packets : length (s .packets) ≤ 16
+  pub stored : allPackets storable (s .packets) ≡ true
+  pub sending : 2 * length (s .sending) ≤ 128
+  pub queue1 : length (s .queue1) ≤ 64
+  pub queue2 : length (s .queue2) ≤ 64
+
+-- what passes the test is within the limits,
+pub mux-facts : (s : Mux) → validMux s ≡ true → MuxLimits s
+unfolding validMux
+mux-facts s e =
+    let u = both _ _ e in
+    let v = both _ _ (u .1) in
+    let w = both _ _ (v .1) in
+    let x = both _ _ (w .1) in
+    record {
+      packets = leb-true (length (s .packets)) 16 (u .0);
+      stored = v .0;
+      sending = leb-true (2 * length (s .sending)) 128 (w .0);
+      queue1 = leb-true (length (s .queue1)) 64 (x .0);
+      queue2 = leb-true (length (s .queue2)) 64 (x .1);
+    }
+
+-- and what is within them passes it
+pub facts-mux : (s : Mux) → MuxLimits s → validMux s ≡ true
+unfolding validMux
+facts-mux s f = simp (le-leb _ _ (f .packets), f .stored, le-leb _ _ (f .sending), le-leb _ _ (f .queue1), le-leb _ _ (f .queue2))
+
+-- a fresh multiplexer is within its limits
+pub fresh-mux : validMux freshMux ≡ true
+unfolding validMux allPackets
+fresh-mux = refl
+
+-- the switches keep it there
+pub pads-valid : (a b : Bool) (s : Mux) → validMux s ≡ true → validMux (withPads a b s) ≡ true
+pads-valid a b s e =
+    let f = mux-facts s e in
+    facts-mux (withPads a b s) (record { packets = f .packets; stored = f .stored; sending = f .sending; queue1 = f .queue1; queue2 = f .queue2 })
+
+-- and so does flush
+pub flush-mux : (s : Mux) → validMux (flushMux s) ≡ true
+unfolding allPackets
+flush-mux s = facts-mux (flushMux s) (record { packets = omega arith; stored = refl; sending = omega arith; queue1 = omega arith; queue2 = omega arith })
+
+-- a queue that takes one more has at most as many as it has places
+queued-few : {A : Type 0} (most : ℕ) (x : A) (q : List A) → Gives (λ (r : List A). length r ≤ most) (queued most x q)
+unfolding queued
+queued-few {A} most x q =
+    by-cond (Gives (λ (r : List A). length r ≤ most)) (leb most (length q)) (λ _. tt)
+    (λ e. rw length-append (omega (arith, leb-false most (length q) e)))
+
+-- a pair pushed to a queue
+pair-few : (x : Pair) (q : List Pair) → length q ≤ 64 → Gives (λ (r : List Pair). length r ≤ 64) (pushPair x q)
+unfolding pushPair
+pair-few x q h = by-cond (Gives (λ (r : List Pair). length r ≤ 64)) (isNull x) (λ _. h) (λ _. queued-few 64 x q)
+
+-- a pair pushed to its field
+pub push608-valid : (x : Cea608) (s : Mux) → validMux s ≡ true → Gives (λ (r : Mux). validMux r ≡ true) (pushCea608 x s)
+unfolding pushCea608
+push608-valid (field1 x) s e =
+    let f = mux-facts s e in
+    gives-mapped (λ (r : Mux). validMux r ≡ true) (λ (r : List Pair). length r ≤ 64) (pushPair x (s .queue1)) _ (pair-few x (s .queue1) (f .queue1))
+    (λ q h. facts-mux _ (record { packets = f .packets; stored = f .stored; sending = f .sending; queue1 = h; queue2 = f .queue2 }))
+push608-valid (field2 x) s e =
+    let f = mux-facts s e in
+    gives-mapped (λ (r : Mux). validMux r ≡ true) (λ (r : List Pair). length r ≤ 64) (pushPair x (s .queue2)) _ (pair-few x (s .queue2) (f .queue2))
+    (λ q h. facts-mux _ (record { packets = f .packets; stored = f .stored; sending = f .sending; queue1 = f .queue1; queue2 = h }))
+
+-- the packets queued after one more
+record Queued (ps : List Packet) : Type 0 where
+  few : length ps ≤ 16
+  stored : allPackets storable ps ≡ true
+
+-- a packet that is stored leaves a queue of such packets
+queued-stored : (p : Packet) (ps : List Packet) → storable p ≡ true → allPackets storable ps ≡ true → Gives Queued (queued 16 p ps)
+unfolding queued allPackets
+queued-stored p ps v h =
+    by-cond (Gives Queued) (leb 16 (length ps)) (λ _. tt)
+    (λ e. record {
+      few = rw length-append (omega (arith, leb-false 16 (length ps) e));
+      stored = all-append storable ps (p ∷ []) h (and-both (storable p) true v refl);
+    })
+
+-- a packet pushed that breaks no limit
+pub push-valid : (p : Packet) (s : Mux) → validPacket p ≡ true → validMux s ≡ true → Gives (λ (r : Mux). validMux r ≡ true) (pushPacket p s)
+unfolding pushPacket storable
+push-valid p s v e =
+    let f = mux-facts s e in
+    by-cond (Gives (λ (r : Mux). validMux r ≡ true)) (eqb (length (p .blocks)) 0) (λ _. e)
+    (λ z. let some : leb 1 (length (p .blocks)) ≡ true = le-leb 1 (length (p .blocks)) (omega (arith, eqb-false (length (p .blocks)) 0 z)) in
+    gives-mapped (λ (r : Mux). validMux r ≡ true) Queued (queued 16 p (s .packets)) _ (queued-stored p (s .packets) (and-both _ _ v some) (f .stored))
+    (λ ps h. facts-mux _ (record { packets = h .few; stored = h .stored; sending = f .sending; queue1 = f .queue1; queue2 = f .queue2 })))
+
+-- turns send at most one triple each, and leave queues no longer than they were
+record Shorter (n : ℕ) (q1 q2 : List Pair) (t : Turned) : Type 0 where
+  out : length (t .out) ≤ n
+  queue1 : length (t .queue1) ≤ length q1
+  queue2 : length (t .queue2) ≤ length q2
+
+mutual
+  unfolding turn1 turn2
+
+  -- from a field 1 turn on
+  shorter1 : (n : ℕ) (pad : Bool) (q1 q2 : List Pair) → Shorter n q1 q2 (turn1 n pad q1 q2)
+  shorter1 zero pad q1 q2 = record { out = omega arith; queue1 = omega arith; queue2 = omega arith }
+  shorter1 (suc n) pad (pair a b ∷ q1) q2 =
+      let r = shorter2 n pad q1 q2 in
+      record { out = omega (arith, r .out); queue1 = omega (arith, r .queue1); queue2 = r .queue2 }
+  shorter1 (suc n) pad [] (x ∷ q2) = let r = shorter2 n pad [] (x ∷ q2) in record { out = omega (arith, r .out); queue1 = r .queue1; queue2 = r .queue2 }
+  shorter1 (suc n) true [] [] = let r = shorter2 n true [] [] in record { out = omega (arith, r .out); queue1 = r .queue1; queue2 = r .queue2 }
+  shorter1 (suc n) false [] [] = let r = shorter2 n false [] [] in record { out = omega (arith, r .out); queue1 = r .queue1; queue2 = r .queue2 }
+
+  -- from a field 2 turn on
+  shorter2 : (n : ℕ) (pad : Bool) (q1 q2 : List Pair) → Shorter n q1 q2 (turn2 n pad q1 q2)
+  shorter2 zero pad q1 q2 = record { out = omega arith; queue1 = omega arith; queue2 = omega arith }
+  shorter2 (suc n) pad q1 (pair a b ∷ q2) =
+      let r = shorter1 n pad q1 q2 in
+      record { out = omega (arith, r .out); queue1 = r .queue1; queue2 = omega (arith, r .queue2) }
+  shorter2 (suc n) true q1 [] = let r = shorter1 n true q1 [] in record { out = omega (arith, r .out); queue1 = r .queue1; queue2 = r .queue2 }
+  shorter2 (suc n) false q1 [] = let r = shorter1 n false q1 [] in record { out = omega (arith, r .out); queue1 = r .queue1; queue2 = r .queue2 }
+
+-- whoever has the first turn
+shorter : (n : ℕ) (s : Mux) → Shorter n (s .queue1) (s .queue2) (turned n s)
+unfolding turned
+shorter n s = by-cond (Shorter n (s .queue1) (s .queue2)) (s .next1) (λ _. shorter1 n (s .pad608) (s .queue1) (s .queue2)) (λ _. shorter2 n (s .pad608) (s .queue1) (s .queue2))
+
+-- m packet triples at most are sent, and leave no more packets than there were and at most a packet's triples
+record Leaves (m : ℕ) (ps : List Packet) (o : Sent) : Type 0 where
+  out : length (o .out) ≤ m
+  packets : length (o .packets) ≤ length ps
+  stored : allPackets storable (o .packets) ≡ true
+  sending : 2 * length (o .sending) ≤ 128
+
+-- a stored packet has at most 64 triples
+triples-few : (p : Packet) → storable p ≡ true → 2 * length (packetTriples p) ≤ 128
+unfolding storable
+triples-few p e =
+    let w = both (validPacket p) (leb 1 (length (p .blocks))) e in
+    let v = valid-facts p (w .0) in
+    omega (arith, triples-length p v (leb-true 1 (length (p .blocks)) (w .1)), v .length)
+
+-- packet triples are sent of packets that are stored
+send-leaves : (m : ℕ) (ts : List Triple) (ps : List Packet) → 2 * length ts ≤ 128 → allPackets storable ps ≡ true → Leaves m ps (send m ts ps)
+unfolding send allPackets
+send-leaves m ts [] h v = record { out = rw length-take (omega arith); packets = omega arith; stored = refl; sending = rw length-drop (omega arith) }
+send-leaves m ts (p ∷ ps) h v =
+    let w = both (storable p) (allPackets storable ps) v in
+    by-cond (Leaves m (p ∷ ps)) (leb m (length ts))
+    (λ _. record { out = rw length-take (omega arith); packets = omega arith; stored = v; sending = rw length-drop (omega arith) })
+    (λ e. let r = send-leaves (m - length ts) (packetTriples p) ps (triples-few p (w .0)) (w .1) in
+    record { out = rw length-append (omega (arith, r .out, leb-false m (length ts) e)); packets = omega (arith, r .packets); stored = r .stored; sending = r .sending })
+
+-- padding fills up to the end
+padding-few : (on : Bool) (n : ℕ) → length (padding on n) ≤ n
+unfolding padding
+padding-few on n = by-cond (λ (l : List Triple). length l ≤ n) on (λ _. rw length-replicate (omega arith)) (λ _. omega arith)
+
+-- the count has room for the turns, and is at most the triples of the rate
+count-room : (b : Budgets) (s : Mux) → b .pairs ≤ b .triples → (turnsDue (b .pairs) s ≤ countDue b s) × (countDue b s ≤ b .triples)
+unfolding countDue turnsDue
+count-room b s h = by-test (s .padOut) (λ p. by-test (s .pad608) (λ q. simp (p, q) (omega arith, omega arith)) (λ q. simp (p, q) (omega arith, omega arith)))
+    (λ p. by-test (s .pad608) (λ q. simp (p, q) (omega arith, omega arith)) (λ q. simp (p, q) (omega arith, omega arith)))
+
+module _ (b : Budgets) (s : Mux) (f : MuxLimits s) where
+  -- the turns of the frame, and its packet triples
+  turns-frame : Shorter (turnsDue (b .pairs) s) (s .queue1) (s .queue2) (turned (turnsDue (b .pairs) s) s)
+  turns-frame = shorter (turnsDue (b .pairs) s) s
+
+  -- and its packet triples, m at most
+  sends-frame : (m : ℕ) → Leaves m (s .packets) (send m (s .sending) (s .packets))
+  sends-frame m = send-leaves m (s .sending) (s .packets) (f .sending) (f .stored)
+
+  -- a frame written at any budgets leaves the limits kept
+  written-within : MuxLimits (writeFrame b s .next)
+  unfolding writeFrame framed
+  written-within =
+      let t = turns-frame in
+      let o = sends-frame (countDue b s - length (turned (turnsDue (b .pairs) s) s .out)) in
+      record {
+        packets = omega (arith, o .packets, f .packets);
+        stored = o .stored;
+        sending = o .sending;
+        queue1 = omega (arith, t .queue1, f .queue1);
+        queue2 = omega (arith, t .queue2, f .queue2);
+      }
+
+  -- and has at most as many triples as its rate allows
+  triples-most : b .pairs ≤ b .triples → length (writeFrame b s .frame .triples) ≤ b .triples
+  unfolding writeFrame framed
+  triples-most h =
+      let t = turns-frame in
+      let n : ℕ = countDue b s in
+      let ts : List Triple = turned (turnsDue (b .pairs) s) s .out in
+      let us : List Triple = send (n - length ts) (s .sending) (s .packets) .out in
+      let o = sends-frame (n - length ts) in
+      let c = count-room b s h in
+      rw (length-append, length-append)
+      (omega (arith, t .out, o .out, padding-few (s .padOut) (n - length ts - length us), c .0, c .1))
+
+-- a frame written keeps the limits
+pub write-valid : (b : Budgets) (s : Mux) → validMux s ≡ true → validMux (writeFrame b s .next) ≡ true
+write-valid b s e = facts-mux (writeFrame b s .next) (written-within b s (mux-facts s e))
+
+-- "A frame is at most 95 bytes."
+pub frame-most : (b : Budgets) (s : Mux) → Accepted b → validMux s ≡ true → length (frameBytes (writeFrame b s .frame)) ≤ mostFrame
+frame-most b s a e = rw (frame-length (writeFrame b s .frame)) (omega (arith, a .apart, a .most, triples-most b s (mux-facts s e) (omega (arith, a .apart))))
