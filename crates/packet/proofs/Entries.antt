@@ -2,7 +2,7 @@
 use mathlib.Core.Path.{_≡_, refl, sym, ap, ap₂, _∙_}
 use mathlib.Core.Bool.{Bool, true, false, cond, _&&_}
 use mathlib.Core.List.{List, [], _∷_, _++_, map, append-assoc}
-use Prim.Native.Nat.{ℕ, zero, suc, _+_, _-_, _≤_, _<_}
+use Prim.Native.Nat.{ℕ, zero, suc, _+_, _-_, _*_, _≤_, _<_}
 use native.Mathlib.Nat.{add-zero}
 use native.Mathlib.Numerals.{add-one}
 use native.Mathlib.Omega.{arith}
@@ -26,7 +26,7 @@ entries-length (suc k) ns ss = ap suc (entries-length k (drop 1 ns) (drop 1 ss))
 
 -- the entries from place i on: the one there, and those behind it
 pub entries-at : (k i : ℕ) (ns ss : List ℕ) → i < k
-  → entries (k - i) (drop i ns) (drop i ss) ≡ record { number = getD ns i 0; size = getD ss i 0 } ∷ entries (k - (i + 1)) (drop (i + 1) ns) (drop (i + 1) ss)
+    → entries (k - i) (drop i ns) (drop i ss) ≡ record { number = getD ns i 0; size = getD ss i 0 } ∷ entries (k - (i + 1)) (drop (i + 1) ns) (drop (i + 1) ss)
 unfolding entries
 entries-at k i ns ss h =
     let e : k - i ≡ suc (k - (i + 1)) = omega arith in
@@ -51,6 +51,16 @@ pub facts-good : (n k : ℕ) → Good n k → goodEntry n k ≡ true
 unfolding goodEntry
 facts-good n k g = simp (le-leb _ _ (g .named), le-leb _ _ (g .known), le-leb _ _ (g .filled), le-leb _ _ (g .small))
 
+-- each of entries within the limits is
+pub good-at : (k i : ℕ) (ns ss : List ℕ) → goodEntries (entries k ns ss) ≡ true → i < k → Good (getD ns i 0) (getD ss i 0)
+unfolding goodEntries entries
+good-at zero i ns ss ok h = absurd (omega arith)
+good-at (suc k) zero ns ss ok h = good-facts (getD ns 0 0) (getD ss 0 0) (both (goodEntry (getD ns 0 0) (getD ss 0 0)) (goodEntries (entries k (drop 1 ns) (drop 1 ss))) ok .0)
+good-at (suc k) (suc i) ns ss ok h =
+    let e : 1 + i ≡ suc i = omega arith in
+    rw (getD-drop 1 ns i 0, getD-drop 1 ss i 0, e) at
+    (good-at k i (drop 1 ns) (drop 1 ss) (both (goodEntry (getD ns 0 0) (getD ss 0 0)) (goodEntries (entries k (drop 1 ns) (drop 1 ss))) ok .1) (omega arith))
+
 -- the length of a block with a payload
 pub length-for : (n k : ℕ) → 1 ≤ k → lengthFor n k ≡ cond (ltb n 7) 1 2 + k
 unfolding lengthFor
@@ -70,6 +80,14 @@ used-least [] ok = omega arith
 used-least (e ∷ es) ok =
     let g = both (goodEntry (e .number) (e .size)) (goodEntries es) ok in
     omega (arith, used-least es (g .1), length-least (e .number) (e .size) (good-facts _ _ (g .0) .filled))
+
+pub entries-two : (es : List Entry) → goodEntries es ≡ true → 2 * length es ≤ lengthsOf es
+unfolding goodEntries lengthsOf
+entries-two [] ok = omega arith
+entries-two (e ∷ es) ok =
+    let g = both (goodEntry (e .number) (e .size)) (goodEntries es) ok in
+    let k = good-facts (e .number) (e .size) (g .0) in
+    omega (arith, entries-two es (g .1), length-least (e .number) (e .size) (k .filled), k .filled)
 
 -- the blocks that are cut
 pub cut-length : (es : List Entry) (d : List ℕ) → length (cut es d) ≡ length es
@@ -105,7 +123,7 @@ cut-carriable (e ∷ es) d ok h =
     let g = both (goodEntry (e .number) (e .size)) (goodEntries es) ok in
     and-both _ _ (facts-carriable _ (cut-block e d (good-facts _ _ (g .0)) (omega arith))) (cut-carriable es (drop (e .size) d) (g .1) (rw length-drop (omega arith)))
 
-block-lengths : (n k : ℕ) (p : List ℕ) → 1 ≤ k → length p ≡ k → blockLength (record { number = n; payload = p }) ≡ lengthFor n k
+pub block-lengths : (n k : ℕ) (p : List ℕ) → 1 ≤ k → length p ≡ k → blockLength (record { number = n; payload = p }) ≡ lengthFor n k
 block-lengths n k p h e = block-length (record { number = n; payload = p }) (omega arith) ∙ written-length (record { number = n; payload = p }) ∙ rw e (sym (length-for n k h))
 
 pub cut-lengths : (es : List Entry) (d : List ℕ) → goodEntries es ≡ true → usedBy es ≤ length d → blocksLength (cut es d) ≡ lengthsOf es

@@ -85,9 +85,9 @@ module _ (old : DTVCCPacket) (places : Places old) (p : Packet) (v : Valid p) wh
   entries-are =
       let few = few-blocks p v in
       let n : sets (old .numbers) 0 (numbersOf (p .blocks)) ≡ numbersOf (p .blocks) ++ drop (length (numbersOf (p .blocks))) (old .numbers) =
-          sets-front (old .numbers) (numbersOf (p .blocks)) (omega (arith, length-map (p .blocks) (λ (b : Block). b .number), places .numbers)) in
+      sets-front (old .numbers) (numbersOf (p .blocks)) (omega (arith, length-map (p .blocks) (λ (b : Block). b .number), places .numbers)) in
       let s : sets (old .sizes) 0 (sizesOf (p .blocks)) ≡ sizesOf (p .blocks) ++ drop (length (sizesOf (p .blocks))) (old .sizes) =
-          sets-front (old .sizes) (sizesOf (p .blocks)) (omega (arith, length-map (p .blocks) (λ (b : Block). length (b .payload)), places .sizes)) in
+      sets-front (old .sizes) (sizesOf (p .blocks)) (omega (arith, length-map (p .blocks) (λ (b : Block). length (b .payload)), places .sizes)) in
       rw (n, s) (entries-laid (p .blocks) _ _)
 
   payloads-fit : length (payloadsOf (p .blocks)) ≤ length (old .payload)

@@ -5,3 +5,4 @@ pub mod Reading
 pub mod Packets
 pub mod Measures
 pub mod Pushed
+pub mod Pushes

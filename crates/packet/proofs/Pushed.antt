@@ -44,18 +44,18 @@ module _ (p : DTVCCPacket) (w : Within p) (places : Places p) where
 
   -- a block behind the others
   pub appended : (n k : ℕ) (run : List ℕ) → length run ≡ k
-    → over p (withBlocks (packetOf p .blocks ++ (record { number = n; payload = run } ∷ [])) (packetOf p))
+      → over p (withBlocks (packetOf p .blocks ++ (record { number = n; payload = run } ∷ [])) (packetOf p))
       ≡ record { «seq_no» = p .«seq_no»; count = p .count + 1; numbers = set (p .numbers) (p .count) n; sizes = set (p .sizes) (p .count) k; payload = sets (p .payload) used run }
   unfolding over
   appended n k run e =
       let b : Block = record { number = n; payload = run } in
       let c : length (packetOf p .blocks ++ (b ∷ [])) ≡ p .count + 1 = rw (length-append, blocks-count p w places) in
       let ns : sets (p .numbers) 0 (numbersOf (packetOf p .blocks ++ (b ∷ []))) ≡ set (p .numbers) (p .count) n =
-          rw (map-append (λ (x : Block). x .number) (packetOf p .blocks) (b ∷ []), numbers-held) (sets-behind (p .numbers) (n ∷ []) (p .count) (omega (arith, w .count, places .numbers))) in
+      rw (map-append (λ (x : Block). x .number) (packetOf p .blocks) (b ∷ []), numbers-held) (sets-behind (p .numbers) (n ∷ []) (p .count) (omega (arith, w .count, places .numbers))) in
       let ss : sets (p .sizes) 0 (sizesOf (packetOf p .blocks ++ (b ∷ []))) ≡ set (p .sizes) (p .count) k =
-          rw (map-append (λ (x : Block). length (x .payload)) (packetOf p .blocks) (b ∷ []), sizes-held, e) (sets-behind (p .sizes) (k ∷ []) (p .count) (omega (arith, w .count, places .sizes))) in
+      rw (map-append (λ (x : Block). length (x .payload)) (packetOf p .blocks) (b ∷ []), sizes-held, e) (sets-behind (p .sizes) (k ∷ []) (p .count) (omega (arith, w .count, places .sizes))) in
       let ds : sets (p .payload) 0 (payloadsOf (packetOf p .blocks ++ (b ∷ []))) ≡ sets (p .payload) used run =
-          rw (payloads-append (packetOf p .blocks) (b ∷ []), payloads-held, append-nil run) (sets-behind (p .payload) run used (used-fits p w places)) in
+      rw (payloads-append (packetOf p .blocks) (b ∷ []), payloads-held, append-nil run) (sets-behind (p .payload) run used (used-fits p w places)) in
       rw (c, ns, ss, ds)
 
 -- blocks of which one takes a run: its payload grows, and those behind it move up
@@ -98,21 +98,26 @@ module _ (p : DTVCCPacket) (w : Within p) (places : Places p) (i : ℕ) (there :
   abbrev before : ℕ
   before = usedBy (take (suc i) (entriesOf p))
 
-  size-held : length (blockAt (packetOf p) i .payload) ≡ getD (p .sizes) i 0
+  pub size-held : length (blockAt (packetOf p) i .payload) ≡ getD (p .sizes) i 0
   size-held =
       sym (List·getD-map (λ (b : Block). length (b .payload)) (packetOf p .blocks) i noBlock)
       ∙ ap (λ (l : List ℕ). getD l i 0) (sizes-held p w places) ∙ getD-take (p .count) (p .sizes) i 0 there
 
-  number-held : blockAt (packetOf p) i .number ≡ getD (p .numbers) i 0
+  pub number-held : blockAt (packetOf p) i .number ≡ getD (p .numbers) i 0
   number-held =
       sym (List·getD-map (λ (b : Block). b .number) (packetOf p .blocks) i noBlock)
       ∙ ap (λ (l : List ℕ). getD l i 0) (numbers-held p w places) ∙ getD-take (p .count) (p .numbers) i 0 there
 
   -- the block at place i takes a run
   pub grown-over : (run : List ℕ)
-    → over p (extended i run (packetOf p))
-      ≡ record { «seq_no» = p .«seq_no»; count = p .count; numbers = p .numbers; sizes = set (p .sizes) i (getD (p .sizes) i 0 + length run);
-        payload = sets (sets (p .payload) before run) (before + length run) (take (usedBy (entriesOf p) - before) (drop before (p .payload))) }
+      → over p (extended i run (packetOf p))
+      ≡ record {
+        «seq_no» = p .«seq_no»;
+        count = p .count;
+        numbers = p .numbers;
+        sizes = set (p .sizes) i (getD (p .sizes) i 0 + length run);
+        payload = sets (sets (p .payload) before run) (before + length run) (take (usedBy (entriesOf p) - before) (drop before (p .payload)));
+      }
   unfolding over
   grown-over run =
       let bs : List Block = packetOf p .blocks in
@@ -120,16 +125,16 @@ module _ (p : DTVCCPacket) (w : Within p) (places : Places p) (i : ℕ) (there :
       let u : before + usedBy (drop (suc i) (entriesOf p)) ≡ usedBy (entriesOf p) = used-parts (suc i) (entriesOf p) in
       let c : length (set bs i b) ≡ p .count = rw (length-set) (blocks-count p w places) in
       let ns : sets (p .numbers) 0 (numbersOf (set bs i b)) ≡ p .numbers =
-          rw (map-set-same (λ (x : Block). x .number) bs i b noBlock refl, numbers-held p w places) (sets-own (p .numbers) (p .count) (omega (arith, w .count, places .numbers))) in
+      rw (map-set-same (λ (x : Block). x .number) bs i b noBlock refl, numbers-held p w places) (sets-own (p .numbers) (p .count) (omega (arith, w .count, places .numbers))) in
       let v : length (getD bs i noBlock .payload ++ run) ≡ getD (p .sizes) i 0 + length run = length-append (getD bs i noBlock .payload) run ∙ ap (λ n. n + length run) size-held in
       let ss : sets (p .sizes) 0 (sizesOf (set bs i b)) ≡ set (p .sizes) i (getD (p .sizes) i 0 + length run) =
-          rw (map-set (λ (x : Block). length (x .payload)) bs i b, sizes-held p w places, v) (sets-set (p .sizes) (p .count) i _ there (omega (arith, w .count, places .sizes))) in
+      rw (map-set (λ (x : Block). length (x .payload)) bs i b, sizes-held p w places, v) (sets-set (p .sizes) (p .count) i _ there (omega (arith, w .count, places .sizes))) in
       let q : usedBy (drop (suc i) (entriesOf p)) ≡ usedBy (entriesOf p) - before = omega arith in
       let ds : payloadsOf (set bs i b) ≡ take before (p .payload) ++ (run ++ take (usedBy (entriesOf p) - before) (drop before (p .payload))) =
-          grown run bs i (omega (arith, blocks-count p w places))
-          ∙ rw (cut-take (suc i) (entriesOf p) (p .payload), cut-drop (suc i) (entriesOf p) (p .payload), cut-payloads (take (suc i) (entriesOf p)) (p .payload), cut-payloads (drop (suc i) (entriesOf p)) (drop before (p .payload)), q) in
+      grown run bs i (omega (arith, blocks-count p w places))
+      ∙ rw (cut-take (suc i) (entriesOf p) (p .payload), cut-drop (suc i) (entriesOf p) (p .payload), cut-payloads (take (suc i) (entriesOf p)) (p .payload), cut-payloads (drop (suc i) (entriesOf p)) (drop before (p .payload)), q) in
       let fs : sets (p .payload) 0 (payloadsOf (set bs i b)) ≡ sets (sets (p .payload) before run) (before + length run) (take (usedBy (entriesOf p) - before) (drop before (p .payload))) =
-          rw ds (sets-behind (p .payload) _ before (omega (arith, used-fits p w places)) ∙ sets-append run _ (p .payload) before) in
+      rw ds (sets-behind (p .payload) _ before (omega (arith, used-fits p w places)) ∙ sets-append run _ (p .payload) before) in
       rw (c, ns, ss, fs)
 
 -- the payloads before a place, by the sizes alone
@@ -143,7 +148,7 @@ used-sum (suc j) (suc k) ns (s ∷ ss) h = ap (λ n. s + n) (used-sum j k (drop 
 -- what the two pushes leave, as the code makes it
 module _ (p : DTVCCPacket) (lengths used : ℕ) (s : Sized p lengths used) (places : Places p) where
   pub append-as : (n k : ℕ) (run d : List ℕ) → length run ≡ k → d ≡ sets (p .payload) used run
-    → record { «seq_no» = p .«seq_no»; count = p .count + 1; numbers = set (p .numbers) (p .count) n; sizes = set (p .sizes) (p .count) k; payload = d } ≡ over p (appendedTo n run (packetOf p))
+      → record { «seq_no» = p .«seq_no»; count = p .count + 1; numbers = set (p .numbers) (p .count) n; sizes = set (p .sizes) (p .count) k; payload = d } ≡ over p (appendedTo n run (packetOf p))
   append-as n k run d e f = rw (f, s .used-are) (sym (appended p (within-facts p (s .valid)) places n k run e))
 
   module _ (i : ℕ) (there : i < p .count) (before : ℕ) (is : before ≡ sumOf (take (i + 1) (p .sizes))) where
@@ -154,6 +159,6 @@ module _ (p : DTVCCPacket) (lengths used : ℕ) (s : Sized p lengths used) (plac
     before-within = omega (arith, before-is, s .used-are, used-parts (suc i) (entriesOf p))
 
     pub extend-as : (v : ℕ) (run d₁ d₂ : List ℕ) → v ≡ getD (p .sizes) i 0 + length run → d₁ ≡ sets (p .payload) before run
-      → d₂ ≡ sets d₁ (before + length run) (take (used - before) (drop before (p .payload)))
-      → record { «seq_no» = p .«seq_no»; count = p .count; numbers = p .numbers; sizes = set (p .sizes) i v; payload = d₂ } ≡ over p (extended i run (packetOf p))
+        → d₂ ≡ sets d₁ (before + length run) (take (used - before) (drop before (p .payload)))
+        → record { «seq_no» = p .«seq_no»; count = p .count; numbers = p .numbers; sizes = set (p .sizes) i v; payload = d₂ } ≡ over p (extended i run (packetOf p))
     extend-as v run d₁ d₂ a b c = rw (a, c, b, s .used-are, before-is) (sym (grown-over p (within-facts p (s .valid)) places i there run))

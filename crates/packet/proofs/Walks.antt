@@ -84,7 +84,7 @@ module _ (count : ℕ) (ns ss : List ℕ) where
     going-bad good h e q = sym (g .found ∙ ap (more lengths used) (ap walked (entries-at count i ns ss h) ∙ walked-bad _ _ (sym e ∙ q)))
 
     pub going-next : (good : Bool) (l u : ℕ) → i < count → good ≡ goodEntry (getD ns i 0) (getD ss i 0) → good ≡ true → l ≡ lengthFor (getD ns i 0) (getD ss i 0) → u ≡ getD ss i 0
-      → Going count ns ss (lengths + l) (used + u) (i + 1)
+        → Going count ns ss (lengths + l) (used + u) (i + 1)
     going-next good l u h e q m z =
         let k = good-facts (getD ns i 0) (getD ss i 0) (sym e ∙ q) in
         rw z

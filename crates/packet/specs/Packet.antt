@@ -7,10 +7,12 @@ use lib.Dec.{leb}
 use lib.ListN.{length, getD, take, drop, replicate}
 use lib.Seq.{sets}
 use Rattle.caption.specs.Answers.{saidAnswer}
-use Rattle.model.specs.Said.{Outcome, says, after}
+use Rattle.model.specs.Said.{Outcome, says, after, mapped, checked}
 use Rattle.model.specs.Block.{Block}
-use Rattle.model.specs.Packet.{Packet, withBlocks}
+use Rattle.model.specs.Packet.{Packet, withBlocks, pushBlock, pushRunBy}
+use Rattle.service.specs.declared.Service.{Service}
 use Rattle.service.specs.Head.{lengthFor}
+use Rattle.service.specs.Service.{blockOf, validService}
 use Rattle.packet.specs.declared.DTVCCPacket.{DTVCCPacket}
 use Rattle.packet.specs.declared.PacketAnswer.{PacketAnswer}
 
@@ -113,3 +115,11 @@ pub record RoomAt (p : DTVCCPacket) (used i k : ℕ) : Type 0 where
   pub there : i < p .count
   pub bytes : used + k ≤ 127
   pub small : getD (p .sizes) i 0 + k ≤ 31
+
+-- a block pushed: both values are within the limits, and the packet that it gives is laid over this one
+unfoldable pub pushedBlock : Service → DTVCCPacket → Outcome DTVCCPacket
+pushedBlock s p = mapped (over p) (checked (validDTVCC p && validService s) (pushBlock (blockOf s) (packetOf p)))
+
+-- a run pushed likewise: to the latest block of the number only if it has room, or whether or not it has
+unfoldable pub pushedRun : Bool → ℕ → List ℕ → DTVCCPacket → Outcome DTVCCPacket
+pushedRun needsRoom n run p = mapped (over p) (checked (validDTVCC p) (pushRunBy needsRoom n run (packetOf p)))

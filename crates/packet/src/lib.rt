@@ -1,25 +1,31 @@
 // A DTVCC packet: its sequence number and its blocks, how it is read, written and pushed to.
 ghost use mathlib.Core.Path.{_≡_};
-ghost use mathlib.Core.Bool.{cond};
+ghost use mathlib.Core.Bool.{true, false, cond, _&&_};
 ghost use Prim.Native.Nat.{ℕ, _+_, _-_, _*_, _%_, _≤_, _<_};
 ghost use lib.ListN.{length, getD, take, drop};
 ghost use lib.Seq.{sets};
-ghost use lib.Dec.{eqb};
+ghost use lib.Dec.{eqb, ltb};
 ghost use Rattle.caption.specs.Answers.{saidRefusal, saidAnswer, saidCounted, saidTruth};
 ghost use Rattle.model.specs.Said.{mapped, isGiven, measured};
-ghost use Rattle.model.specs.Packet.{packetSize, plainMove, blocksFrom, readPacket, readTidy, newPacket, packetLength, packetRoom, extended};
+ghost use Rattle.model.specs.Packet.{packetSize, plainMove, blocksFrom, readPacket, readTidy, newPacket, packetLength, packetRoom, extended, pushNew, pushAt};
 ghost use Rattle.model.specs.Packet as model;
 ghost use Rattle.packet.specs.Reading.{headerOf, moveBy, moveFor, wrongLength, readAs, keptFor, behind, Laid, Stored, Room, KeepRoom};
-ghost use Rattle.packet.specs.Packet.{Answers, Sized, entries, entriesOf, cut, goodEntry, packetOf, over, laid, blank, validDTVCC, appendedTo, RoomBehind, RoomAt};
+ghost use Rattle.packet.specs.Packet.{Answers, Sized, entries, entriesOf, cut, goodEntry, packetOf, over, laid, blank, validDTVCC, appendedTo, pushedBlock, pushedRun, RoomBehind, RoomAt};
 ghost use Rattle.packet.specs.Extent.{walked, extentOf, latestIn, sumOf};
 use caption::Answer;
 use caption::Counted;
 use caption::Refusal;
 use caption::Truth;
 use service::Head;
+use service::Service;
 
 // The most bytes of a packet.
 const MOST_PACKET: usize = 128;
+
+// The most bytes of a block's payload, and the largest number of a service.
+const MOST_PAYLOAD: usize = 31;
+
+const MOST_NUMBER: u8 = 63;
 
 // A packet: block i has number `numbers[i]` and the next `sizes[i]` bytes of `payload`.
 pub struct DTVCCPacket {
@@ -373,6 +379,26 @@ fn refused(why: Refusal, packet: DTVCCPacket) -> PacketAnswer
     }
 }
 
+// How many bytes more a block with `size` bytes of payload has room for.
+fn block_room(size: u8) -> usize
+    ensures { λ r. ⌜ r ≡ 31 - size ⌝ }
+{
+    if 31 < size {
+        return 0;
+    }
+    MOST_PAYLOAD - wide(size)
+}
+
+// Whether a run of `n` bytes may not go to a block with room for `left` bytes.
+fn lacks_room(needs_room: bool, left: usize, n: usize) -> bool
+    ensures { λ r. ⌜ r ≡ («needs_room» && ltb left n) ⌝ }
+{
+    if needs_room {
+        return left < n;
+    }
+    false
+}
+
 // The packet with a block behind the others.
 fn append(packet: DTVCCPacket, lengths: usize, used: usize, number: u8, run: &[u8]) -> DTVCCPacket
     requires { ⌜ Sized packet lengths used × RoomBehind packet used (length (now run)) ⌝ }
@@ -520,6 +546,121 @@ impl DTVCCPacket {
             } => Counted::Count(self.count),
             Extent::Bad => Counted::Refused(Refusal::BadValue),
         }
+    }
+
+    // Pushes a block behind the others.
+    pub fn push_service(self, service: Service) -> PacketAnswer
+        ensures { λ r. ⌜ Answers (pushedBlock service self) self r ⌝ }
+    {
+        let number = service.number;
+        let size = service.len;
+        let payload = service.payload;
+        let extent = self.extent();
+        let Extent::Of { lengths, used } = extent else {
+            return refused(Refusal::BadValue, self);
+        };
+        if !service.is_valid() {
+            return refused(Refusal::BadValue, self);
+        }
+        let room = MOST_PACKET - length_of(self.count, lengths);
+        let length = service::block_length(number, size as u8);
+        if room < length {
+            return refused(Refusal::WouldOverflow(length - room), self);
+        }
+        if size == 0 {
+            return refused(Refusal::EmptyService, self);
+        }
+        PacketAnswer {
+            answer: Answer::Accepted,
+            packet: append(self, lengths, used, number, &payload[0..size]),
+        }
+    }
+
+    // Pushes a run as a new block, where the packet has room for it.
+    fn push_new(self, lengths: usize, used: usize, service_no: u8, code: &[u8]) -> PacketAnswer
+        requires { ⌜ Sized self lengths used × (1 ≤ length (now code)) × («service_no» ≤ 63) ⌝ }
+        ensures { λ r. ⌜ Answers (mapped (over self) (pushNew «service_no» (now (code .entry)) (packetOf self))) self r ⌝ }
+    {
+        let n = code.len();
+        if service_no == 0 {
+            return refused(Refusal::ReadOnly, self);
+        }
+        if MOST_PAYLOAD < n {
+            return refused(Refusal::WouldOverflow(n - MOST_PAYLOAD), self);
+        }
+        let room = MOST_PACKET - length_of(self.count, lengths);
+        let length = service::block_length(service_no, n as u8);
+        if room < length {
+            return refused(Refusal::WouldOverflow(length - room), self);
+        }
+        PacketAnswer {
+            answer: Answer::Accepted,
+            packet: append(self, lengths, used, service_no, code),
+        }
+    }
+
+    // Pushes a run to the block at `place`, where the packet and the block have room for it.
+    fn push_at(self, lengths: usize, used: usize, place: usize, code: &[u8]) -> PacketAnswer
+        requires { ⌜ Sized self lengths used × (place < self .count) ⌝ }
+        ensures { λ r. ⌜ Answers (mapped (over self) (pushAt place (now (code .entry)) (packetOf self))) self r ⌝ }
+    {
+        let n = code.len();
+        let sizes = self.sizes;
+        let room = MOST_PACKET - length_of(self.count, lengths);
+        if room < n {
+            return refused(Refusal::WouldOverflow(n - room), self);
+        }
+        let left = block_room(sizes[place]);
+        if left < n {
+            return refused(Refusal::WouldOverflow(n - left), self);
+        }
+        PacketAnswer {
+            answer: Answer::Accepted,
+            packet: extend(self, lengths, used, place, code),
+        }
+    }
+
+    // Pushes a run to the latest block of its number, or as a new block: where there is no such block, or where it has no
+    // room and `needs_room` says that it has to.
+    fn push_run(self, needs_room: bool, service_no: u8, code: &[u8]) -> PacketAnswer
+        ensures { λ r. ⌜ Answers (pushedRun «needs_room» «service_no» (now (code .entry)) self) self r ⌝ }
+    {
+        let numbers = self.numbers;
+        let sizes = self.sizes;
+        let count = self.count;
+        let extent = self.extent();
+        let Extent::Of { lengths, used } = extent else {
+            return refused(Refusal::BadValue, self);
+        };
+        if MOST_NUMBER < service_no {
+            return refused(Refusal::BadNumber, self);
+        }
+        if code.len() == 0 {
+            return refused(Refusal::BadRun, self);
+        }
+        let found = latest(&numbers, count, service_no);
+        let Found::At(place) = found else {
+            return self.push_new(lengths, used, service_no, code);
+        };
+        let left = block_room(sizes[place]);
+        if lacks_room(needs_room, left, code.len()) {
+            return self.push_new(lengths, used, service_no, code);
+        }
+        self.push_at(lengths, used, place, code)
+    }
+
+    // Pushes a code, a run of bytes, to the latest block of its number that has room, or as a new block.
+    pub fn push_code(self, service_no: u8, code: &[u8]) -> PacketAnswer
+        ensures { λ r. ⌜ Answers (pushedRun true «service_no» (now (code .entry)) self) self r ⌝ }
+    {
+        self.push_run(true, service_no, code)
+    }
+
+    // Pushes a code to the latest block of its number; a new block is made only where there is none.
+    pub fn push_code_into_single_service(self, service_no: u8, code: &[u8]) -> PacketAnswer
+        ensures { λ r. ⌜ Answers (pushedRun false «service_no» (now (code .entry)) self) self r ⌝ }
+    {
+        self.push_run(false, service_no, code)
     }
 
     // Reads a packet as the crate does: data may be shorter than its header says.

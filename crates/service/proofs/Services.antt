@@ -128,7 +128,7 @@ module _ (s : Service) (v : Bool) (is : v ≡ validService s) where
     payload-written e = written-length (blockOf s) ∙ ap (λ n. cond (ltb (s .number) 7) 1 2 + n) (payload-length e)
 
     -- the length of the block, by its number and its length alone
-    length-for : v ≡ true → lengthFor (s .number) (s .len) ≡ blockLength (blockOf s)
+    pub length-for : v ≡ true → lengthFor (s .number) (s .len) ≡ blockLength (blockOf s)
     unfolding lengthFor
     length-for e =
         by-test (eqb (s .len) 0)
