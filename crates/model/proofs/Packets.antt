@@ -71,7 +71,7 @@ unfolding packetLength
 length-some p h = simp (ne-eqb (length (p .blocks)) 0 (λ e. omega arith))
 
 -- the filling makes the length even
-fill-length : (n : ℕ) → length (fill n) ≡ n % 2
+pub fill-length : (n : ℕ) → length (fill n) ≡ n % 2
 unfolding fill
 fill-length n = by-test (eqb (n % 2) 1) (λ e. simp e (omega (arith, eqb-true (n % 2) 1 e))) (λ e. simp e (omega (arith, eqb-false (n % 2) 1 e)))
 

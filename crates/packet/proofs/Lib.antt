@@ -6,3 +6,6 @@ pub mod Packets
 pub mod Measures
 pub mod Pushed
 pub mod Pushes
+pub mod Writes
+pub mod Placed
+pub mod Keeps

@@ -71,7 +71,7 @@ cut-take zero es d = refl
 cut-take (suc j) [] d = refl
 cut-take (suc j) (e ∷ es) d = ap (λ (l : List Block). record { number = e .number; payload = take (e .size) d } ∷ l) (cut-take j es (drop (e .size) d))
 
-cut-drop : (j : ℕ) (es : List Entry) (d : List ℕ) → drop j (cut es d) ≡ cut (drop j es) (drop (usedBy (take j es)) d)
+pub cut-drop : (j : ℕ) (es : List Entry) (d : List ℕ) → drop j (cut es d) ≡ cut (drop j es) (drop (usedBy (take j es)) d)
 unfolding cut usedBy
 cut-drop zero es d = refl
 cut-drop (suc j) [] d = refl
@@ -138,7 +138,7 @@ module _ (p : DTVCCPacket) (w : Within p) (places : Places p) (i : ℕ) (there :
       rw (c, ns, ss, fs)
 
 -- the payloads before a place, by the sizes alone
-used-sum : (j k : ℕ) (ns ss : List ℕ) → j ≤ k → usedBy (take j (entries k ns ss)) ≡ sumOf (take j ss)
+pub used-sum : (j k : ℕ) (ns ss : List ℕ) → j ≤ k → usedBy (take j (entries k ns ss)) ≡ sumOf (take j ss)
 unfolding usedBy entries sumOf
 used-sum zero k ns ss h = refl
 used-sum (suc j) zero ns ss h = absurd (omega arith)

@@ -1,3 +1,4 @@
 pub mod Packet
 pub mod Extent
+pub mod Place
 pub mod Reading

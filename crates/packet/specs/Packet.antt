@@ -123,3 +123,14 @@ pushedBlock s p = mapped (over p) (checked (validDTVCC p && validService s) (pus
 -- a run pushed likewise: to the latest block of the number only if it has room, or whether or not it has
 unfoldable pub pushedRun : Bool → ℕ → List ℕ → DTVCCPacket → Outcome DTVCCPacket
 pushedRun needsRoom n run p = mapped (over p) (checked (validDTVCC p) (pushRunBy needsRoom n run (packetOf p)))
+
+-- a block of a number and a payload
+abbrev pub blockFrom : ℕ → List ℕ → Block
+blockFrom number part = record { number = number; payload = part }
+
+-- entries that a packet may be written from
+pub record Written (es : List Entry) (count bytes : ℕ) : Type 0 where
+  pub few : count ≤ 63
+  pub there : usedBy es ≤ bytes
+  pub good : goodEntries es ≡ true
+  pub short : lengthsOf es ≤ 127

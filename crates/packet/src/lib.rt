@@ -1,16 +1,19 @@
 // A DTVCC packet: its sequence number and its blocks, how it is read, written and pushed to.
 ghost use mathlib.Core.Path.{_≡_};
 ghost use mathlib.Core.Bool.{true, false, cond, _&&_};
-ghost use Prim.Native.Nat.{ℕ, _+_, _-_, _*_, _%_, _≤_, _<_};
+ghost use Prim.Native.Nat.{ℕ, _+_, _-_, _*_, _/_, _%_, _≤_, _<_};
 ghost use lib.ListN.{length, getD, take, drop};
 ghost use lib.Seq.{sets};
 ghost use lib.Dec.{eqb, ltb};
 ghost use Rattle.caption.specs.Answers.{saidRefusal, saidAnswer, saidCounted, saidTruth};
 ghost use Rattle.model.specs.Said.{mapped, isGiven, measured};
-ghost use Rattle.model.specs.Packet.{packetSize, plainMove, blocksFrom, readPacket, readTidy, newPacket, packetLength, packetRoom, extended, pushNew, pushAt};
+ghost use Rattle.model.specs.Packet.{packetSize, plainMove, blocksFrom, readPacket, readTidy, newPacket, packetLength, packetRoom, extended, pushNew, pushAt, writtenBlocks, writtenPacket, fill};
 ghost use Rattle.model.specs.Packet as model;
+ghost use Rattle.model.specs.Block.{writtenBlock};
+ghost use Rattle.service.specs.Service.{Writes};
 ghost use Rattle.packet.specs.Reading.{headerOf, moveBy, moveFor, wrongLength, readAs, keptFor, behind, Laid, Stored, Room, KeepRoom};
-ghost use Rattle.packet.specs.Packet.{Answers, Sized, entries, entriesOf, cut, goodEntry, packetOf, over, laid, blank, validDTVCC, appendedTo, pushedBlock, pushedRun, RoomBehind, RoomAt};
+ghost use Rattle.packet.specs.Packet.{Answers, Sized, entries, entriesOf, cut, goodEntry, packetOf, over, laid, blank, validDTVCC, appendedTo, pushedBlock, pushedRun, RoomBehind, RoomAt, blockFrom, Written};
+ghost use Rattle.packet.specs.Place.{Placed, blocksAt};
 ghost use Rattle.packet.specs.Extent.{walked, extentOf, latestIn, sumOf};
 use caption::Answer;
 use caption::Counted;
@@ -40,6 +43,19 @@ pub struct DTVCCPacket {
 pub struct PacketAnswer {
     pub answer: Answer,
     pub packet: DTVCCPacket,
+}
+
+// Whether there is a block at a place.
+pub enum Place {
+    Here,
+    Nothing,
+    Refused(Refusal),
+}
+
+// Whether there is a block at a place, and the block.
+pub struct ServiceAt {
+    pub place: Place,
+    pub service: Service,
 }
 
 // What the first byte of a packet says: its sequence number, and how many bytes it has in all.
@@ -444,6 +460,64 @@ fn extend(packet: DTVCCPacket, lengths: usize, used: usize, place: usize, run: &
     }
 }
 
+// How many bytes the header of a block is written in.
+fn header_size(number: u8) -> usize
+    ensures { λ r. ⌜ (r ≡ cond (ltb number 7) 1 2) × (r ≤ 2) ⌝ }
+{
+    if number < 7 {
+        return 1;
+    }
+    2
+}
+
+// Lays a block into `out`, from `at` on, as far as there is room.
+fn put_block(out: &mut [u8], at: usize, number: u8, size: u8, part: &[u8])
+    requires { ⌜ (at ≤ 128) × (size ≡ length (now part)) × (size ≤ 31) ⌝ }
+    ensures { λ _. ⌜ now (out .exit) ≡ sets (now (out .entry)) at (writtenBlock (blockFrom number (now (part .entry)))) ⌝ }
+{
+    let start = header_size(number);
+    service::put_header(out, at, number, size);
+    service::put_bytes(out, at + start, part);
+}
+
+// Lays the byte that fills an odd length `n`, at `at`, where there is room.
+fn put_fill(out: &mut [u8], at: usize, n: usize)
+    ensures { λ _. ⌜ now (out .exit) ≡ sets (now (out .entry)) at (fill n) ⌝ }
+{
+    if n % 2 == 1 {
+        if at < out.len() {
+            out[at] = 0;
+        }
+    }
+}
+
+// Lays the blocks one behind the other into `out`, from its second byte on.
+fn put_blocks(numbers: &[u8; 63], sizes: &[u8; 63], payload: &[u8], count: usize, out: &mut [u8])
+    requires { ⌜ Written (entries count (now numbers) (now sizes)) count (length (now payload)) ⌝ }
+    ensures { λ _. ⌜ now (out .exit) ≡ sets (now (out .entry)) 1 (writtenBlocks (cut (entries count (now (numbers .entry)) (now (sizes .entry))) (now (payload .entry)))) ⌝ }
+{
+    let mut at: usize = 1;
+    let mut from: usize = 0;
+    let mut i: usize = 0;
+    while i < count {
+        let number = numbers[i];
+        let size = sizes[i];
+        let end = from + wide(size);
+        put_block(out, at, number, size, &payload[from..end]);
+        at += header_size(number) + wide(size);
+        from = end;
+        i += 1;
+    }
+}
+
+// The header byte of a packet of length `n`.
+fn header_byte(seq_no: u8, n: usize) -> u8
+    requires { ⌜ («seq_no» ≤ 3) × (n ≤ 128) ⌝ }
+    ensures { λ r. ⌜ r ≡ «seq_no» * 64 + (n + 1) / 2 % 64 ⌝ }
+{
+    seq_no * 64 + ((n + 1) / 2 % 64) as u8
+}
+
 impl DTVCCPacket {
     // The extent of a packet that breaks no limit.
     fn extent(self) -> Extent
@@ -545,6 +619,75 @@ impl DTVCCPacket {
                 used: _,
             } => Counted::Count(self.count),
             Extent::Bad => Counted::Refused(Refusal::BadValue),
+        }
+    }
+
+    // Writes the packet to a lent output; answers how many bytes that is.
+    pub fn write(self, out: &mut [u8]) -> Counted
+        ensures { λ r. ⌜ Writes (validDTVCC self) (writtenPacket (packetOf self)) (now (out .entry)) r (now (out .exit)) ⌝ }
+    {
+        let numbers = self.numbers;
+        let sizes = self.sizes;
+        let payload = self.payload;
+        let extent = self.extent();
+        let Extent::Of { lengths, used: _ } = extent else {
+            return Counted::Refused(Refusal::BadValue);
+        };
+        let n = length_of(self.count, lengths);
+        let total = 1 + lengths + n % 2;
+        if out.len() < total {
+            return Counted::Refused(Refusal::OutShort { needed: total });
+        }
+        out[0] = header_byte(self.seq_no, n);
+        put_blocks(&numbers, &sizes, &payload, self.count, out);
+        put_fill(out, 1 + lengths, n);
+        Counted::Count(total)
+    }
+
+    // The block at a place.
+    pub fn service(self, place: usize) -> ServiceAt
+        ensures { λ r. ⌜ Placed (blocksAt place self) r ⌝ }
+    {
+        let numbers = self.numbers;
+        let sizes = self.sizes;
+        let payload = self.payload;
+        let mut bytes = [0u8; 31];
+        let extent = self.extent();
+        let Extent::Of {
+            lengths: _,
+            used: _,
+        } = extent
+        else {
+            return ServiceAt {
+                place: Place::Refused(Refusal::BadValue),
+                service: Service {
+                    number: 0,
+                    len: 0,
+                    payload: bytes,
+                },
+            };
+        };
+        if self.count <= place {
+            return ServiceAt {
+                place: Place::Nothing,
+                service: Service {
+                    number: 0,
+                    len: 0,
+                    payload: bytes,
+                },
+            };
+        }
+        let from = sum_of(&sizes, place);
+        let size = wide(sizes[place]);
+        let end = from + size;
+        service::put_bytes(&mut bytes, 0, &payload[from..end]);
+        ServiceAt {
+            place: Place::Here,
+            service: Service {
+                number: numbers[place],
+                len: size,
+                payload: bytes,
+            },
         }
     }
 

@@ -1,0 +1,41 @@
+-- What a reader gives and a push leaves breaks no limit and holds what the model says; a packet written is read back. Assumes nothing.
+use mathlib.Core.Path.{_≡_, refl, sym, ap, _∙_}
+use mathlib.Core.Bool.{true, false, cond}
+use mathlib.Core.List.{List, []}
+use Prim.Native.Nat.{ℕ, _≤_}
+use lib.ListN.{length, length-replicate}
+use Rattle.model.specs.Said.{Outcome, gave, refused, mapped, checked}
+use Rattle.model.specs.Packet.{Packet, readPacket, readTidy, writtenPacket}
+use Rattle.model.proofs.Packets.{Valid, plain-back, tidy-back}
+use Rattle.model.proofs.Limits.{plain-valid, tidy-valid}
+use Rattle.packet.specs.declared.DTVCCPacket.{DTVCCPacket}
+use Rattle.packet.specs.Packet.{packetOf, over, laid, blank, validDTVCC}
+use Rattle.packet.proofs.Holds.{Places, Within, within-facts, facts-within, held-valid, over-holds, over-within, over-places}
+
+-- the empty places have their lengths
+blank-places : Places blank
+blank-places = record { numbers = length-replicate 63 0; sizes = length-replicate 63 0; payload = length-replicate 127 0 }
+
+-- a packet within the limits, laid over any places: it is held, breaks no limit and keeps the places
+pub record Laid (old : DTVCCPacket) (p : Packet) : Type 0 where
+  pub holds : packetOf (over old p) ≡ p
+  pub valid : validDTVCC (over old p) ≡ true
+  pub places : Places (over old p)
+
+pub laid-over : (old : DTVCCPacket) → Places old → (p : Packet) → Valid p → Laid old p
+laid-over old places p v = record { holds = over-holds old places p v; valid = facts-within (over old p) (over-within old places p v); places = over-places old places p v }
+
+-- what the plain reader gives, and the tidy one
+pub parsed-held : (d : List ℕ) {p : Packet} → readPacket d ≡ gave p → Laid blank p
+parsed-held d {p} e = laid-over blank blank-places p (plain-valid d e)
+
+pub tidily-held : (d : List ℕ) {p : Packet} → readTidy d ≡ gave p → Laid blank p
+tidily-held d {p} e = laid-over blank blank-places p (tidy-valid d e)
+
+-- what a valid packet is written in is read back as what it holds, by both readers
+module _ (p : DTVCCPacket) (v : validDTVCC p ≡ true) (places : Places p) where
+  pub written-back : readPacket (writtenPacket (packetOf p)) ≡ gave (packetOf p)
+  written-back = plain-back (packetOf p) (held-valid p (within-facts p v) places)
+
+  pub written-tidily : 1 ≤ length (packetOf p .blocks) → readTidy (writtenPacket (packetOf p)) ≡ gave (packetOf p)
+  written-tidily some = tidy-back (packetOf p) (held-valid p (within-facts p v) places) some

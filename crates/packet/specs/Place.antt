@@ -1,0 +1,35 @@
+-- What the block at a place of a packet is. Assumes nothing.
+use mathlib.Core.Path.{_≡_}
+use mathlib.Core.List.{List, [], _∷_}
+use Prim.Native.Nat.{ℕ}
+use lib.ListN.{length, take, drop}
+use Rattle.caption.specs.Answers.{saidRefusal}
+use Rattle.model.specs.Said.{Said, Outcome, gave, refused, accepted, saysWith, checked}
+use Rattle.model.specs.Block.{Block}
+use Rattle.service.specs.declared.Service.{Service}
+use Rattle.service.specs.Service.{laid, blank}
+use Rattle.packet.specs.declared.DTVCCPacket.{DTVCCPacket}
+use Rattle.packet.specs.declared.Place.{Place}
+use Rattle.packet.specs.declared.Place.the-variants.{Here, Nothing, Refused}
+use Rattle.packet.specs.declared.ServiceAt.{ServiceAt}
+use Rattle.packet.specs.Packet.{packetOf, validDTVCC}
+
+-- accepted, with how many blocks there are at the place: one or none
+abbrev pub saidPlace : Place → Said
+saidPlace Here = accepted (1 ∷ [])
+saidPlace Nothing = accepted (0 ∷ [])
+saidPlace (Refused why) = saidRefusal why
+
+-- the blocks at a place of a packet: one, or none behind the last
+unfoldable pub blocksAt : ℕ → DTVCCPacket → Outcome (List Block)
+blocksAt i p = checked (validDTVCC p) (gave (take 1 (drop i (packetOf p .blocks))))
+
+-- the block that is handed out: without one, an empty one
+abbrev pub firstOf : Outcome (List Block) → Service
+firstOf (gave (b ∷ bs)) = laid b
+firstOf (gave []) = blank
+firstOf (refused why) = blank
+
+pub record Placed (o : Outcome (List Block)) (r : ServiceAt) : Type 0 where
+  pub place : saidPlace (r .place) ≡ saysWith (λ bs. length bs ∷ []) o
+  pub service : r .service ≡ firstOf o
