@@ -14,7 +14,7 @@ use Rattle.packet.proofs.Holds.{Places, Within, within-facts, facts-wit
 
 -- the empty places have their lengths
 blank-places : Places blank
-blank-places = record { numbers = length-replicate 63 0; sizes = length-replicate 63 0; payload = length-replicate 127 0 }
+blank-places = record { numbers = length-replicate {A = ℕ} 63 0; sizes = length-replicate {A = ℕ} 63 0; payload = length-replicate {A = ℕ} 127 0 }
 
 -- a packet within the limits, laid over any places: it is held, breaks no limit and keeps the places
 pub record Laid (old : DTVCCPacket) (p : Packet) : Type 0 where
