@@ -8,6 +8,7 @@ pub mod Rates
 pub mod Durations
 pub mod Frames
 pub mod Sends
+pub mod Pushing
 pub mod Examples
 pub mod DemuxStates
 pub mod MuxStates

@@ -1,16 +1,19 @@
 -- What a reader gives and a push leaves breaks no limit and holds what the model says; a packet written is read back. Assumes nothing.
-use mathlib.Core.Path.{_≡_, refl, sym, ap, _∙_}
-use mathlib.Core.Bool.{true, false, cond}
-use mathlib.Core.List.{List, []}
+use mathlib.Core.Path.{_≡_}
+use mathlib.Core.Bool.{Bool, true}
+use mathlib.Core.List.{List}
 use Prim.Native.Nat.{ℕ, _≤_}
 use lib.ListN.{length, length-replicate}
-use Rattle.model.specs.Said.{Outcome, gave, refused, mapped, checked}
-use Rattle.model.specs.Packet.{Packet, readPacket, readTidy, writtenPacket}
+use Rattle.model.specs.Said.{gave}
+use Rattle.model.specs.Packet.{Packet, readPacket, readTidy, writtenPacket, pushBlock, pushRunBy}
 use Rattle.model.proofs.Packets.{Valid, plain-back, tidy-back}
+use Rattle.model.specs.Block.{Block, validBlock}
+use Rattle.model.proofs.Cases.{gives-at}
 use Rattle.model.proofs.Limits.{plain-valid, tidy-valid}
+use Rattle.model.proofs.Pushing.{block-valid, run-valid}
 use Rattle.packet.specs.declared.DTVCCPacket.{DTVCCPacket}
-use Rattle.packet.specs.Packet.{packetOf, over, laid, blank, validDTVCC}
-use Rattle.packet.proofs.Holds.{Places, Within, within-facts, facts-within, held-valid, over-holds, over-within, over-places}
+use Rattle.packet.specs.Packet.{packetOf, over, blank, validDTVCC}
+use Rattle.packet.proofs.Holds.{Places, within-facts, facts-within, held-valid, over-holds, over-within, over-places}
 
 -- the empty places have their lengths
 blank-places : Places blank
@@ -39,3 +42,14 @@ module _ (p : DTVCCPacket) (v : validDTVCC p ≡ true) (places : Places p) where
 
   pub written-tidily : 1 ≤ length (packetOf p .blocks) → readTidy (writtenPacket (packetOf p)) ≡ gave (packetOf p)
   written-tidily some = tidy-back (packetOf p) (held-valid p (within-facts p v) places) some
+
+-- what a push leaves: the packet that the model gives, within the limits
+module _ (p : DTVCCPacket) (v : validDTVCC p ≡ true) (places : Places p) where
+  held : Valid (packetOf p)
+  held = held-valid p (within-facts p v) places
+
+  pub run-held : (needsRoom : Bool) (n : ℕ) (run : List ℕ) {q : Packet} → pushRunBy needsRoom n run (packetOf p) ≡ gave q → Laid p q
+  run-held needsRoom n run {q} e = laid-over p places q (gives-at Valid _ e (run-valid (packetOf p) held needsRoom n run))
+
+  pub block-held : (b : Block) → validBlock b ≡ true → {q : Packet} → pushBlock b (packetOf p) ≡ gave q → Laid p q
+  block-held b ok {q} e = laid-over p places q (gives-at Valid _ e (block-valid (packetOf p) held b ok))
