@@ -1,20 +1,18 @@
 -- The entries of a packet's arrays, and the blocks that are cut by them. Assumes nothing.
 use mathlib.Core.Path.{_≡_, refl, sym, ap, ap₂, _∙_}
-use mathlib.Core.Bool.{Bool, true, false, cond, _&&_}
+use mathlib.Core.Bool.{true, cond, _&&_}
 use mathlib.Core.List.{List, [], _∷_, _++_, map, append-assoc}
 use Prim.Native.Nat.{ℕ, zero, suc, _+_, _-_, _*_, _≤_, _<_}
 use native.Mathlib.Nat.{add-zero}
-use native.Mathlib.Numerals.{add-one}
 use native.Mathlib.Omega.{arith}
 use lib.Dec.{eqb, leb, ltb}
-use lib.ListN.{length, take, drop, getD, length-append, length-drop, length-map}
-use lib.Seq.{drop-drop, getD-drop, drop-cons, length-take-le, take-add, take-at, drop-at}
-use borrow.Author.Tests.{ne-eqb, le-leb, leb-true, eqb-true, eqb-false}
-use Rattle.model.specs.Block.{Block, writtenBlock, blockLength}
-use Rattle.model.specs.Packet.{Packet, carriable, allCarriable, blocksLength, packetLength, validPacket}
+use lib.ListN.{length, take, drop, getD, length-append, length-drop}
+use lib.Seq.{drop-drop, getD-drop, length-take-le, take-add, take-at, drop-at}
+use borrow.Author.Tests.{ne-eqb, le-leb, leb-true}
+use Rattle.model.specs.Block.{Block, blockLength}
+use Rattle.model.specs.Packet.{carriable, allCarriable, blocksLength}
 use Rattle.model.proofs.Cases.{by-test, both, and-both}
 use Rattle.model.proofs.Blocks.{Carriable, facts-carriable, carriable-facts, block-length, written-length}
-use Rattle.model.proofs.Packets.{Valid, length-some, length-empty}
 use Rattle.service.specs.Head.{lengthFor}
 use Rattle.packet.specs.Packet.{Entry, entries, cut, goodEntry, goodEntries, lengthsOf, usedBy, numbersOf, sizesOf, payloadsOf}
 

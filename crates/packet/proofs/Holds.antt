@@ -1,17 +1,17 @@
 -- What a valid `DTVCCPacket` holds is a packet within the limits, and a packet laid over any places is the packet held. Assumes nothing.
-use mathlib.Core.Path.{_≡_, refl, sym, ap, _∙_}
-use mathlib.Core.Bool.{Bool, true, false, cond, _&&_}
+use mathlib.Core.Path.{_≡_, refl, ap, _∙_}
+use mathlib.Core.Bool.{true, cond, _&&_}
 use mathlib.Core.List.{List, [], _∷_, _++_, map}
-use Prim.Native.Nat.{ℕ, _+_, _-_, _≤_, _<_}
+use Prim.Native.Nat.{_+_, _≤_}
 use native.Mathlib.Omega.{arith}
 use lib.Dec.{eqb, leb}
-use lib.ListN.{length, take, drop, length-map}
+use lib.ListN.{length, drop, length-map}
 use lib.Seq.{sets, length-sets}
-use borrow.Author.Tests.{le-leb, leb-true, eqb-true, eqb-false, eq-eqb, ne-eqb}
+use borrow.Author.Tests.{le-leb, leb-true, eqb-true, eqb-false}
 use Rattle.model.specs.Block.{Block}
-use Rattle.model.specs.Packet.{Packet, allCarriable, blocksLength, packetLength, packetRoom}
-use Rattle.model.proofs.Cases.{by-test, both, and-both}
-use Rattle.model.proofs.Packets.{Valid, length-some, length-empty, blocks-two}
+use Rattle.model.specs.Packet.{Packet, blocksLength, packetLength}
+use Rattle.model.proofs.Cases.{by-test, both}
+use Rattle.model.proofs.Packets.{Valid, length-some, length-empty}
 use Rattle.model.proofs.Limits.{few-blocks}
 use Rattle.service.proofs.Runs.{sets-front}
 use Rattle.packet.specs.declared.DTVCCPacket.{DTVCCPacket}

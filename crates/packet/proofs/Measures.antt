@@ -1,7 +1,7 @@
 -- What is measured of a packet, by each way out. Assumes nothing.
-use mathlib.Core.Path.{_≡_, refl, sym, ap, _∙_}
-use mathlib.Core.Bool.{Bool, true, false, cond}
-use mathlib.Core.List.{List, [], _∷_}
+use mathlib.Core.Path.{_≡_, sym, ap, _∙_}
+use mathlib.Core.Bool.{cond}
+use mathlib.Core.List.{[], _∷_}
 use Prim.Native.Nat.{ℕ, _+_, _-_, _≤_, _<_}
 use native.Mathlib.Omega.{arith}
 use lib.Dec.{eqb}
@@ -13,7 +13,7 @@ use Rattle.model.proofs.Cases.{by-cond}
 use Rattle.packet.specs.declared.DTVCCPacket.{DTVCCPacket}
 use Rattle.packet.specs.declared.Extent.{Extent}
 use Rattle.packet.specs.declared.Extent.the-variants.{Of, Bad}
-use Rattle.packet.specs.Packet.{Sized, entriesOf, packetOf, over, laid, blank, validDTVCC, lengthsOf}
+use Rattle.packet.specs.Packet.{Sized, packetOf, over, laid, blank, validDTVCC}
 use Rattle.packet.specs.Extent.{extentOf}
 use Rattle.packet.proofs.Holds.{Places, Within, within-facts, blocks-count, length-held}
 use Rattle.packet.proofs.Walks.{extent-sized, extent-invalid}

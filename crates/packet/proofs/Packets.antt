@@ -1,27 +1,25 @@
 -- What reading a packet answers, by each way out. Assumes nothing.
 use mathlib.Core.Path.{_≡_, refl, sym, ap, _∙_}
-use mathlib.Core.Bool.{Bool, true, false, cond, not}
-use mathlib.Core.List.{List, [], _∷_}
+use mathlib.Core.Bool.{Bool, true, false}
+use mathlib.Core.List.{List, []}
 use Prim.Native.Nat.{ℕ, _+_, _≤_, _<_}
 use native.Mathlib.Nat.{zero-add}
 use native.Mathlib.Omega.{arith}
-use lib.Dec.{eqb, ltb}
 use lib.ListN.{length, getD, drop, replicate}
-use lib.Seq.{sets}
 use borrow.Author.Tests.{eq-eqb, ne-eqb, lt-ltb, le-ltb, eqb-true, ltb-false, not-false}
 use Rattle.caption.specs.declared.Refusal.{Refusal}
 use Rattle.caption.specs.declared.Counted.{Counted}
 use Rattle.caption.specs.declared.Counted.the-variants.{Count, Refused}
-use Rattle.caption.specs.Answers.{saidRefusal, saidAnswer, saidCounted}
+use Rattle.caption.specs.Answers.{saidRefusal, saidAnswer}
 use Rattle.model.specs.Said.{Said, Outcome, gave, refused, says, after, isGiven, mapped, accepted, lengthMismatch}
 use Rattle.model.specs.Block.{Block}
-use Rattle.model.specs.Packet.{Packet, packetSize, sequenceIn, plainMove, tidyMove, blocksFrom, readBy, readPacket, readTidy, reads}
+use Rattle.model.specs.Packet.{packetSize, sequenceIn, plainMove, blocksFrom, readBy, readPacket, readTidy, reads}
 use Rattle.model.proofs.Cases.{mapped-mapped}
 use Rattle.model.proofs.Limits.{size-most}
 use Rattle.packet.specs.declared.DTVCCPacket.{DTVCCPacket}
 use Rattle.packet.specs.declared.PacketAnswer.{PacketAnswer}
 use Rattle.packet.specs.declared.Header.{Header}
-use Rattle.packet.specs.Packet.{Answers, over, laid, blank, numbersOf, sizesOf, payloadsOf}
+use Rattle.packet.specs.Packet.{Answers, over, laid}
 use Rattle.packet.specs.Reading.{headerOf, moveBy, wrongLength, readAs, Stored, Room}
 use Rattle.packet.proofs.Reading.{given-mapped}
 

@@ -1,23 +1,20 @@
 -- The block at a place, by each way out. Assumes nothing.
 use mathlib.Core.Path.{_≡_, refl, sym, ap, _∙_}
-use mathlib.Core.Bool.{true, false}
+use mathlib.Core.Bool.{false}
 use mathlib.Core.List.{List, [], _∷_}
 use Prim.Native.Nat.{ℕ, zero, suc, _+_, _-_, _≤_, _<_}
 use native.Mathlib.Omega.{arith}
 use lib.ListN.{length, take, drop, getD, replicate, length-drop, drop-of-length-le}
 use lib.Seq.{sets, length-take-le, drop-drop}
 use Rattle.caption.specs.declared.Refusal.the-variants.{BadValue}
-use Rattle.model.specs.Said.{gave, refused, badValue}
-use Rattle.model.specs.Block.{Block}
-use Rattle.service.specs.Service.{laid, blank}
+use Rattle.service.specs.Service.{blank}
 use Rattle.service.proofs.Services.{laid-as}
 use Rattle.packet.specs.declared.DTVCCPacket.{DTVCCPacket}
-use Rattle.packet.specs.declared.ServiceAt.{ServiceAt}
 use Rattle.packet.specs.declared.Place.the-variants.{Here, Nothing, Refused}
-use Rattle.packet.specs.Packet.{Entry, Sized, entries, entriesOf, cut, usedBy, packetOf, validDTVCC}
+use Rattle.packet.specs.Packet.{Sized, entries, entriesOf, cut, usedBy, packetOf, validDTVCC}
 use Rattle.packet.specs.Extent.{sumOf}
 use Rattle.packet.specs.Place.{Placed, blocksAt}
-use Rattle.packet.proofs.Entries.{entries-at, entries-length}
+use Rattle.packet.proofs.Entries.{entries-at}
 use Rattle.packet.proofs.Holds.{Places, Within, used-fits, blocks-count}
 use Rattle.packet.proofs.Measures.{sized-within}
 use Rattle.packet.proofs.Pushed.{used-sum, used-parts, cut-drop}

@@ -1,5 +1,5 @@
 -- What a push does to the places of a packet: the packet that the model gives, laid over them. Assumes nothing.
-use mathlib.Core.Path.{_≡_, refl, sym, ap, ap₂, _∙_}
+use mathlib.Core.Path.{_≡_, refl, sym, ap, _∙_}
 use mathlib.Core.List.{List, [], _∷_, _++_, map, append-nil, append-assoc}
 use Prim.Native.Nat.{ℕ, zero, suc, _+_, _-_, _≤_, _<_}
 use native.Mathlib.Nat.{zero-add}
@@ -13,7 +13,7 @@ use Rattle.service.proofs.Runs.{sets-front, sets-append}
 use Rattle.packet.specs.declared.DTVCCPacket.{DTVCCPacket}
 use Rattle.packet.specs.Packet.{Entry, Sized, entries, entriesOf, cut, usedBy, packetOf, over, numbersOf, sizesOf, payloadsOf, appendedTo}
 use Rattle.packet.specs.Extent.{sumOf}
-use Rattle.packet.proofs.Entries.{entries-length, entries-numbers, entries-sizes, cut-numbers, cut-sizes, cut-payloads}
+use Rattle.packet.proofs.Entries.{entries-numbers, entries-sizes, cut-numbers, cut-sizes, cut-payloads}
 use Rattle.packet.proofs.Reading.{map-append, payloads-append}
 use Rattle.packet.proofs.Holds.{Places, Within, within-facts, used-fits, blocks-count}
 

@@ -1,14 +1,14 @@
 -- What the pushes answer, by each way out. Assumes nothing.
 use mathlib.Core.Path.{_≡_, refl, sym, ap, _∙_}
 use mathlib.Core.Bool.{Bool, true, false, cond, _&&_}
-use mathlib.Core.List.{List, [], _∷_}
+use mathlib.Core.List.{List}
 use mathlib.Core.Option.{Option, none, some}
 use Prim.Native.Nat.{ℕ, zero, suc, _+_, _-_, _*_, _≤_, _<_}
 use native.Mathlib.Omega.{arith}
 use lib.Dec.{eqb, ltb}
 use lib.ListN.{length, take, getD}
-use borrow.Author.Tests.{eq-eqb, ne-eqb, lt-ltb, le-ltb, eqb-true, eqb-false}
-use Rattle.model.specs.Said.{Outcome, gave, refused, mapped, checked, badValue, badNumber, badRun, readOnly, emptyService, wouldOverflow}
+use borrow.Author.Tests.{eq-eqb, ne-eqb, lt-ltb, le-ltb, eqb-true}
+use Rattle.model.specs.Said.{Outcome, gave, refused, mapped, badValue, badNumber, badRun, readOnly, emptyService, wouldOverflow}
 use Rattle.model.specs.Block.{blockLength, blockRoom}
 use Rattle.model.specs.Packet.{packetRoom, blockAt, pushBlock, pushNew, pushAt, pushRunAt, pushRunBy, latestOf, latest, extended}
 use Rattle.model.proofs.Cases.{by-test}
@@ -20,7 +20,7 @@ use Rattle.packet.specs.declared.DTVCCPacket.{DTVCCPacket}
 use Rattle.packet.specs.declared.PacketAnswer.{PacketAnswer}
 use Rattle.packet.specs.declared.Found.{Found}
 use Rattle.packet.specs.declared.Found.the-variants.{At, Nothing}
-use Rattle.packet.specs.Packet.{Answers, Sized, entries, entriesOf, goodEntries, lengthsOf, usedBy, packetOf, over, validDTVCC, appendedTo, pushedBlock, pushedRun, RoomBehind, RoomAt}
+use Rattle.packet.specs.Packet.{Answers, Sized, entries, entriesOf, lengthsOf, packetOf, over, validDTVCC, appendedTo, pushedBlock, pushedRun, RoomBehind, RoomAt}
 use Rattle.packet.specs.Extent.{latestIn}
 use Rattle.packet.proofs.Entries.{entries-length, entries-two, block-lengths, length-least, length-most, used-least, good-at}
 use Rattle.packet.proofs.Holds.{Places, Within, blocks-count}

@@ -1,21 +1,21 @@
 -- How the blocks of a packet are read into their places, step by step. Assumes nothing.
-use mathlib.Core.Path.{_≡_, refl, sym, ap, ap₂, _∙_, subst}
+use mathlib.Core.Path.{_≡_, refl, sym, ap, _∙_}
 use mathlib.Core.Bool.{Bool, true, false, cond, not, _&&_}
 use mathlib.Core.List.{List, [], _∷_, _++_, map, append-assoc, append-nil}
-use Prim.Native.Nat.{ℕ, suc, _+_, _-_, _*_, _/_, _%_, _≤_, _<_}
+use Prim.Native.Nat.{ℕ, _+_, _-_, _*_, _≤_, _<_}
 use native.Mathlib.Nat.{add-zero}
 use native.Mathlib.Omega.{arith}
-use lib.Dec.{eqb, leb, ltb}
+use lib.Dec.{eqb, ltb}
 use lib.ListN.{length, take, drop, getD, set, length-append, length-map, length-drop, drop-of-length-le}
 use lib.Seq.{sets, drop-drop, length-take-le}
-use borrow.Author.Tests.{eq-eqb, ne-eqb, lt-ltb, le-ltb, eqb-true, eqb-false, ltb-false}
+use borrow.Author.Tests.{eq-eqb, ne-eqb, eqb-true, eqb-false, ltb-false}
 use Rattle.caption.specs.declared.Refusal.{Refusal}
 use Rattle.caption.specs.declared.Counted.{Counted}
 use Rattle.caption.specs.declared.Counted.the-variants.{Count, Refused}
 use Rattle.caption.specs.Answers.{saidRefusal}
-use Rattle.model.specs.Said.{Said, Outcome, gave, refused, isGiven, mapped, andThen, lengthMismatch}
-use Rattle.model.specs.Block.{Block, topNumber, blockSize, headerLength, numberIn, needed, isShort, blockIn, readBlock, writtenBlock, blockLength}
-use Rattle.model.specs.Packet.{Packet, plainMove, tidyMove, kept, blocksFrom}
+use Rattle.model.specs.Said.{Outcome, gave, refused, isGiven, mapped, lengthMismatch}
+use Rattle.model.specs.Block.{Block, topNumber, blockSize, headerLength, needed, isShort, blockIn, readBlock, blockLength}
+use Rattle.model.specs.Packet.{plainMove, tidyMove, kept, blocksFrom}
 use Rattle.model.proofs.Cases.{by-test, by-cond, mapped-by}
 use Rattle.model.proofs.Blocks.{block-length, written-length}
 use Rattle.model.proofs.Walk.{blocks-next, blocks-none}

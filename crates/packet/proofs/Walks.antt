@@ -1,24 +1,19 @@
 -- The loops over a packet's arrays: what is found from place i on, and one place further. Assumes nothing.
 use mathlib.Core.Path.{_≡_, refl, sym, ap, ap₂, _∙_}
-use mathlib.Core.Bool.{Bool, true, false, cond, _&&_}
+use mathlib.Core.Bool.{Bool, true, false, cond}
 use mathlib.Core.List.{List, [], _∷_}
-use mathlib.Core.Option.{Option, none, some}
 use Prim.Native.Nat.{ℕ, zero, suc, _+_, _-_, _*_, _≤_, _<_}
 use native.Mathlib.Nat.{add-zero, zero-add, add-assoc, sub-zero}
 use native.Mathlib.Numerals.{add-one}
 use native.Mathlib.Omega.{arith}
-use lib.Dec.{eqb, leb}
-use lib.ListN.{length, take, drop, getD}
+use lib.ListN.{take, drop, getD}
 use lib.Seq.{drop-nil, take-nil}
 use borrow.Author.Tests.{eq-eqb, ne-eqb, lt-leb, le-leb}
-use Rattle.model.specs.Block.{Block}
-use Rattle.model.specs.Packet.{latestOf, noBlock}
-use Rattle.model.proofs.Cases.{by-test, both}
+use Rattle.model.proofs.Cases.{by-test}
 use Rattle.service.specs.Head.{lengthFor}
 use Rattle.packet.specs.declared.DTVCCPacket.{DTVCCPacket}
 use Rattle.packet.specs.declared.Extent.{Extent}
 use Rattle.packet.specs.declared.Extent.the-variants.{Of, Bad}
-use Rattle.packet.specs.declared.Found.{Found}
 use Rattle.packet.specs.declared.Found.the-variants.{At, Nothing}
 use Rattle.packet.specs.Packet.{Entry, Sized, entries, entriesOf, goodEntry, goodEntries, lengthsOf, usedBy, validDTVCC}
 use Rattle.packet.specs.Extent.{walked, extentOf, latestIn, sumOf}

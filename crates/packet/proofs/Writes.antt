@@ -1,9 +1,9 @@
 -- How a packet is laid into an output: header, blocks, fill. Assumes nothing.
-use mathlib.Core.Path.{_≡_, refl, sym, ap, _∙_}
-use mathlib.Core.Bool.{Bool, true, false, cond}
+use mathlib.Core.Path.{_≡_, refl, sym, _∙_}
+use mathlib.Core.Bool.{true, false, cond}
 use mathlib.Core.List.{List, [], _∷_, _++_}
-use Prim.Native.Nat.{ℕ, zero, suc, _+_, _-_, _*_, _/_, _%_, _≤_, _<_}
-use native.Mathlib.Nat.{zero-add, sub-zero}
+use Prim.Native.Nat.{ℕ, _+_, _-_, _*_, _/_, _%_, _≤_, _<_}
+use native.Mathlib.Nat.{sub-zero}
 use native.Mathlib.Omega.{arith}
 use lib.Dec.{eqb, ltb}
 use lib.ListN.{length, take, drop, getD, set, length-append, length-drop}
@@ -13,8 +13,8 @@ use Rattle.caption.specs.declared.Counted.{Counted}
 use Rattle.caption.specs.Answers.{saidCounted}
 use Rattle.model.specs.Said.{putInto, accepted, badValue, outShort}
 use Rattle.model.specs.Block.{Block, writtenHeader, writtenBlock}
-use Rattle.model.specs.Packet.{Packet, packetLength, packetHeader, writtenBlocks, writtenPacket, fill}
-use Rattle.model.proofs.Cases.{by-test, both}
+use Rattle.model.specs.Packet.{packetLength, packetHeader, writtenBlocks, writtenPacket, fill}
+use Rattle.model.proofs.Cases.{both}
 use Rattle.model.proofs.Blocks.{written-length}
 use Rattle.model.proofs.Packets.{blocks-length, fill-length}
 use Rattle.service.specs.Service.{Writes}
@@ -24,7 +24,7 @@ use Rattle.service.proofs.Heads.{laid-block}
 use Rattle.packet.specs.declared.DTVCCPacket.{DTVCCPacket}
 use Rattle.packet.specs.Packet.{Entry, Sized, Written, entries, entriesOf, cut, goodEntry, goodEntries, lengthsOf, usedBy, packetOf, validDTVCC, blockFrom}
 use Rattle.packet.proofs.Entries.{Good, entries-at, good-facts, length-for, cut-lengths, cut-carriable}
-use Rattle.packet.proofs.Holds.{Places, Within, used-fits}
+use Rattle.packet.proofs.Holds.{Places, used-fits}
 use Rattle.packet.proofs.Measures.{sized-within, sized-length}
 
 -- the fill of an odd length, and of an even one

@@ -1,11 +1,11 @@
-use Prim.Native.Nat.{_+_, _-_, _≤_}
+-- The rest of the bytes falls with each block; each way out is one law about `blocksFrom`. Assumes nothing.
+use Prim.Native.Nat.{_+_, _-_, _≤_, ℕ, _<_}
 use mathlib.Core.Bool.{false}
 use native.Mathlib.Omega.{arith}
 use borrow.Author.Needs.{needs}
 use denote.Ref.{now}
 use lib.ListN.{length}
 use Rattle.packet.proofs.Reading.{reads-none, reads-short, reads-next, head-room, move-within}
-use Prim.Native.Nat.{ℕ, _<_}
 use borrow.Fn.Kinds.{In}
 use borrow.Fn.PlainCycle.{Measures, is, falls, and}
 use Rattle.packet.proofs.blocks_read.Reads as blocks-read
@@ -38,7 +38,6 @@ within : (t : ℕ) (c : blocks-read-lts.After-moved (
 ) (blocks-read-at t) blocks-read.Post) → (c .before .before .before .before .before .before .before .args .at + c .moved .result ≤ length (now (c .before .before .before .before .before .before .before .args .«data»))) × (1 ≤ c .moved .result)
 within t c = let b = c .before .before in move-within false _ _ _ _ _ _ _ (b .before .before .before .if1 .left) (b .before .before .read-head .ensures) (b .number .given .1) (c .moved .ensures)
 
--- src/lib.rt:86:9
 blocks-read-returns : (t : ℕ) → blocks-read-lts.Need-returns (
   read-head-reads.Asked,
   read-head-reads.Learnt,
@@ -49,7 +48,6 @@ blocks-read-returns : (t : ℕ) → blocks-read-lts.Need-returns (
 ) (blocks-read-at t) blocks-read.Post
 blocks-read-returns t c = search (needs, reads-none)
 
--- src/lib.rt:92:9
 blocks-read-read-head-requires : (t : ℕ) → blocks-read-lts.Need-read-head-requires (
   read-head-reads.Asked,
   read-head-reads.Learnt,
@@ -60,7 +58,6 @@ blocks-read-read-head-requires : (t : ℕ) → blocks-read-lts.Need-read-head-re
 ) (blocks-read-at t) blocks-read.Post
 blocks-read-read-head-requires t c κs = search needs
 
--- src/lib.rt:89:9
 blocks-read-enum-known-number : (t : ℕ) → blocks-read-lts.Need-enum-known-number (
   read-head-reads.Asked,
   read-head-reads.Learnt,
@@ -71,7 +68,6 @@ blocks-read-enum-known-number : (t : ℕ) → blocks-read-lts.Need-enum-known-nu
 ) (blocks-read-at t) blocks-read.Post
 blocks-read-enum-known-number t c = search needs
 
--- src/lib.rt:93:9
 blocks-read-enum-told : (t : ℕ) → blocks-read-lts.Need-enum-told (
   read-head-reads.Asked,
   read-head-reads.Learnt,
@@ -82,7 +78,6 @@ blocks-read-enum-told : (t : ℕ) → blocks-read-lts.Need-enum-told (
 ) (blocks-read-at t) blocks-read.Post
 blocks-read-enum-told t c = search needs
 
--- src/lib.rt:93:9
 blocks-read-returns-2 : (t : ℕ) → blocks-read-lts.Need-returns-2 (
   read-head-reads.Asked,
   read-head-reads.Learnt,
@@ -93,7 +88,6 @@ blocks-read-returns-2 : (t : ℕ) → blocks-read-lts.Need-returns-2 (
 ) (blocks-read-at t) blocks-read.Post
 blocks-read-returns-2 t c = search (needs, reads-short)
 
--- src/lib.rt:95:28
 blocks-read-moved-requires : (t : ℕ) → blocks-read-lts.Need-moved-requires (
   read-head-reads.Asked,
   read-head-reads.Learnt,
@@ -104,7 +98,6 @@ blocks-read-moved-requires : (t : ℕ) → blocks-read-lts.Need-moved-requires (
 ) (blocks-read-at t) blocks-read.Post
 blocks-read-moved-requires t c κs = head-room _ _ _ _ _ (c .before .before .before .read-head .ensures) (c .before .number .given .1)
 
--- src/lib.rt:95:23
 blocks-read-add-blocks-read : (t : ℕ) → blocks-read-lts.Need-add-blocks-read (
   read-head-reads.Asked,
   read-head-reads.Learnt,
@@ -115,7 +108,6 @@ blocks-read-add-blocks-read : (t : ℕ) → blocks-read-lts.Need-add-blocks-read
 ) (blocks-read-at t) blocks-read.Post
 blocks-read-add-blocks-read t c = let w = within t c in omega (arith, w .0)
 
--- src/lib.rt:95:5
 blocks-read-blocks-read-requires : (t : ℕ) → blocks-read-lts.Need-blocks-read-requires (
   read-head-reads.Asked,
   read-head-reads.Learnt,
@@ -126,7 +118,6 @@ blocks-read-blocks-read-requires : (t : ℕ) → blocks-read-lts.Need-blocks-rea
 ) (blocks-read-at t) blocks-read.Post
 blocks-read-blocks-read-requires t c κs = let w = within t c in omega (arith, w .0, w .1)
 
--- src/lib.rt:81:1
 blocks-read-returns-3 : (t : ℕ) → blocks-read-lts.Need-returns-3 (
   read-head-reads.Asked,
   read-head-reads.Learnt,

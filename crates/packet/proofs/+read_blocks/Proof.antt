@@ -1,14 +1,14 @@
+-- The rest of the bytes falls with each block; what is stored and what the call of itself stores join to what `Stored` says. Assumes nothing.
 use mathlib.Core.Path.{_≡_, sym, _∙_}
-use Prim.Native.Nat.{_+_, _-_, _≤_}
+use Prim.Native.Nat.{_+_, _-_, _≤_, ℕ, _<_}
 use native.Mathlib.Omega.{arith}
 use borrow.Author.Needs.{needs}
 use denote.Ref.{now}
 use lib.ListN.{length, drop}
 use Rattle.service.specs.declared.Head.the-variants.{Whole}
 use Rattle.service.specs.Head.{headOf}
-use Rattle.packet.specs.Reading.{moveFor, Room, KeepRoom}
+use Rattle.packet.specs.Reading.{moveFor, KeepRoom}
 use Rattle.packet.proofs.Reading.{stored-none, stored-short, stored-next, head-room, move-within, keep-room, room-next}
-use Prim.Native.Nat.{ℕ, _<_}
 use borrow.Fn.Kinds.{In}
 use borrow.Fn.PlainCycle.{Measures, is, falls, and}
 use Rattle.packet.proofs.read_blocks.Reads as read-blocks
@@ -56,7 +56,6 @@ keeps t c = let s = c .before .before .before .before .before in keep-room (s .a
 within : (t : ℕ) (c : Headed-at t) (m : ℕ) → m ≡ moveFor (c .before .before .before .before .before .args .tidy) (c .head .given .0 .0) (c .head .given .0 .1 .0) (c .head .given .0 .1 .1 .0) → (c .before .before .before .before .before .args .at + m ≤ length (now (c .before .before .before .before .before .args .«data»))) × (1 ≤ m)
 within t c m e = move-within (c .before .before .before .before .before .args .tidy) _ _ _ _ _ _ m (c .before .before .before .if1 .left) (c .before .before .read-head .ensures) (c .head .given .1) e
 
--- src/lib.rt:147:9
 read-blocks-returns : (t : ℕ) → read-blocks-lts.Need-returns (
   read-head-reads.Asked,
   read-head-reads.Learnt,
@@ -71,7 +70,6 @@ read-blocks-returns : (t : ℕ) → read-blocks-lts.Need-returns (
 ) (read-blocks-at t) read-blocks.Post
 read-blocks-returns t c = search (needs, stored-none)
 
--- src/lib.rt:149:9
 read-blocks-read-head-requires : (t : ℕ) → read-blocks-lts.Need-read-head-requires (
   read-head-reads.Asked,
   read-head-reads.Learnt,
@@ -86,7 +84,6 @@ read-blocks-read-head-requires : (t : ℕ) → read-blocks-lts.Need-read-head-re
 ) (read-blocks-at t) read-blocks.Post
 read-blocks-read-head-requires t c κs = search needs
 
--- src/lib.rt:151:9
 read-blocks-enum-known-head : (t : ℕ) → read-blocks-lts.Need-enum-known-head (
   read-head-reads.Asked,
   read-head-reads.Learnt,
@@ -101,7 +98,6 @@ read-blocks-enum-known-head : (t : ℕ) → read-blocks-lts.Need-enum-known-head
 ) (read-blocks-at t) read-blocks.Post
 read-blocks-enum-known-head t c = search needs
 
--- src/lib.rt:155:57
 read-blocks-enum-told : (t : ℕ) → read-blocks-lts.Need-enum-told (
   read-head-reads.Asked,
   read-head-reads.Learnt,
@@ -116,7 +112,6 @@ read-blocks-enum-told : (t : ℕ) → read-blocks-lts.Need-enum-told (
 ) (read-blocks-at t) read-blocks.Post
 read-blocks-enum-told t c = search needs
 
--- src/lib.rt:155:57
 read-blocks-sub-short-of : (t : ℕ) → read-blocks-lts.Need-sub-short-of (
   read-head-reads.Asked,
   read-head-reads.Learnt,
@@ -131,7 +126,6 @@ read-blocks-sub-short-of : (t : ℕ) → read-blocks-lts.Need-sub-short-of (
 ) (read-blocks-at t) read-blocks.Post
 read-blocks-sub-short-of t c = search needs
 
--- src/lib.rt:155:33
 read-blocks-short-of-requires : (t : ℕ) → read-blocks-lts.Need-short-of-requires (
   read-head-reads.Asked,
   read-head-reads.Learnt,
@@ -146,7 +140,6 @@ read-blocks-short-of-requires : (t : ℕ) → read-blocks-lts.Need-short-of-requ
 ) (read-blocks-at t) read-blocks.Post
 read-blocks-short-of-requires t c κs = search needs
 
--- src/lib.rt:155:9
 read-blocks-returns-2 : (t : ℕ) → read-blocks-lts.Need-returns-2 (
   read-head-reads.Asked,
   read-head-reads.Learnt,
@@ -161,7 +154,6 @@ read-blocks-returns-2 : (t : ℕ) → read-blocks-lts.Need-returns-2 (
 ) (read-blocks-at t) read-blocks.Post
 read-blocks-returns-2 t c = search (needs, stored-short)
 
--- src/lib.rt:157:33
 read-blocks-add-keep-block : (t : ℕ) → read-blocks-lts.Need-add-keep-block (
   read-head-reads.Asked,
   read-head-reads.Learnt,
@@ -176,7 +168,6 @@ read-blocks-add-keep-block : (t : ℕ) → read-blocks-lts.Need-add-keep-block (
 ) (read-blocks-at t) read-blocks.Post
 read-blocks-add-keep-block t c = omega (arith, keeps t (c .before) .there)
 
--- src/lib.rt:157:9
 read-blocks-keep-block-requires : (t : ℕ) → read-blocks-lts.Need-keep-block-requires (
   read-head-reads.Asked,
   read-head-reads.Learnt,
@@ -191,7 +182,6 @@ read-blocks-keep-block-requires : (t : ℕ) → read-blocks-lts.Need-keep-block-
 ) (read-blocks-at t) read-blocks.Post
 read-blocks-keep-block-requires t c κs = keeps t (c .before .before .before .before)
 
--- src/lib.rt:158:28
 read-blocks-moved-requires : (t : ℕ) → read-blocks-lts.Need-moved-requires (
   read-head-reads.Asked,
   read-head-reads.Learnt,
@@ -206,7 +196,6 @@ read-blocks-moved-requires : (t : ℕ) → read-blocks-lts.Need-moved-requires (
 ) (read-blocks-at t) read-blocks.Post
 read-blocks-moved-requires t c κs = let h = c .before .before .before .before .before in head-room _ _ _ _ _ (h .before .before .read-head .ensures) (h .head .given .1)
 
--- src/lib.rt:158:23
 read-blocks-add-read-blocks : (t : ℕ) → read-blocks-lts.Need-add-read-blocks (
   read-head-reads.Asked,
   read-head-reads.Learnt,
@@ -221,7 +210,6 @@ read-blocks-add-read-blocks : (t : ℕ) → read-blocks-lts.Need-add-read-blocks
 ) (read-blocks-at t) read-blocks.Post
 read-blocks-add-read-blocks t c = omega (arith, within t (c .before .before .before .before .before .before) (c .moved .result) (c .moved .ensures) .0)
 
--- src/lib.rt:158:5
 read-blocks-read-blocks-requires : (t : ℕ) → read-blocks-lts.Need-read-blocks-requires (
   read-head-reads.Asked,
   read-head-reads.Learnt,
@@ -241,7 +229,6 @@ read-blocks-read-blocks-requires t c κs = let m = c .before .before .before in
     let w = within t h (m .moved .result) (m .moved .ensures) in
     (omega (arith, w .0, w .1), room-next (s .args .tidy) _ _ (h .before .before .before .if1 .left) _ _ _ (is-head t h) (m .moved .result) (s .args .kept) (k .keep-block .result) (m .moved .ensures) (k .keep-block .ensures .0) (s .pre .1))
 
--- src/lib.rt:142:1
 read-blocks-returns-3 : (t : ℕ) → read-blocks-lts.Need-returns-3 (
   read-head-reads.Asked,
   read-head-reads.Learnt,

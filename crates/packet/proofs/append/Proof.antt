@@ -1,37 +1,27 @@
-use mathlib.Core.Path.{refl}
+-- The packet with a block more, laid over this one, differs in one place of each array. Assumes nothing.
 use Rattle.packet.proofs.Pushed.{append-as}
 use borrow.Author.Needs.{needs}
 use Rattle.packet.proofs.append.Statement.{statement}
 use Rattle.packet.proofs.append.Tie as tie
-use Rattle.packet.proofs.append.Reads as reads
-use Rattle.packet.proofs.append.Lts as lts
-use Rattle.service.proofs.put_bytes.Reads as put-bytes-reads
 
--- src/lib.rt:385:5
 array-write-numbers : tie.Need-array-write-numbers
 array-write-numbers c = search needs
 
--- src/lib.rt:386:20
 cast-sizes : tie.Need-cast-sizes
 cast-sizes c = search needs
 
--- src/lib.rt:386:5
 array-write-sizes : tie.Need-array-write-sizes
 array-write-sizes c = search needs
 
--- src/lib.rt:387:24
 slice-aggregate-put-bytes : tie.Need-slice-aggregate-put-bytes
 slice-aggregate-put-bytes c = search needs
 
--- src/lib.rt:387:5
 put-bytes-requires : tie.Need-put-bytes-requires
 put-bytes-requires c κs = search needs
 
--- src/lib.rt:390:16
 add-t12 : tie.Need-add-t12
 add-t12 c = search needs
 
--- src/lib.rt:377:1
 returns : tie.Need-returns
 returns c = search (needs, append-as)
 

@@ -1,27 +1,21 @@
+-- Each test is one of `goodEntry`. Assumes nothing.
 use borrow.Author.Needs.{needs}
 use Rattle.packet.proofs.Walks.{entry-null, entry-over, entry-empty, entry-long, entry-good}
 use Rattle.packet.proofs.good_entry.Statement.{statement}
 use Rattle.packet.proofs.good_entry.Tie as tie
-use Rattle.packet.proofs.good_entry.Reads as reads
-use Rattle.packet.proofs.good_entry.Lts as lts
 
--- src/lib.rt:274:9
 returns : tie.Need-returns
 returns c = search (needs, entry-null)
 
--- src/lib.rt:277:9
 returns-2 : tie.Need-returns-2
 returns-2 c = search (needs, entry-over)
 
--- src/lib.rt:280:9
 returns-3 : tie.Need-returns-3
 returns-3 c = search (needs, entry-empty)
 
--- src/lib.rt:283:9
 returns-4 : tie.Need-returns-4
 returns-4 c = search (needs, entry-long)
 
--- src/lib.rt:270:1
 returns-5 : tie.Need-returns-5
 returns-5 c = search (needs, entry-good)
 

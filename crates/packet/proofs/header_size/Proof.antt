@@ -1,15 +1,12 @@
+-- The two cases of the number. Assumes nothing.
 use native.Mathlib.Omega.{arith}
 use borrow.Author.Tests.{lt-ltb, le-ltb}
 use Rattle.packet.proofs.header_size.Statement.{statement}
 use Rattle.packet.proofs.header_size.Tie as tie
-use Rattle.packet.proofs.header_size.Reads as reads
-use Rattle.packet.proofs.header_size.Lts as lts
 
--- src/lib.rt:468:9
 returns : tie.Need-returns
 returns c = (simp (lt-ltb _ _ (c .if1 .taken)), omega arith)
 
--- src/lib.rt:464:1
 returns-2 : tie.Need-returns-2
 returns-2 c = (simp (le-ltb _ _ (c .if1 .left)), omega arith)
 

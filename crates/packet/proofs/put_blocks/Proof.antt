@@ -1,21 +1,16 @@
-use Prim.Native.Nat.{ℕ, _≤_, _<_, _-_, _+_}
+-- The invariant `Laying`: what is laid and what the rest will lay are all blocks as written. Assumes nothing.
+use Prim.Native.Nat.{ℕ, _≤_, _-_, _+_}
 use mathlib.Core.Path.{_≡_, refl, sym, ap, _∙_}
 use native.Mathlib.Nat.{add-sub-cancel-left}
 use native.Mathlib.Omega.{arith}
 use borrow.Author.Needs.{needs}
-use lib.ListN.{length}
+use lib.ListN.{length, getD}
 use lib.Seq.{length-sets}
 use denote.Ref.{now}
-use lib.ListN.{getD}
 use Rattle.packet.proofs.Entries.{Good}
 use Rattle.packet.proofs.Writes.{Laying, laying-first, laying-last, laying-next, good-here, bytes-here, place-here, part-here}
 use Rattle.packet.proofs.put_blocks.Statement.{statement}
 use Rattle.packet.proofs.put_blocks.Tie as tie
-use Rattle.packet.proofs.put_blocks.Reads as reads
-use Rattle.packet.proofs.put_blocks.Lts as lts
-use Rattle.packet.proofs.header_size.Reads as header-size-reads
-use Rattle.packet.proofs.put_block.Reads as put-block-reads
-use Rattle.packet.proofs.wide.Reads as wide-reads
 
 abbrev Inv-loop : tie.InvT-loop
 Inv-loop numbers sizes payload count out₀ at₀ from₀ i₀ out at from i = Laying count numbers sizes payload out₀ at from i out × (length out ≡ length out₀)
@@ -33,70 +28,54 @@ good c = good-here _ _ _ _ _ _ _ _ _ (c .before .before .before .before .loop .i
 place : (c : tie.After-wide Inv-loop μ-loop) → c .before .before .before .before .loop .at + (2 + getD (now (c .before .before .before .before .before .before .before .args .sizes)) (c .before .before .before .before .loop .i) 0) ≤ 162
 place c = place-here _ _ _ _ _ _ _ _ _ (c .before .before .before .before .loop .inv .0) (c .before .before .before .loop-test .taken)
 
--- src/lib.rt:502:5
 loop-holds : tie.Need-loop-holds Inv-loop μ-loop
 loop-holds c = (laying-first _ _ _ _ _ (c .before .before .pre), refl)
 
--- src/lib.rt:503:22
 element-copy-out-number : tie.Need-element-copy-out-number Inv-loop μ-loop
 element-copy-out-number c = search needs
 
--- src/lib.rt:504:20
 element-copy-out-size : tie.Need-element-copy-out-size Inv-loop μ-loop
 element-copy-out-size c = search needs
 
--- src/lib.rt:505:26
 wide-requires : tie.Need-wide-requires Inv-loop μ-loop
 wide-requires c κs = search needs
 
--- src/lib.rt:505:19
 add-end : tie.Need-add-end Inv-loop μ-loop
 add-end c = omega (arith, bytes c)
 
--- src/lib.rt:506:42
 sub-put-block : tie.Need-sub-put-block Inv-loop μ-loop
 sub-put-block c = search needs
 
--- src/lib.rt:506:42
 part-put-block-start : tie.Need-part-put-block-start Inv-loop μ-loop
 part-put-block-start c = search needs
 
--- src/lib.rt:506:42
 part-put-block-end : tie.Need-part-put-block-end Inv-loop μ-loop
 part-put-block-end c = bytes (c .before)
 
--- src/lib.rt:506:9
 put-block-requires : tie.Need-put-block-requires Inv-loop μ-loop
 put-block-requires c κs = let a = c .before .before in
     let l = a .before .before .before .before .loop in
     let p = part-here _ _ _ _ _ _ _ _ _ (l .inv .0) (a .before .before .before .loop-test .taken) in
     (omega (arith, l .inv .0 .here), sym (rw (add-sub-cancel-left, a .wide .ensures .0) p), good a .small)
 
--- src/lib.rt:507:15
 header-size-requires : tie.Need-header-size-requires Inv-loop μ-loop
 header-size-requires c κs = search needs
 
--- src/lib.rt:507:37
 wide-requires-2 : tie.Need-wide-requires-2 Inv-loop μ-loop
 wide-requires-2 c κs = search needs
 
--- src/lib.rt:507:15
 add-at : tie.Need-add-at Inv-loop μ-loop
 add-at c = omega (arith, c .wide2 .ensures .1, c .before .header-size .ensures .1)
 
--- src/lib.rt:507:9
 add-at-2 : tie.Need-add-at-2 Inv-loop μ-loop
 add-at-2 c = omega (arith, place (c .before .before .before .before .before .before .before), c .wide2 .ensures .1, c .before .header-size .ensures .1)
 
--- src/lib.rt:509:9
 add-i : tie.Need-add-i Inv-loop μ-loop
 add-i c = omega arith
 
--- src/lib.rt:502:5
 loop-less : tie.Need-loop-less Inv-loop μ-loop
 loop-less c = omega arith
 
--- src/lib.rt:502:5
 loop-again : tie.Need-loop-again Inv-loop μ-loop
 loop-again c =
     let b = c .before .before .before .before in
@@ -107,11 +86,9 @@ loop-again c =
       ap length (b .put-block .ensures) ∙ simp length-sets (l .inv .1),
     )
 
--- src/lib.rt:495:1
 same-length : tie.Need-same-length Inv-loop μ-loop
 same-length c = c .before .loop .inv .1
 
--- src/lib.rt:495:1
 returns : tie.Need-returns Inv-loop μ-loop
 returns c = laying-last _ _ _ _ _ _ _ _ _ (c .before .loop .inv .0) (c .loop-test .left)
 

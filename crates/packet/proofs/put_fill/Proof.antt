@@ -1,28 +1,21 @@
+-- One law for each way out. Assumes nothing.
 use borrow.Author.Needs.{needs}
 use Rattle.packet.proofs.Writes.{fill-odd, fill-past, fill-even}
-use borrow.Author.Needs.{needs}
 use Rattle.packet.proofs.put_fill.Statement.{statement}
 use Rattle.packet.proofs.put_fill.Tie as tie
-use Rattle.packet.proofs.put_fill.Reads as reads
-use Rattle.packet.proofs.put_fill.Lts as lts
 
--- src/lib.rt:489:13
 slice-write-out : tie.Need-slice-write-out
 slice-write-out c = search needs
 
--- src/lib.rt:484:1
 same-length : tie.Need-same-length
 same-length c = search needs
 
--- src/lib.rt:484:1
 returns : tie.Need-returns
 returns c = search (needs, fill-odd)
 
--- src/lib.rt:484:1
 returns-2 : tie.Need-returns-2
 returns-2 c = search (needs, fill-past)
 
--- src/lib.rt:484:1
 returns-3 : tie.Need-returns-3
 returns-3 c = search (needs, fill-even)
 

@@ -1,16 +1,11 @@
-use Prim.Native.Nat.{_≤_, _<_, _-_, _+_, _*_}
-use mathlib.Core.Path.{_≡_, refl, sym, _∙_}
+-- The invariant `Going`: what was found so far and what the rest gives make the whole answer. Assumes nothing.
+use Prim.Native.Nat.{_-_}
 use native.Mathlib.Omega.{arith}
 use borrow.Author.Needs.{needs}
 use borrow.Author.Tests.{not-true, not-false}
 use Rattle.packet.proofs.Walks.{Going, going-first, going-bad, going-next, going-last, going-room}
 use Rattle.packet.proofs.walk.Statement.{statement}
 use Rattle.packet.proofs.walk.Tie as tie
-use Rattle.packet.proofs.walk.Reads as reads
-use Rattle.packet.proofs.walk.Lts as lts
-use Rattle.packet.proofs.good_entry.Reads as good-entry-reads
-use Rattle.packet.proofs.wide.Reads as wide-reads
-use Rattle.service.proofs.block_length.Reads as block-length-reads
 
 abbrev Inv-loop : tie.InvT-loop
 Inv-loop numbers sizes count lengths₀ used₀ i₀ lengths used i = Going count numbers sizes lengths used i
@@ -18,55 +13,42 @@ Inv-loop numbers sizes count lengths₀ used₀ i₀ lengths used i = Going coun
 abbrev μ-loop : tie.MeasureT-loop
 μ-loop numbers sizes count lengths₀ used₀ i₀ lengths used i = count - i
 
--- src/lib.rt:303:5
 loop-holds : tie.Need-loop-holds Inv-loop μ-loop
 loop-holds c = going-first _ _ _ (c .pre)
 
--- src/lib.rt:304:22
 element-copy-out-number : tie.Need-element-copy-out-number Inv-loop μ-loop
 element-copy-out-number c = search needs
 
--- src/lib.rt:305:20
 element-copy-out-size : tie.Need-element-copy-out-size Inv-loop μ-loop
 element-copy-out-size c = search needs
 
--- src/lib.rt:306:13
 good-entry-requires : tie.Need-good-entry-requires Inv-loop μ-loop
 good-entry-requires c κs = search needs
 
--- src/lib.rt:307:13
 returns : tie.Need-returns Inv-loop μ-loop
 returns c = let l = c .before .before .before .before .before in going-bad _ _ _ _ _ _ (l .loop .inv) _ (c .before .before .before .before .loop-test .taken) (c .before .good-entry .ensures) (not-true _ (c .if1 .taken))
 
--- src/lib.rt:309:20
 block-length-requires : tie.Need-block-length-requires Inv-loop μ-loop
 block-length-requires c κs = search needs
 
--- src/lib.rt:309:9
 add-lengths : tie.Need-add-lengths Inv-loop μ-loop
 add-lengths c = let l = c .before .before .before .before .before .before in omega (arith, going-room _ _ _ _ _ _ (l .loop .inv) _ (c .block-length .result) (c .before .before .before .before .before .loop-test .taken) (c .before .before .good-entry .ensures) (not-false _ (c .before .if1 .left)) (c .block-length .ensures))
 
--- src/lib.rt:310:17
 wide-requires : tie.Need-wide-requires Inv-loop μ-loop
 wide-requires c κs = search needs
 
--- src/lib.rt:310:9
 add-used : tie.Need-add-used Inv-loop μ-loop
 add-used c = omega (arith, c .wide .ensures .1)
 
--- src/lib.rt:311:9
 add-i : tie.Need-add-i Inv-loop μ-loop
 add-i c = omega arith
 
--- src/lib.rt:303:5
 loop-less : tie.Need-loop-less Inv-loop μ-loop
 loop-less c = omega arith
 
--- src/lib.rt:303:5
 loop-again : tie.Need-loop-again Inv-loop μ-loop
 loop-again c = let l = c .before .before .before .before .before .before .before in going-next _ _ _ _ _ _ (l .loop .inv) _ _ _ (c .before .before .before .before .before .before .loop-test .taken) (c .before .before .before .good-entry .ensures) (not-false _ (c .before .before .if1 .left)) (c .before .block-length .ensures) (c .wide .ensures .0)
 
--- src/lib.rt:296:1
 returns-2 : tie.Need-returns-2 Inv-loop μ-loop
 returns-2 c = going-last _ _ _ _ _ _ (c .before .loop .inv) (c .loop-test .left)
 

@@ -1,33 +1,24 @@
-use Rattle.packet.proofs.Measures.{bad-measured, good-measured, length-measured, room-measured, count-measured, empty-measured, small-lengths, length-few}
+-- The extent tells whether a limit is broken, and the length. Assumes nothing.
+use Rattle.packet.proofs.Measures.{bad-measured, length-measured, small-lengths}
 use borrow.Author.Needs.{needs}
 use Rattle.packet.proofs.DTVCCPacket.len.Statement.{statement}
 use Rattle.packet.proofs.DTVCCPacket.len.Tie as tie
-use Rattle.packet.proofs.DTVCCPacket.len.Reads as reads
-use Rattle.packet.proofs.DTVCCPacket.len.Lts as lts
-use Rattle.packet.proofs.DTVCCPacket.extent.Reads as extent-reads
-use Rattle.packet.proofs.length_of.Reads as length-of-reads
 
--- src/lib.rt:438:15
 extent-requires : tie.Need-extent-requires
 extent-requires c κs = search needs
 
--- src/lib.rt:439:26
 enum-known-lengths : tie.Need-enum-known-lengths
 enum-known-lengths c = search needs
 
--- src/lib.rt:439:63
 length-of-requires : tie.Need-length-of-requires
 length-of-requires c κs = search (needs, small-lengths)
 
--- src/lib.rt:440:45
 enum-told : tie.Need-enum-told
 enum-told c = search needs
 
--- src/lib.rt:435:5
 returns : tie.Need-returns
 returns c = search (needs, length-measured)
 
--- src/lib.rt:435:5
 returns-2 : tie.Need-returns-2
 returns-2 c = search (needs, bad-measured)
 

@@ -1,16 +1,12 @@
+-- It is the reader with the plain rules. Assumes nothing.
 use Rattle.packet.specs.Reading.{readAs}
 use borrow.Author.Needs.{needs}
 use Rattle.packet.proofs.DTVCCPacket.parse.Statement.{statement}
 use Rattle.packet.proofs.DTVCCPacket.parse.Tie as tie
-use Rattle.packet.proofs.DTVCCPacket.parse.Reads as reads
-use Rattle.packet.proofs.DTVCCPacket.parse.Lts as lts
-use Rattle.packet.proofs.read_packet.Reads as read-packet-reads
 
--- src/lib.rt:230:9
 read-packet-requires : tie.Need-read-packet-requires
 read-packet-requires c κs = search needs
 
--- src/lib.rt:227:5
 returns : tie.Need-returns
 unfolding readAs
 returns c = c .read-packet .ensures

@@ -1,4 +1,4 @@
--- What the run's push ensures is what is asked.
+-- It is the push of a run to a block that has room. Assumes nothing.
 use borrow.Author.Needs.{needs}
 use Rattle.packet.proofs.DTVCCPacket.push_code.Statement.{statement}
 use Rattle.packet.proofs.DTVCCPacket.push_code.Tie as tie

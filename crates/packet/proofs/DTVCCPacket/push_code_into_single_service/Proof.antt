@@ -1,4 +1,4 @@
--- What the run's push ensures is what is asked.
+-- It is the push of a run to a block whether or not it has room. Assumes nothing.
 use borrow.Author.Needs.{needs}
 use Rattle.packet.proofs.DTVCCPacket.push_code_into_single_service.Statement.{statement}
 use Rattle.packet.proofs.DTVCCPacket.push_code_into_single_service.Tie as tie

@@ -1,6 +1,6 @@
-use mathlib.Core.Path.{_≡_, refl}
+-- The tests of `pushNew` in its order; a run that fits is appended as a block. Assumes nothing.
+use mathlib.Core.Path.{refl}
 use Prim.Native.Nat.{_≤_}
-use native.Mathlib.Omega.{arith}
 use denote.Ref.{now}
 use Rattle.packet.proofs.Holds.{Places}
 use Rattle.packet.proofs.Measures.{lengths-small, length-few}
@@ -9,12 +9,6 @@ use Rattle.packet.proofs.Pushes.{new-null, new-long, new-over, new-fits
 use borrow.Author.Needs.{needs}
 use Rattle.packet.proofs.DTVCCPacket.push_new.Statement.{statement}
 use Rattle.packet.proofs.DTVCCPacket.push_new.Tie as tie
-use Rattle.packet.proofs.DTVCCPacket.push_new.Reads as reads
-use Rattle.packet.proofs.DTVCCPacket.push_new.Lts as lts
-use Rattle.packet.proofs.append.Reads as append-reads
-use Rattle.packet.proofs.length_of.Reads as length-of-reads
-use Rattle.packet.proofs.refused.Reads as refused-reads
-use Rattle.service.proofs.block_length.Reads as block-length-reads
 
 places : (c : tie.Start) → Places (c .args .self)
 places c = record { numbers = search needs; sizes = search needs; payload = search needs }
@@ -22,59 +16,45 @@ places c = record { numbers = search needs; sizes = search needs; payload = sear
 small : (c : tie.Start) → c .args .lengths ≤ 127
 small c = lengths-small (c .args .self) _ _ (c .pre .0)
 
--- src/lib.rt:575:13
 refused-requires : tie.Need-refused-requires
 refused-requires c κs = search needs
 
--- src/lib.rt:575:13
 returns : tie.Need-returns
 returns c = let s = c .before .before .before in refuses _ _ _ _ (new-null (s .args .self) (s .args .lengths) (s .args .used) (s .pre .0) (places s) _ refl _ _ (c .before .if1 .taken)) (c .refused .ensures .0) (c .refused .ensures .1)
 
--- src/lib.rt:578:51
 sub-t11 : tie.Need-sub-t11
 sub-t11 c = search needs
 
--- src/lib.rt:578:13
 refused-requires-2 : tie.Need-refused-requires-2
 refused-requires-2 c κs = search needs
 
--- src/lib.rt:578:13
 returns-2 : tie.Need-returns-2
 returns-2 c = let s = c .before .before .before .before in refuses _ _ _ _ (new-long (s .args .self) (s .args .lengths) (s .args .used) (s .pre .0) (places s) _ refl _ _ (c .before .before .if1 .left) (c .before .if2 .taken)) (c .refused2 .ensures .0) (c .refused2 .ensures .1)
 
--- src/lib.rt:580:34
 length-of-requires : tie.Need-length-of-requires
 length-of-requires c κs = small (c .before .before .before)
 
--- src/lib.rt:580:20
 sub-room : tie.Need-sub-room
 sub-room c = let s = c .before .before .before .before in length-few (s .args .self .count) (s .args .lengths) _ (c .length-of .ensures) (small s)
 
--- src/lib.rt:581:56
 cast-block-length : tie.Need-cast-block-length
 cast-block-length c = search needs
 
--- src/lib.rt:581:13
 block-length-requires : tie.Need-block-length-requires
 block-length-requires c κs = search needs
 
--- src/lib.rt:583:51
 sub-t15 : tie.Need-sub-t15
 sub-t15 c = search needs
 
--- src/lib.rt:583:13
 refused-requires-3 : tie.Need-refused-requires-3
 refused-requires-3 c κs = search needs
 
--- src/lib.rt:583:13
 returns-3 : tie.Need-returns-3
 returns-3 c = let b = c .before .before in let l = b .before in let s = l .before .before .before .before in refuses _ _ _ _ (new-over (s .args .self) (s .args .lengths) (s .args .used) (s .pre .0) (places s) (l .length-of .result) (l .length-of .ensures) _ _ (l .before .before .if1 .left) (s .pre .1) (l .before .if2 .left) _ (b .block-length .ensures) (c .before .if3 .taken)) (c .refused3 .ensures .0) (c .refused3 .ensures .1)
 
--- src/lib.rt:587:21
 append-requires : tie.Need-append-requires
 append-requires c κs = let b = c .before in let l = b .before in let s = l .before .before .before .before in (s .pre .0, new-room (s .args .self) (s .args .lengths) (s .args .used) (s .pre .0) (places s) (l .length-of .result) (l .length-of .ensures) (s .args .service-no) (now (s .args .code)) (l .before .before .if1 .left) (s .pre .1) (l .before .if2 .left) _ (b .block-length .ensures) (c .if3 .left))
 
--- src/lib.rt:569:5
 returns-4 : tie.Need-returns-4
 returns-4 c = let b = c .before .before in let l = b .before in let s = l .before .before .before .before in gives _ _ _ _ (new-fits (s .args .self) (s .args .lengths) (s .args .used) (s .pre .0) (places s) (l .length-of .result) (l .length-of .ensures) _ _ (l .before .before .if1 .left) (s .pre .1) (l .before .if2 .left) _ (b .block-length .ensures) (c .before .if3 .left)) refl (c .append .ensures)
 

@@ -1,25 +1,16 @@
-use mathlib.Core.Path.{_≡_, refl}
-use Prim.Native.Nat.{ℕ, _≤_, _<_}
+-- The tests of `pushRunBy` in its order; the latest block found in the array is the model's. Assumes nothing.
+use Prim.Native.Nat.{_≤_, _<_}
 use native.Mathlib.Omega.{arith}
 use denote.Ref.{now}
 use lib.ListN.{length}
 use Rattle.packet.specs.Packet.{Sized}
 use Rattle.packet.proofs.Holds.{Places, within-facts}
 use Rattle.packet.proofs.Walks.{extent-sized, extent-invalid}
-use Rattle.packet.proofs.Packets.{refuses, gives}
+use Rattle.packet.proofs.Packets.{refuses}
 use Rattle.packet.proofs.Pushes.{run-invalid, run-number, run-empty, run-none, run-full, run-at, found-there, same-answers}
 use borrow.Author.Needs.{needs}
 use Rattle.packet.proofs.DTVCCPacket.push_run.Statement.{statement}
 use Rattle.packet.proofs.DTVCCPacket.push_run.Tie as tie
-use Rattle.packet.proofs.DTVCCPacket.push_run.Reads as reads
-use Rattle.packet.proofs.DTVCCPacket.push_run.Lts as lts
-use Rattle.packet.proofs.DTVCCPacket.extent.Reads as extent-reads
-use Rattle.packet.proofs.DTVCCPacket.push_at.Reads as push-at-reads
-use Rattle.packet.proofs.DTVCCPacket.push_new.Reads as push-new-reads
-use Rattle.packet.proofs.block_room.Reads as block-room-reads
-use Rattle.packet.proofs.lacks_room.Reads as lacks-room-reads
-use Rattle.packet.proofs.latest.Reads as latest-reads
-use Rattle.packet.proofs.refused.Reads as refused-reads
 
 -- where the extent is known: the packet, its places and its sums
 abbrev start : tie.After-extent2 → tie.Start
@@ -45,87 +36,66 @@ there c = found-there _ _ _ _ _ (c .before .before .latest .ensures) (c .found .
 few : (c : tie.After-extent2) → (start c) .args .self .count ≤ 63
 few c = within-facts ((start c) .args .self) (sized c .valid) .count
 
--- src/lib.rt:630:13
 extent-requires : tie.Need-extent-requires
 extent-requires c κs = search needs
 
--- src/lib.rt:631:26
 enum-known-extent : tie.Need-enum-known-extent
 enum-known-extent c = search needs
 
--- src/lib.rt:632:28
 enum-told : tie.Need-enum-told
 enum-told c = search needs
 
--- src/lib.rt:632:13
 refused-requires : tie.Need-refused-requires
 refused-requires c κs = search needs
 
--- src/lib.rt:632:13
 returns : tie.Need-returns
 returns c = let e = c .before .before .before in refuses _ _ _ _ (run-invalid _ _ _ _ (extent-invalid _ _ (e .extent .ensures) (c .before .enum-told .given .1))) (c .refused .ensures .0) (c .refused .ensures .1)
 
--- src/lib.rt:635:13
 refused-requires-2 : tie.Need-refused-requires-2
 refused-requires-2 c κs = search needs
 
--- src/lib.rt:635:13
 returns-2 : tie.Need-returns-2
 returns-2 c = let e = c .before .before .before in refuses _ _ _ _ (run-number ((start e) .args .self) _ _ (sized e) (places (start e)) _ _ _ (c .before .if1 .taken)) (c .refused2 .ensures .0) (c .refused2 .ensures .1)
 
--- src/lib.rt:638:13
 refused-requires-3 : tie.Need-refused-requires-3
 refused-requires-3 c κs = search needs
 
--- src/lib.rt:638:13
 returns-3 : tie.Need-returns-3
 returns-3 c = let e = c .before .before .before .before in refuses _ _ _ _ (run-empty ((start e) .args .self) _ _ (sized e) (places (start e)) _ _ _ (c .before .before .if1 .left) (c .before .if2 .taken)) (c .refused3 .ensures .0) (c .refused3 .ensures .1)
 
--- src/lib.rt:640:13
 latest-requires : tie.Need-latest-requires
 latest-requires c κs = few (c .before .before .before .before)
 
--- src/lib.rt:641:23
 enum-known-found : tie.Need-enum-known-found
 enum-known-found c = search needs
 
--- src/lib.rt:642:13
 enum-told-2 : tie.Need-enum-told-2
 enum-told-2 c = search needs
 
--- src/lib.rt:642:13
 push-new-requires : tie.Need-push-new-requires
 push-new-requires c κs = new-room (c .before .before)
 
--- src/lib.rt:642:13
 returns-4 : tie.Need-returns-4
 returns-4 c = let l = c .before .before .before in let e = ext l in same-answers _ _ _ _ (run-none ((start e) .args .self) _ _ (sized e) (places (start e)) _ _ _ (l .before .before .before .if1 .left) (l .before .before .if2 .left) _ (l .latest .ensures) (c .before .enum-told2 .given .1)) (c .push-new .ensures)
 
--- src/lib.rt:644:31
 array-read-block-room : tie.Need-array-read-block-room
 array-read-block-room c = let f = c .before in omega (arith, there f, few (ext (f .before .before)))
 
--- src/lib.rt:644:13
 block-room-requires : tie.Need-block-room-requires
 block-room-requires c κs = search needs
 
--- src/lib.rt:645:12
 lacks-room-requires : tie.Need-lacks-room-requires
 lacks-room-requires c κs = search needs
 
--- src/lib.rt:646:13
 push-new-requires-2 : tie.Need-push-new-requires-2
 push-new-requires-2 c κs = new-room (c .before .before .before .before .before .before)
 
--- src/lib.rt:646:13
 returns-5 : tie.Need-returns-5
 returns-5 c = let a = c .before .before in let f = a .before .before .before in let l = f .before .before in let e = ext l in same-answers _ _ _ _ (run-full ((start e) .args .self) _ _ (sized e) (places (start e)) _ _ _ (l .before .before .before .if1 .left) (l .before .before .if2 .left) _ (l .latest .ensures) _ (f .found .given .1) (there f) _ (a .before .block-room .ensures) _ (a .lacks-room .ensures) (c .before .if3 .taken)) (c .push-new2 .ensures)
 
--- src/lib.rt:648:9
 push-at-requires : tie.Need-push-at-requires
 push-at-requires c κs = let f = c .before .before .before .before in (sized (ext (f .before .before)), there f)
 
--- src/lib.rt:624:5
 returns-6 : tie.Need-returns-6
 returns-6 c = let a = c .before .before in let f = a .before .before .before in let l = f .before .before in let e = ext l in same-answers _ _ _ _ (run-at ((start e) .args .self) _ _ (sized e) (places (start e)) _ _ _ (l .before .before .before .if1 .left) (l .before .before .if2 .left) _ (l .latest .ensures) _ (f .found .given .1) (there f) _ (a .before .block-room .ensures) _ (a .lacks-room .ensures) (c .before .if3 .left)) (c .push-at .ensures)
 

@@ -1,7 +1,8 @@
+-- The tests of `pushBlock` in its order; a block that fits is appended. Assumes nothing.
 use native.Mathlib.Nat.{sub-zero}
 use mathlib.Core.Path.{_≡_, refl, sym, _∙_}
-use mathlib.Core.Bool.{true, false}
-use Prim.Native.Nat.{ℕ, _≤_, _<_}
+use mathlib.Core.Bool.{true}
+use Prim.Native.Nat.{_≤_}
 use native.Mathlib.Omega.{arith}
 use borrow.Author.Tests.{not-true, not-false}
 use lib.ListN.{length}
@@ -18,14 +19,6 @@ use Rattle.packet.proofs.Pushes.{block-invalid, service-invalid, block-
 use borrow.Author.Needs.{needs}
 use Rattle.packet.proofs.DTVCCPacket.push_service.Statement.{statement}
 use Rattle.packet.proofs.DTVCCPacket.push_service.Tie as tie
-use Rattle.packet.proofs.DTVCCPacket.push_service.Reads as reads
-use Rattle.packet.proofs.DTVCCPacket.push_service.Lts as lts
-use Rattle.packet.proofs.DTVCCPacket.extent.Reads as extent-reads
-use Rattle.packet.proofs.append.Reads as append-reads
-use Rattle.packet.proofs.length_of.Reads as length-of-reads
-use Rattle.packet.proofs.refused.Reads as refused-reads
-use Rattle.service.proofs.Service.is_valid.Reads as is-valid-reads
-use Rattle.service.proofs.block_length.Reads as block-length-reads
 
 -- where the extent is known: the packet, the block, their places and sums
 abbrev start : tie.After-extent2 → tie.Start
@@ -56,91 +49,69 @@ ext c = c .before .before .before
 valid : (c : tie.Else1) → validService (S (ext c)) ≡ true
 valid c = sym (c .before .is-valid .ensures) ∙ not-false _ (c .if1 .left)
 
--- src/lib.rt:547:13
 extent-requires : tie.Need-extent-requires
 extent-requires c κs = search needs
 
--- src/lib.rt:548:26
 enum-known-extent : tie.Need-enum-known-extent
 enum-known-extent c = search needs
 
--- src/lib.rt:549:28
 enum-told : tie.Need-enum-told
 enum-told c = search needs
 
--- src/lib.rt:549:13
 refused-requires : tie.Need-refused-requires
 refused-requires c κs = search needs
 
--- src/lib.rt:549:13
 returns : tie.Need-returns
 returns c = let e = c .before .before .before in refuses _ _ _ _ (block-invalid _ _ (extent-invalid _ _ (e .extent .ensures) (c .before .enum-told .given .1))) (c .refused .ensures .0) (c .refused .ensures .1)
 
--- src/lib.rt:551:13
 is-valid-requires : tie.Need-is-valid-requires
 is-valid-requires c κs = search needs
 
--- src/lib.rt:552:13
 refused-requires-2 : tie.Need-refused-requires-2
 refused-requires-2 c κs = search needs
 
--- src/lib.rt:552:13
 returns-2 : tie.Need-returns-2
 returns-2 c = let v = c .before .before in let e = v .before .before in refuses _ _ _ _ (service-invalid (S e) (P e) _ _ (sized e) (sym (v .is-valid .ensures) ∙ not-true _ (c .before .if1 .taken))) (c .refused2 .ensures .0) (c .refused2 .ensures .1)
 
--- src/lib.rt:554:34
 length-of-requires : tie.Need-length-of-requires
 length-of-requires c κs = small (ext c)
 
--- src/lib.rt:554:20
 sub-room : tie.Need-sub-room
 sub-room c = let e = ext (c .before) in length-few (P e .count) (e .extent2 .given .0 .0) _ (c .length-of .ensures) (small e)
 
--- src/lib.rt:555:52
 cast-block-length : tie.Need-cast-block-length
 cast-block-length c = omega (arith, valid-len (S (ext (c .before))) (valid (c .before)))
 
--- src/lib.rt:555:13
 block-length-requires : tie.Need-block-length-requires
 block-length-requires c κs = search needs
 
--- src/lib.rt:557:51
 sub-t17 : tie.Need-sub-t17
 sub-t17 c = search needs
 
--- src/lib.rt:557:13
 refused-requires-3 : tie.Need-refused-requires-3
 refused-requires-3 c κs = search needs
 
--- src/lib.rt:557:13
 returns-3 : tie.Need-returns-3
 returns-3 c = let b = c .before .before in let l = b .before in let x = l .before in let e = ext x in refuses _ _ _ _ (block-over (S e) (P e) _ _ (sized e) (valid x) (full (start e)) (places (start e)) _ (l .length-of .ensures) _ (b .block-length .ensures) (c .before .if2 .taken)) (c .refused3 .ensures .0) (c .refused3 .ensures .1)
 
--- src/lib.rt:560:13
 refused-requires-4 : tie.Need-refused-requires-4
 refused-requires-4 c κs = search needs
 
--- src/lib.rt:560:13
 returns-4 : tie.Need-returns-4
 returns-4 c = let b = c .before .before .before in let l = b .before in let x = l .before in let e = ext x in refuses _ _ _ _ (block-empty (S e) (P e) _ _ (sized e) (valid x) (full (start e)) (places (start e)) _ (l .length-of .ensures) _ (b .block-length .ensures) (c .before .before .if2 .left) (c .before .if3 .taken)) (c .refused4 .ensures .0) (c .refused4 .ensures .1)
 
--- src/lib.rt:564:57
 sub-append : tie.Need-sub-append
 sub-append c = search needs
 
--- src/lib.rt:564:57
 part-append-start : tie.Need-part-append-start
 part-append-start c = search needs
 
--- src/lib.rt:564:57
 part-append-end : tie.Need-part-append-end
 part-append-end c = let x = c .before .before .before .before .before in let e = ext x in let p : S e .len ≤ length (S e .payload) = omega (arith, valid-len (S e) (valid x), full (start e)) in p
 
--- src/lib.rt:564:21
 append-requires : tie.Need-append-requires
 append-requires c κs = let i = c .before .before in let b = i .before .before in let l = b .before in let x = l .before in let e = ext x in (sized e, rw sub-zero (block-room-behind (S e) (P e) _ _ (sized e) (valid x) (full (start e)) (places (start e)) _ (l .length-of .ensures) _ (b .block-length .ensures) (i .before .if2 .left) (i .if3 .left)))
 
--- src/lib.rt:541:5
 returns-5 : tie.Need-returns-5
 returns-5 c = let i = c .before .before .before in let b = i .before .before in let l = b .before in let x = l .before in let e = ext x in gives _ _ _ _ (block-fits (S e) (P e) _ _ (sized e) (valid x) (full (start e)) (places (start e)) _ (l .length-of .ensures) _ (b .block-length .ensures) (i .before .if2 .left) (i .if3 .left)) refl (c .append .ensures ∙ rw sub-zero)
 

@@ -1,5 +1,6 @@
-use mathlib.Core.Path.{_≡_, refl, sym, ap, _∙_}
-use Prim.Native.Nat.{ℕ, _≤_, _<_, _+_}
+-- The payload of the block stands behind the sizes before it. Assumes nothing.
+use mathlib.Core.Path.{refl, _∙_}
+use Prim.Native.Nat.{_≤_, _<_, _+_}
 use native.Mathlib.Nat.{add-sub-cancel-left}
 use native.Mathlib.Omega.{arith}
 use lib.ListN.{length}
@@ -11,12 +12,6 @@ use Rattle.packet.proofs.Placed.{place-invalid, place-none, place-bytes
 use borrow.Author.Needs.{needs}
 use Rattle.packet.proofs.DTVCCPacket.service.Statement.{statement}
 use Rattle.packet.proofs.DTVCCPacket.service.Tie as tie
-use Rattle.packet.proofs.DTVCCPacket.service.Reads as reads
-use Rattle.packet.proofs.DTVCCPacket.service.Lts as lts
-use Rattle.packet.proofs.DTVCCPacket.extent.Reads as extent-reads
-use Rattle.packet.proofs.sum_of.Reads as sum-of-reads
-use Rattle.packet.proofs.wide.Reads as wide-reads
-use Rattle.service.proofs.put_bytes.Reads as put-bytes-reads
 
 -- where the packet breaks no limit: the packet, its places and its sums
 abbrev start : tie.After-enum-told → tie.Start
@@ -44,66 +39,51 @@ bytes-there c =
     let t = told x in
     place-bytes (P t) _ _ (sized t) (places (start t)) _ (x .if1 .left) _ _ (c .before .sum-of .ensures) (c .wide .ensures .0)
 
--- src/lib.rt:655:13
 extent-requires : tie.Need-extent-requires
 extent-requires c κs = search needs
 
 enum-told : tie.Need-enum-told
 enum-told c = search needs
 
--- src/lib.rt:661:39
 enum-told-2 : tie.Need-enum-told-2
 enum-told-2 c = search needs
 
--- src/lib.rt:660:13
 returns : tie.Need-returns
 returns c = place-invalid _ _ (extent-invalid _ _ (c .before .before .extent .ensures) (c .enum-told2 .given .1))
 
--- src/lib.rt:670:13
 returns-2 : tie.Need-returns-2
 returns-2 c = let t = c .before .before in place-none (P t) _ _ (sized t) (places (start t)) _ (c .if1 .taken)
 
--- src/lib.rt:679:13
 sum-of-requires : tie.Need-sum-of-requires
 sum-of-requires c κs = omega (arith, inside (c .before))
 
--- src/lib.rt:680:25
 array-read-wide : tie.Need-array-read-wide
 array-read-wide c = inside (c .before .before)
 
--- src/lib.rt:680:13
 wide-requires : tie.Need-wide-requires
 wide-requires c κs = search needs
 
--- src/lib.rt:681:19
 add-end : tie.Need-add-end
 add-end c = omega (arith, bytes-there c, places (start (told (c .before .before .before))) .payload)
 
--- src/lib.rt:682:28
 slice-aggregate-put-bytes : tie.Need-slice-aggregate-put-bytes
 slice-aggregate-put-bytes c = search needs
 
--- src/lib.rt:682:43
 sub-put-bytes : tie.Need-sub-put-bytes
 sub-put-bytes c = search needs
 
--- src/lib.rt:682:43
 part-put-bytes-start : tie.Need-part-put-bytes-start
 part-put-bytes-start c = search needs
 
--- src/lib.rt:682:43
 part-put-bytes-end : tie.Need-part-put-bytes-end
 part-put-bytes-end c = bytes-there (c .before .before)
 
--- src/lib.rt:682:9
 put-bytes-requires : tie.Need-put-bytes-requires
 put-bytes-requires c κs = search needs
 
--- src/lib.rt:686:25
 array-read-t22 : tie.Need-array-read-t22
 array-read-t22 c = inside (c .before .before .before .before .before .before .before .before)
 
--- src/lib.rt:648:5
 returns-3 : tie.Need-returns-3
 returns-3 c = let a = c .before .before .before .before .before in let x = a .before .before .before in let t = told x in place-here (P t) _ _ (sized t) (places (start t)) _ (x .if1 .left) _ _ (a .before .sum-of .ensures) (a .wide .ensures .0) _ _ refl (c .before .put-bytes .ensures ∙ rw add-sub-cancel-left)
 

@@ -1,5 +1,6 @@
-use mathlib.Core.Path.{_≡_, refl, sym, ap, _∙_}
-use Prim.Native.Nat.{ℕ, _≤_, _<_, _+_}
+-- Header, blocks and fill laid one behind the other are the packet as written, and the room is tested before. Assumes nothing.
+use mathlib.Core.Path.{refl, ap, _∙_}
+use Prim.Native.Nat.{_≤_}
 use native.Mathlib.Omega.{arith}
 use lib.ListN.{length, length-set}
 use lib.Seq.{length-sets}
@@ -12,13 +13,6 @@ use Rattle.packet.proofs.Writes.{write-invalid, write-short, write-fits
 use borrow.Author.Needs.{needs}
 use Rattle.packet.proofs.DTVCCPacket.write.Statement.{statement}
 use Rattle.packet.proofs.DTVCCPacket.write.Tie as tie
-use Rattle.packet.proofs.DTVCCPacket.write.Reads as reads
-use Rattle.packet.proofs.DTVCCPacket.write.Lts as lts
-use Rattle.packet.proofs.DTVCCPacket.extent.Reads as extent-reads
-use Rattle.packet.proofs.header_byte.Reads as header-byte-reads
-use Rattle.packet.proofs.length_of.Reads as length-of-reads
-use Rattle.packet.proofs.put_blocks.Reads as put-blocks-reads
-use Rattle.packet.proofs.put_fill.Reads as put-fill-reads
 
 -- where the extent is known: the packet, its places and its sums
 abbrev start : tie.After-extent2 → tie.Start
@@ -49,67 +43,51 @@ writable c =
     let w = within-facts (P c) (sized c .valid) in
     record { few = w .count; there = used-fits (P c) w (places (start c)); good = w .good; short = w .lengths }
 
--- src/lib.rt:632:13
 extent-requires : tie.Need-extent-requires
 extent-requires c κs = search needs
 
--- src/lib.rt:633:26
 enum-known-extent : tie.Need-enum-known-extent
 enum-known-extent c = search needs
 
--- src/lib.rt:634:37
 enum-told : tie.Need-enum-told
 enum-told c = search needs
 
--- src/lib.rt:634:13
 returns : tie.Need-returns
 returns c = write-invalid _ _ _ (extent-invalid _ _ (c .before .before .extent .ensures) (c .enum-told .given .1)) refl
 
--- src/lib.rt:636:13
 length-of-requires : tie.Need-length-of-requires
 length-of-requires c κs = small (c .before)
 
--- src/lib.rt:637:21
 add-total : tie.Need-add-total
 add-total c = omega (arith, small (ext c))
 
--- src/lib.rt:637:21
 add-total-2 : tie.Need-add-total-2
 add-total-2 c = omega (arith, small (ext c))
 
--- src/lib.rt:639:13
 returns-2 : tie.Need-returns-2
 returns-2 c = let l = c .before in let e = ext l in write-short (P e) _ _ (sized e) (places (start e)) (l .length-of .result) (l .length-of .ensures) _ _ (c .if1 .taken) refl
 
--- src/lib.rt:641:18
 header-byte-requires : tie.Need-header-byte-requires
 header-byte-requires c κs = let l = c .before in let e = ext l in (within-facts (P e) (sized e .valid) .sequence, few l)
 
--- src/lib.rt:641:9
 slice-write-out : tie.Need-slice-write-out
 slice-write-out c = search needs
 
--- src/lib.rt:642:38
 slice-aggregate-put-blocks : tie.Need-slice-aggregate-put-blocks
 slice-aggregate-put-blocks c = search needs
 
--- src/lib.rt:642:9
 put-blocks-requires : tie.Need-put-blocks-requires
 put-blocks-requires c κs = writable (ext (c .before .before .before .before .before .before))
 
--- src/lib.rt:643:23
 add-put-fill : tie.Need-add-put-fill
 add-put-fill c = search needs
 
--- src/lib.rt:643:9
 put-fill-requires : tie.Need-put-fill-requires
 put-fill-requires c κs = search needs
 
--- src/lib.rt:626:5
 same-length : tie.Need-same-length
 same-length c = ap length (c .before .before .put-fill .ensures) ∙ simp length-sets (ap length (c .before .before .before .before .before .before .put-blocks .ensures) ∙ simp (length-sets, length-set))
 
--- src/lib.rt:626:5
 returns-3 : tie.Need-returns-3
 returns-3 c = let b = c .before .before .before .before .before .before in let h = b .before .before .before .before .before in let l = h .before .before in let e = ext l in write-fits (P e) _ _ (sized e) (places (start e)) (l .length-of .result) (l .length-of .ensures) _ _ _ (h .before .if1 .left) refl (packet-laid (P e) _ _ (sized e) (places (start e)) (l .length-of .result) (l .length-of .ensures) _ _ _ _ (h .header-byte .ensures) (b .put-blocks .ensures) (c .before .before .put-fill .ensures))
 
