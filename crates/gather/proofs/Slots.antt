@@ -1,0 +1,168 @@
+-- Laws of slots and pending bytes within the limits, and of gathering if asked, one for each way out of a function. Assumes nothing.
+use mathlib.Core.Path.{_≡_, sym, _∙_}
+use mathlib.Core.List.{List}
+use mathlib.Core.Bool.{and-true, Bool, true, false, _&&_}
+use Prim.Native.Nat.{ℕ, suc, _+_, _-_, _%_, _≤_, _<_}
+use native.Mathlib.Omega.{arith}
+use lib.ListN.{getD, take}
+use lib.Dec.{leb, ltb}
+use borrow.Author.Tests.{eq-eqb, ne-eqb, lt-leb, le-leb, leb-true}
+use Rattle.model.specs.Packet.{packetSize, reads}
+use Rattle.model.proofs.Cases.{both}
+use Rattle.slots.specs.declared.Slot.{Slot}
+use Rattle.triples.specs.Walk.{seenFrom}
+use Rattle.gather.specs.Ring.{slotFine, slotsFine, ringFrom, noSlot, ringFine}
+use Rattle.gather.specs.Gather.{pendingFine, Ring, Left, gathered, pendingHeld, readyFor, gatheredBy}
+
+module _ (s : Slot) where
+  -- longer than its places
+  pub slot-long : 128 < s .len → false ≡ slotFine s
+  unfolding slotFine
+  slot-long h = simp (lt-leb _ _ h)
+
+  -- within them
+  pub slot-within : (r : Bool) → s .len ≤ 128 → r ≡ reads (take (s .len) (s .bytes)) → r ≡ slotFine s
+  unfolding slotFine
+  slot-within r h e = simp (le-leb _ _ h, e)
+
+-- For the loop over the slots: `a` is the answer for all, and stays that for those that are left.
+module _ (a : Bool) (l : List Slot) (first n i : ℕ) (e : a ≡ slotsFine (ringFrom (first + i) (n - i) l)) where
+  -- none are left
+  pub slots-done : n ≤ i → true ≡ a
+  unfolding slotsFine ringFrom
+  slots-done h = let z : n - i ≡ 0 = omega arith in sym (rw z at e)
+
+  module _ (h : i < n) (b : Bool) (asked : b ≡ slotFine (getD l ((first + i) % 32) noSlot)) where
+    -- the next one
+    slots-here : a ≡ b && slotsFine (ringFrom (first + (i + 1)) (n - (i + 1)) l)
+    unfolding slotsFine ringFrom
+    slots-here =
+        let z : n - i ≡ suc (n - (i + 1)) = omega arith in
+        let w : first + i + 1 ≡ first + (i + 1) = omega arith in
+        rw (asked, ← w) (rw z at e)
+
+    -- it reads
+    pub slots-again : b ≡ true → a ≡ slotsFine (ringFrom (first + (i + 1)) (n - (i + 1)) l)
+    slots-again t = rw t at slots-here
+
+    -- it does not
+    pub slots-bad : b ≡ false → false ≡ a
+    slots-bad t = sym (rw t at slots-here)
+
+module _ (n : ℕ) (l : List ℕ) where
+  -- no bytes
+  pub fine-none : n ≡ 0 → true ≡ pendingFine n l
+  unfolding pendingFine
+  fine-none e = simp (eq-eqb _ _ e)
+
+  module _ (some : n ≡ 0 → ⊥) where
+    -- an odd number
+    pub fine-odd : (n % 2 ≡ 0 → ⊥) → false ≡ pendingFine n l
+    unfolding pendingFine
+    fine-odd o = simp (ne-eqb _ _ some, ne-eqb _ _ o)
+
+    -- an even number, below the packet's size or not
+    pub fine-even : (z : ℕ) → n % 2 ≡ 0 → z ≡ packetSize (getD l 0 0) → ltb n z ≡ pendingFine n l
+    unfolding pendingFine
+    fine-even z o e = simp (ne-eqb _ _ some, eq-eqb _ _ o, e)
+
+-- the whole ring
+module _ (f n : ℕ) (l : List Slot) where
+  -- a place that is not one of 32
+  pub ring-first : 32 ≤ f → false ≡ ringFine f n l
+  unfolding ringFine
+  ring-first h = rw (lt-leb f 31 h)
+
+  module _ (within : f < 32) where
+    -- too many
+    pub ring-count : 32 < n → false ≡ ringFine f n l
+    unfolding ringFine
+    ring-count h = rw (le-leb f 31 (omega arith), lt-leb n 32 h)
+
+    -- all are left
+    pub ring-start : n ≤ 32 → ringFine f n l ≡ slotsFine (ringFrom (f + 0) (n - 0) l)
+    unfolding ringFine
+    ring-start h =
+        let z : n - 0 ≡ n = omega arith in
+        let w : f + 0 ≡ f = omega arith in
+        rw (z, w, le-leb f 31 (omega arith), le-leb n 32 h)
+
+-- no slots
+pub ring-empty : (f : ℕ) (l : List Slot) → leb f 31 ≡ ringFine f 0 l
+unfolding ringFine slotsFine ringFrom
+ring-empty f l = sym (and-true (leb f 31))
+
+-- what a ring within the limits keeps
+pub record RingFine (f n : ℕ) (l : List Slot) : Type 0 where
+  pub first : f ≤ 31
+  pub count : n ≤ 32
+  pub reading : slotsFine (ringFrom f n l) ≡ true
+
+module _ (f n : ℕ) (l : List Slot) where
+  -- from the test
+  pub ring-facts : ringFine f n l ≡ true → RingFine f n l
+  unfolding ringFine
+  ring-facts e =
+      let g = both _ _ e in
+      let h = both _ _ (g .1) in
+      record { first = leb-true _ _ (g .0); count = leb-true _ _ (h .0); reading = h .1 }
+
+  -- to the test
+  pub facts-ring : RingFine f n l → ringFine f n l ≡ true
+  unfolding ringFine
+  facts-ring v = rw (le-leb _ _ (v .first), le-leb _ _ (v .count), v .reading)
+
+-- whether packets can be gathered
+module _ (f count n : ℕ) (l : List ℕ) where
+  -- a place that is not one of 32
+  pub ready-first : 32 ≤ f → false ≡ readyFor f count n l
+  unfolding readyFor
+  ready-first h = rw (lt-leb f 31 h)
+
+  module _ (within : f < 32) where
+    -- too many slots
+    pub ready-count : 32 < count → false ≡ readyFor f count n l
+    unfolding readyFor
+    ready-count h = rw (le-leb f 31 (omega arith), lt-leb count 32 h)
+
+    -- pending bytes within the limits or not
+    pub ready-pending : (r : Bool) → count ≤ 32 → r ≡ pendingFine n l → r ≡ readyFor f count n l
+    unfolding readyFor
+    ready-pending r h e = rw (le-leb f 31 (omega arith), le-leb count 32 h) e
+
+  -- what is known then
+  module _ (b : Bool) (tested : b ≡ readyFor f count n l) (yes : b ≡ true) where
+    -- the test, taken apart
+    ready-facts : (leb f 31 ≡ true) × (leb count 32 && pendingFine n l ≡ true)
+    unfolding readyFor
+    ready-facts = both _ _ (sym tested ∙ yes)
+
+    -- the place
+    pub ready-within : f < 32
+    ready-within = omega (arith, leb-true f 31 (ready-facts .0))
+
+    -- the slots
+    pub ready-few : count ≤ 32
+    ready-few = leb-true _ _ (both (leb count 32) (pendingFine n l) (ready-facts .1) .0)
+
+    -- the pending bytes
+    pub ready-fine : pendingFine n l ≡ true
+    ready-fine = both (leb count 32) (pendingFine n l) (ready-facts .1) .1
+
+-- gathering, if asked
+module _ (gathers : Bool) (f : ℕ) (r : Ring) (n : ℕ) (l frame : List ℕ) where
+  -- not asked
+  pub gather-not : gathers ≡ false → record { pending = n; bytes = l; ring = r } ≡ gatheredBy gathers f r n l frame
+  unfolding gatheredBy
+  gather-not e = rw e
+
+  module _ (asked : gathers ≡ true) (b : Bool) (tested : b ≡ readyFor f (r .count) n l) where
+    -- outside the limits
+    pub gather-unready : b ≡ false → record { pending = n; bytes = l; ring = r } ≡ gatheredBy gathers f r n l frame
+    unfolding gatheredBy
+    gather-unready e = rw (asked, ← tested, e)
+
+    -- packets are gathered
+    pub gather-asked : (g : Left) → b ≡ true → g ≡ gathered f r (pendingHeld n l) (seenFrom 0 frame) → g ≡ gatheredBy gathers f r n l frame
+    unfolding gatheredBy
+    gather-asked g e q = rw (asked, ← tested, e) q

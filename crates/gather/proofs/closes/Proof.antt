@@ -1,0 +1,17 @@
+-- `gather::closes` meets its contract: only a start closes, and then bytes that read. Assumes nothing.
+use Rattle.gather.proofs.Gathers.{closes-not, closes-reads}
+use borrow.Author.Needs.{needs}
+use Rattle.gather.proofs.closes.Statement.{statement}
+use Rattle.gather.proofs.closes.Tie as tie
+
+returns : tie.Need-returns
+returns c = search (needs, closes-not)
+
+run-reads-requires : tie.Need-run-reads-requires
+run-reads-requires c κs = search needs
+
+returns-2 : tie.Need-returns-2
+returns-2 c = search (needs, closes-reads)
+
+pub closes-spec : {M : Type 1} → statement M
+closes-spec = tie.close (tie.spec returns run-reads-requires returns-2)

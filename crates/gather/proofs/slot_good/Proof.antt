@@ -1,0 +1,17 @@
+-- `gather::slot_good` meets its contract: a slot longer than its places is refused before it is read. Assumes nothing.
+use Rattle.gather.proofs.Slots.{slot-long, slot-within}
+use borrow.Author.Needs.{needs}
+use Rattle.gather.proofs.slot_good.Statement.{statement}
+use Rattle.gather.proofs.slot_good.Tie as tie
+
+returns : tie.Need-returns
+returns c = search (needs, slot-long, slot-within)
+
+run-reads-requires : tie.Need-run-reads-requires
+run-reads-requires c κs = search needs
+
+returns-2 : tie.Need-returns-2
+returns-2 c = search (needs, slot-long, slot-within)
+
+pub slot-good-spec : {M : Type 1} → statement M
+slot-good-spec = tie.close (tie.spec returns run-reads-requires returns-2)

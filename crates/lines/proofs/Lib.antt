@@ -1,0 +1,3 @@
+pub mod Tellings
+pub mod Pieces
+pub mod Examples

@@ -1,0 +1,11 @@
+pub mod Valids
+pub mod Pushes
+pub mod Draws
+pub mod Listed
+pub mod Told
+pub mod Firsts
+pub mod Drawing
+pub mod Calls
+pub mod Kept
+pub mod Items
+pub mod Same

@@ -1,0 +1,102 @@
+-- Drawing an item. Assumes nothing.
+use mathlib.Core.Path.{_≡_}
+use mathlib.Core.List.{List, _++_}
+use mathlib.Core.Bool.{Bool, cond}
+use Prim.Native.Nat.{ℕ, _+_, _-_, _*_, _%_, _≤_}
+use lib.ListN.{getD, take, drop}
+use lib.Dec.{eqb}
+use Rattle.caption.specs.declared.Cea608.{Cea608}
+use Rattle.caption.specs.declared.Cea608.the-variants.{Field1, Field2}
+use Rattle.caption.specs.declared.Refusal.the-variants as refusal
+use Rattle.model.specs.Said.{mapped, after}
+use Rattle.model.specs.Packet.{readPacket}
+use Rattle.packet.specs.Packet.{laid, blank}
+use Rattle.slots.specs.declared.Slot.{Slot}
+use Rattle.packet.specs.declared.DTVCCPacket.{DTVCCPacket}
+use Rattle.gather.specs.Ring.{noSlot}
+use Rattle.parser.specs.Valid.{countsOf, valid}
+use Rattle.parser.specs.declared.Counts.{Counts}
+use Rattle.parser.specs.declared.Took.{Took}
+use Rattle.parser.specs.declared.Item.{Item}
+use Rattle.parser.specs.declared.Item.the-variants.{Pair, Packet, Nothing, Refused}
+use Rattle.parser.specs.declared.CCDataParser.{CCDataParser}
+use Rattle.parser.specs.declared.Drawn.{Drawn}
+
+-- the first n elements are those that stood k further, and the others stay
+unfoldable pub slid : {A : Type 0} → ℕ → ℕ → List A → List A
+slid k n l = take n (drop k l) ++ drop n l
+
+-- the pair at the head of the list's places
+unfoldable pub firstPair : List ℕ → Cea608
+firstPair l = cond (eqb (getD l 0 0) 0) (Field1 (getD l 1 0) (getD l 2 0)) (Field2 (getD l 1 0) (getD l 2 0))
+
+-- the packet that bytes are read as
+unfoldable pub packetAt : List ℕ → DTVCCPacket
+packetAt g = after blank (mapped laid (readPacket g))
+
+-- the packet of a slot
+abbrev pub slotPacket : Slot → DTVCCPacket
+slotPacket s = packetAt (take (s .len) (s .bytes))
+
+-- the first pair, and the others moved down
+unfoldable pub takePair : Counts → List ℕ → Took
+takePair c l =
+    record {
+      item = Pair (firstPair l);
+      packet = blank;
+      pairs = c .pairs - 1;
+      places = slid 3 (3 * (c .pairs - 1)) l;
+      first = c .first;
+      waiting = c .waiting;
+    }
+
+-- the first packet of the ring
+unfoldable pub takePacket : Counts → List ℕ → List Slot → Took
+takePacket c l slots =
+    record {
+      item = Packet;
+      packet = slotPacket (getD slots (c .first) noSlot);
+      pairs = c .pairs;
+      places = l;
+      first = (c .first + 1) % 32;
+      waiting = c .waiting - 1;
+    }
+
+-- nothing taken
+abbrev pub takeNone : Item → Counts → List ℕ → Took
+takeNone item c l = record { item = item; packet = blank; pairs = c .pairs; places = l; first = c .first; waiting = c .waiting }
+
+-- "first the list's pairs in order, then packets, oldest first"; "with none left it says so"
+unfoldable pub takeItem : Bool → Counts → List ℕ → List Slot → Took
+takeItem valid c l slots =
+    cond valid
+    (cond (eqb (c .pairs) 0) (cond (eqb (c .waiting) 0) (takeNone Nothing c l) (takePacket c l slots)) (takePair c l))
+    (takeNone (Refused refusal.BadValue) c l)
+
+-- what a state within the limits gives to a taker
+pub record Takes (c : Counts) (slots : List Slot) : Type 0 where
+  pub pairs : c .pairs ≤ 31
+  pub first : c .first ≤ 31
+  pub slot : (c .waiting ≡ 0 → ⊥) → getD slots (c .first) noSlot .len ≤ 128
+
+-- the state by what was taken
+unfoldable pub drawnBy : CCDataParser → Took → Drawn
+drawnBy p t =
+    record {
+      item = t .item;
+      packet = t .packet;
+      parser = record {
+        «cea608_on» = p .«cea608_on»;
+        «pair_count» = t .pairs;
+        pairs = t .places;
+        «pending_len» = p .«pending_len»;
+        pending = p .pending;
+        «waiting_first» = t .first;
+        «waiting_count» = t .waiting;
+        waiting = p .waiting;
+      };
+    }
+
+-- drawing, from any state
+unfoldable pub drawn : CCDataParser → Drawn
+drawn p = drawnBy p (takeItem (valid p) (countsOf p) (p .pairs) (p .waiting))

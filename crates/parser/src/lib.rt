@@ -1,0 +1,424 @@
+// The demultiplexer: frames of `cc_data` in, caption pairs and packets out.
+ghost use mathlib.Core.Path.{_≡_};
+ghost use mathlib.Core.Bool.{true};
+ghost use Prim.Native.Nat.{_≤_};
+ghost use lib.ListN.{length, getD, take};
+ghost use Rattle.caption.specs.Answers.{saidCounted};
+ghost use Rattle.model.specs.Said.{measured};
+ghost use Rattle.packet.specs.Packet.{blank};
+ghost use Rattle.gather.specs.Ring.{noSlot};
+ghost use Rattle.parser.specs.Valid.{listFine, countsOf, fine, valid};
+ghost use Rattle.parser.specs.Fresh.{fresh};
+ghost use Rattle.parser.specs.Means.{means, Answers, saidPush, saidCall, afterCall, turnedOn};
+ghost use Rattle.parser.specs.Push.{fed, refusedFor, pushed};
+ghost use Rattle.parser.specs.Draw.{firstPair, slid, packetAt, takePair, takePacket, takeNone, takeItem, Takes};
+ghost use Rattle.parser.specs.Items.{Draws};
+use caption::Answer;
+use caption::Cea608;
+use caption::Counted;
+use caption::Refusal;
+use packet::DTVCCPacket;
+use slots::Slot;
+
+// The most pairs of a frame, and the most packets that wait.
+const MOST_PAIRS: usize = 31;
+
+const MOST_WAITING: usize = 32;
+
+// A demultiplexer. The first `pair_count` pairs of the last frame not yet drawn stand in `pairs`, three places each: the field (0 or 1) and
+// two bytes. The first `pending_len` bytes of `pending` are of a packet that is not complete. `waiting_count` slots from `waiting_first` on,
+// going round, hold the packets not yet drawn.
+pub struct CCDataParser {
+    pub cea608_on: bool,
+    pub pair_count: usize,
+    pub pairs: [u8; 93],
+    pub pending_len: usize,
+    pub pending: [u8; 128],
+    pub waiting_first: usize,
+    pub waiting_count: usize,
+    pub waiting: [Slot; 32],
+}
+
+// An answer, and the demultiplexer afterwards.
+pub struct ParserAnswer {
+    pub answer: Answer,
+    pub parser: CCDataParser,
+}
+
+// What is drawn out of a demultiplexer.
+pub enum Item {
+    // A 608 pair.
+    Pair(Cea608),
+    // The packet beside it.
+    Packet,
+    // Nothing is left.
+    Nothing,
+    // The demultiplexer breaks a limit.
+    Refused(Refusal),
+}
+
+// An item, the packet beside it, and the demultiplexer afterwards.
+pub struct Drawn {
+    pub item: Item,
+    pub packet: DTVCCPacket,
+    pub parser: CCDataParser,
+}
+
+// The numbers of a state.
+pub struct Counts {
+    pub on: bool,
+    pub pairs: usize,
+    pub pending: usize,
+    pub first: usize,
+    pub waiting: usize,
+}
+
+// What was taken, and the list and the counts afterwards.
+pub struct Took {
+    pub item: Item,
+    pub packet: DTVCCPacket,
+    pub pairs: usize,
+    pub places: [u8; 93],
+    pub first: usize,
+    pub waiting: usize,
+}
+
+// Whether the list has at most 31 pairs, each of field 1 or 2.
+fn list_good(pairs: &[u8; 93], n: usize) -> bool
+    ensures { λ r. ⌜ r ≡ listFine n (now (pairs .entry)) ⌝ }
+{
+    if MOST_PAIRS < n {
+        return false;
+    }
+    let mut i = 0;
+    while i < n {
+        if 1 < pairs[3 * i] {
+            return false;
+        }
+        i += 1;
+    }
+    true
+}
+
+// Whether a state is within the limits.
+fn good<'a>(c: Counts, pairs: &'a [u8; 93], pending: &'a [u8; 128], slots: [Slot; 32]) -> bool
+    ensures { λ r. ⌜ r ≡ fine c (now (pairs .entry)) (now (pending .entry)) slots ⌝ }
+{
+    if !list_good(pairs, c.pairs) {
+        return false;
+    }
+    if !gather::pending_good(pending, c.pending) {
+        return false;
+    }
+    if c.waiting == 0 {
+        return c.first <= 31;
+    }
+    gather::slots_good(slots, c.first, c.waiting)
+}
+
+// No packet.
+fn no_packet() -> DTVCCPacket
+    ensures { λ r. ⌜ r ≡ blank ⌝ }
+{
+    DTVCCPacket {
+        seq_no: 0,
+        count: 0,
+        numbers: [0u8; 63],
+        sizes: [0u8; 63],
+        payload: [0u8; 127],
+    }
+}
+
+// The first pair of the list.
+fn first_pair(pairs: &[u8; 93]) -> Cea608
+    ensures { λ r. ⌜ r ≡ firstPair (now (pairs .entry)) ⌝ }
+{
+    if pairs[0] == 0 {
+        return Cea608::Field1(pairs[1], pairs[2]);
+    }
+    Cea608::Field2(pairs[1], pairs[2])
+}
+
+// The list with `n` places moved down by one pair.
+fn shift_pairs(all: [u8; 93], n: usize) -> [u8; 93]
+    requires { ⌜ n ≤ 90 ⌝ }
+    ensures { λ r. ⌜ r ≡ slid 3 n all ⌝ }
+{
+    let mut pairs = all;
+    let mut i = 0;
+    while i < n {
+        let x = pairs[i + 3];
+        pairs[i] = x;
+        i += 1;
+    }
+    pairs
+}
+
+// The packet that the first `len` bytes are read as.
+fn run_packet(bytes: &[u8; 128], len: usize) -> DTVCCPacket
+    requires { ⌜ len ≤ 128 ⌝ }
+    ensures { λ r. ⌜ r ≡ packetAt (take len (now (bytes .entry))) ⌝ }
+{
+    let s = &bytes[..];
+    let r = DTVCCPacket::parse(&s[0..len]);
+    r.packet
+}
+
+// The packet that a slot holds.
+fn slot_packet(slot: Slot) -> DTVCCPacket
+    requires { ⌜ slot .len ≤ 128 ⌝ }
+    ensures { λ r. ⌜ r ≡ packetAt (take (slot .len) (slot .bytes)) ⌝ }
+{
+    let len = slot.len;
+    let bytes = slot.bytes;
+    run_packet(&bytes, len)
+}
+
+// Takes the first pair of the list.
+fn take_pair(c: Counts, pairs: [u8; 93]) -> Took
+    requires { ⌜ (c .pairs ≡ 0 → ⊥) ⌝ }
+    requires { ⌜ c .pairs ≤ 31 ⌝ }
+    ensures { λ r. ⌜ r ≡ takePair c pairs ⌝ }
+{
+    let n = c.pairs - 1;
+    let pair = first_pair(&pairs);
+    let places = shift_pairs(pairs, 3 * n);
+    let packet = no_packet();
+    Took {
+        item: Item::Pair(pair),
+        packet,
+        pairs: n,
+        places,
+        first: c.first,
+        waiting: c.waiting,
+    }
+}
+
+// Takes the packet that has waited longest.
+fn take_packet(c: Counts, pairs: [u8; 93], slots: [Slot; 32]) -> Took
+    requires { ⌜ (c .waiting ≡ 0 → ⊥) ⌝ }
+    requires { ⌜ c .first ≤ 31 ⌝ }
+    requires { ⌜ getD slots (c .first) noSlot .len ≤ 128 ⌝ }
+    ensures { λ r. ⌜ r ≡ takePacket c pairs slots ⌝ }
+{
+    let at = c.first;
+    let slot = slots[at];
+    let packet = slot_packet(slot);
+    Took {
+        item: Item::Packet,
+        packet,
+        pairs: c.pairs,
+        places: pairs,
+        first: (at + 1) % 32,
+        waiting: c.waiting - 1,
+    }
+}
+
+// Takes nothing.
+fn take_none(item: Item, c: Counts, pairs: [u8; 93]) -> Took
+    ensures { λ r. ⌜ r ≡ takeNone item c pairs ⌝ }
+{
+    let packet = no_packet();
+    Took {
+        item,
+        packet,
+        pairs: c.pairs,
+        places: pairs,
+        first: c.first,
+        waiting: c.waiting,
+    }
+}
+
+// Takes the next item, if the state is within the limits and there is one.
+fn take_item(valid: bool, c: Counts, pairs: [u8; 93], slots: [Slot; 32]) -> Took
+    requires { ⌜ (valid ≡ true → Takes c slots) ⌝ }
+    ensures { λ r. ⌜ r ≡ takeItem valid c pairs slots ⌝ }
+{
+    if valid {
+        if c.pairs != 0 {
+            return take_pair(c, pairs);
+        }
+        if c.waiting != 0 {
+            return take_packet(c, pairs, slots);
+        }
+        return take_none(Item::Nothing, c, pairs);
+    }
+    take_none(Item::Refused(Refusal::BadValue), c, pairs)
+}
+
+impl CCDataParser {
+    // A fresh demultiplexer: 608 is off, and nothing waits.
+    pub fn new() -> Self
+        ensures { λ r. ⌜ r ≡ fresh ⌝ }
+    {
+        let bytes = [0u8; 128];
+        let slot = Slot { len: 0, bytes };
+        let pairs = [0u8; 93];
+        let waiting = [slot; 32];
+        CCDataParser {
+            cea608_on: false,
+            pair_count: 0,
+            pairs,
+            pending_len: 0,
+            pending: bytes,
+            waiting_first: 0,
+            waiting_count: 0,
+            waiting,
+        }
+    }
+
+    // The numbers of the state.
+    fn counts(self) -> Counts
+        ensures { λ r. ⌜ r ≡ countsOf self ⌝ }
+    {
+        Counts {
+            on: self.cea608_on,
+            pairs: self.pair_count,
+            pending: self.pending_len,
+            first: self.waiting_first,
+            waiting: self.waiting_count,
+        }
+    }
+
+    // A refusal, with the state as it was.
+    fn refused(self, why: Refusal) -> ParserAnswer
+        ensures { λ r. ⌜ r ≡ fed (refusedFor why) self ⌝ }
+    {
+        ParserAnswer {
+            answer: Answer::Refused(why),
+            parser: self,
+        }
+    }
+
+    // Whether a demultiplexer is within the limits; every call of one that is not is refused.
+    pub fn is_valid(self) -> bool
+        ensures { λ r. ⌜ r ≡ valid self ⌝ }
+    {
+        let pairs = self.pairs;
+        let pending = self.pending;
+        let slots = self.waiting;
+        let c = self.counts();
+        good(c, &pairs, &pending, slots)
+    }
+
+    // Turns 608 on: the pairs of frames are listed from now on, and the list is empty.
+    pub fn handle_cea608(self) -> ParserAnswer
+        ensures { λ r. ⌜ Answers (saidCall self) (afterCall self (turnedOn self)) r ⌝ }
+    {
+        if self.is_valid() {
+            let mut parser = self;
+            parser.cea608_on = true;
+            parser.pair_count = 0;
+            return ParserAnswer {
+                answer: Answer::Accepted,
+                parser,
+            };
+        }
+        self.refused(Refusal::BadValue)
+    }
+
+    // Returns to fresh, with 608 off.
+    pub fn flush(self) -> ParserAnswer
+        ensures { λ r. ⌜ Answers (saidCall self) (afterCall self fresh) r ⌝ }
+    {
+        if self.is_valid() {
+            let parser = CCDataParser::new();
+            return ParserAnswer {
+                answer: Answer::Accepted,
+                parser,
+            };
+        }
+        self.refused(Refusal::BadValue)
+    }
+
+    // How many pairs wait to be drawn.
+    pub fn pairs_waiting(self) -> Counted
+        ensures { λ r. ⌜ saidCounted r ≡ measured (valid self) (length (means self .pairs)) ⌝ }
+    {
+        if self.is_valid() {
+            return Counted::Count(self.pair_count);
+        }
+        Counted::Refused(Refusal::BadValue)
+    }
+
+    // How many packets wait to be drawn.
+    pub fn packets_waiting(self) -> Counted
+        ensures { λ r. ⌜ saidCounted r ≡ measured (valid self) (length (means self .waiting)) ⌝ }
+    {
+        if self.is_valid() {
+            return Counted::Count(self.waiting_count);
+        }
+        Counted::Refused(Refusal::BadValue)
+    }
+
+    // Draws the next item: first the list's pairs in order, then the packets, oldest first.
+    pub fn draw(self) -> Drawn
+        ensures { λ r. ⌜ Draws self r ⌝ }
+    {
+        let pairs = self.pairs;
+        let pending = self.pending;
+        let waiting = self.waiting;
+        let c = self.counts();
+        let ok = good(c, &pairs, &pending, waiting);
+        let r = take_item(ok, c, pairs, waiting);
+        let item = r.item;
+        let packet = r.packet;
+        let places = r.places;
+        Drawn {
+            item,
+            packet,
+            parser: CCDataParser {
+                cea608_on: c.on,
+                pair_count: r.pairs,
+                pairs: places,
+                pending_len: c.pending,
+                pending,
+                waiting_first: r.first,
+                waiting_count: r.waiting,
+                waiting,
+            },
+        }
+    }
+
+    // Reads a frame.
+    pub fn push(self, frame: &[u8]) -> ParserAnswer
+        ensures { λ r. ⌜ Answers (saidPush self (now (frame .entry))) (pushed self (now (frame .entry)) .parser) r ⌝ }
+    {
+        let mut pairs = self.pairs;
+        let mut pending = self.pending;
+        let slots = self.waiting;
+        let c = self.counts();
+        if good(c, &pairs, &pending, slots) {
+            let plan = triples::plan_of(frame);
+            let n = triples::list_by(plan.lists, c.on, &mut pairs, frame);
+            let g = gather::gather_by(
+                plan.gathers,
+                c.first,
+                c.waiting,
+                c.pending,
+                slots,
+                &mut pending,
+                frame,
+            );
+            if MOST_WAITING < g.waiting {
+                return self.refused(Refusal::Full);
+            }
+            let waiting = g.slots;
+            let answer = plan.answer;
+            return ParserAnswer {
+                answer,
+                parser: CCDataParser {
+                    cea608_on: c.on,
+                    pair_count: n,
+                    pairs,
+                    pending_len: g.pending,
+                    pending,
+                    waiting_first: c.first,
+                    waiting_count: g.waiting,
+                    waiting,
+                },
+            };
+        }
+        self.refused(Refusal::BadValue)
+    }
+}

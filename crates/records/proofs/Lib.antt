@@ -1,0 +1,6 @@
+pub mod Layings
+pub mod Decimals
+pub mod Moves
+pub mod Readings
+pub mod Cuts
+pub mod Examples

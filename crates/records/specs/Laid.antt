@@ -1,0 +1,22 @@
+-- What becomes of a lent buffer. Assumes nothing.
+use mathlib.Core.Path.{_≡_}
+use mathlib.Core.List.{List, _++_}
+use Prim.Native.Nat.{ℕ, _+_, _-_, _≤_, min}
+use lib.ListN.{length, take, drop}
+use lib.Seq.{sets}
+
+-- Text is laid into `before` from `at` on, as far as there is room: r is the place behind it, or the buffer's end where it has no room.
+-- Every other byte stays.
+pub record Laid (text before : List ℕ) (at r : ℕ) (after : List ℕ) : Type 0 where
+  pub place : r ≡ min (at + length text) (length before)
+  pub bytes : after ≡ sets before at text
+
+-- the bytes from one place to another, as far as they are there
+abbrev pub between : ℕ → ℕ → List ℕ → List ℕ
+between from to l = take (to - from) (drop from l)
+
+-- r bytes are moved to the front, no more than there are; those behind them stay
+pub record Moved (kept before : List ℕ) (r : ℕ) (after : List ℕ) : Type 0 where
+  pub count : r ≡ length kept
+  pub within : r ≤ length before
+  pub bytes : after ≡ kept ++ drop (length kept) before

@@ -1,0 +1,4 @@
+pub mod Walk
+pub mod Scan
+pub mod Pairs
+pub mod Plan

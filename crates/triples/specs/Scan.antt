@@ -1,0 +1,40 @@
+-- The search for a late 608 triple and for a valid 708 triple. Assumes nothing.
+use mathlib.Core.List.{List}
+use Prim.Native.Nat.{ℕ, _*_}
+use Rattle.model.specs.Frame.{Seen, first, second, start, more, void608, void708}
+use Rattle.triples.specs.Walk.{over, seenFrom}
+use Rattle.triples.specs.declared.Scan.{Scan}
+use Rattle.triples.specs.declared.Scan.the-variants.{Only608, Ended, Carries, Late}
+
+-- within the 608 part: a 708 triple ends it, valid or not
+abbrev pub scanFirst : Seen → Scan
+scanFirst (first a b) = Only608
+scanFirst (second a b) = Only608
+scanFirst void608 = Only608
+scanFirst void708 = Ended
+scanFirst (start a b) = Carries
+scanFirst (more a b) = Carries
+
+-- after it: a valid 608 triple is late
+abbrev pub scanAfter : Scan → ℕ → Seen → Scan
+scanAfter s at (first a b) = Late at
+scanAfter s at (second a b) = Late at
+scanAfter s at void608 = s
+scanAfter s at void708 = s
+scanAfter s at (start a b) = Carries
+scanAfter s at (more a b) = Carries
+
+-- one triple, at a place; the first late one stays
+abbrev pub scanAt : Scan → ℕ → Seen → Scan
+scanAt Only608 at t = scanFirst t
+scanAt Ended at t = scanAfter Ended at t
+scanAt Carries at t = scanAfter Carries at t
+scanAt (Late i) at t = Late i
+
+-- "at 3 times its index"
+unfoldable pub scanTurn : Scan → ℕ → Seen → Scan
+scanTurn s i t = scanAt s (3 * i) t
+
+-- the search over a frame
+abbrev pub scanned : List ℕ → Scan
+scanned f = over scanTurn Only608 0 (seenFrom 0 f)

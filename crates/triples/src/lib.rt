@@ -1,0 +1,218 @@
+// What the triples of a frame say of its 608 part: its header, the late 608 triple, the valid 708 triple, and the pairs.
+ghost use mathlib.Core.Path.{_≡_};
+ghost use mathlib.Core.List.{_∷_, List};
+ghost use Prim.Native.Nat.{ℕ, _+_, _%_, _≤_, _<_};
+ghost use lib.ListN.{length};
+ghost use Rattle.model.specs.Frame.{Seen, seen, tri};
+ghost use Rattle.triples.specs.Walk.{seenFrom};
+ghost use Rattle.triples.specs.Scan.{scanFirst, scanAfter, scanAt, scanned};
+ghost use Rattle.triples.specs.Pairs.{listing, listedBy};
+ghost use mathlib.Core.Bool.{_&&_};
+ghost use Rattle.triples.specs.Plan.{headOf, planWalked, planOf};
+use caption::Answer;
+use caption::Refusal;
+
+// The most bytes of a frame.
+const MOST_FRAME: usize = 95;
+
+// What the first byte and the length of a frame say.
+pub enum Head {
+    // There is nothing to read.
+    Unread,
+    // The length is not what the count asks: expected, actual.
+    Mismatch(usize, usize),
+    // There are triples.
+    Walk,
+}
+
+// How far the search for a late pair has come.
+pub enum Scan {
+    // Every triple so far is of the 608 part.
+    Only608,
+    // The 608 part has ended, with no valid 708 triple yet.
+    Ended,
+    // A valid 708 triple was there.
+    Carries,
+    // A valid 608 triple stands after the 608 part, at this place.
+    Late(usize),
+}
+
+// What is to be done with a frame: the answer unless no place is left, whether pairs are listed, and whether bytes are gathered.
+pub struct Plan {
+    pub answer: Answer,
+    pub lists: bool,
+    pub gathers: bool,
+}
+
+// Reads the header of a frame.
+fn header(frame: &[u8]) -> Head
+    ensures { λ r. ⌜ r ≡ headOf (now (frame .entry)) ⌝ }
+{
+    let n = frame.len();
+    if n < 5 {
+        return Head::Unread;
+    }
+    let b = frame[0];
+    if b / 64 % 2 != 1 {
+        return Head::Unread;
+    }
+    let k = (b % 32) as usize;
+    if k == 0 {
+        return Head::Unread;
+    }
+    if n == 3 * k + 2 {
+        return Head::Walk;
+    }
+    Head::Mismatch(3 * k + 1, n)
+}
+
+// A triple of the 608 part, by its first byte.
+fn first_turn(c: u8) -> Scan
+    ensures { λ r. ⌜ ((x y : ℕ) → r ≡ scanFirst (seen (tri c x y))) ⌝ }
+{
+    let v = c % 8;
+    if v < 2 {
+        return Scan::Only608;
+    }
+    if v < 4 {
+        return Scan::Ended;
+    }
+    if v < 6 {
+        return Scan::Only608;
+    }
+    Scan::Carries
+}
+
+// A triple after the 608 part.
+fn after_turn(s: Scan, at: usize, c: u8) -> Scan
+    ensures { λ r. ⌜ ((x y : ℕ) → r ≡ scanAfter s at (seen (tri c x y))) ⌝ }
+{
+    let v = c % 8;
+    if v < 4 {
+        return s;
+    }
+    if v < 6 {
+        return Scan::Late(at);
+    }
+    Scan::Carries
+}
+
+// One triple of the search.
+fn scan_turn(s: Scan, at: usize, c: u8) -> Scan
+    ensures { λ r. ⌜ ((x y : ℕ) → r ≡ scanAt s at (seen (tri c x y))) ⌝ }
+{
+    match s {
+        Scan::Only608 => first_turn(c),
+        Scan::Ended => after_turn(Scan::Ended, at, c),
+        Scan::Carries => after_turn(Scan::Carries, at, c),
+        Scan::Late(i) => Scan::Late(i),
+    }
+}
+
+// The search over a frame.
+fn scan_frame(frame: &[u8]) -> Scan
+    ensures { λ r. ⌜ r ≡ scanned (now (frame .entry)) ⌝ }
+{
+    let mut s = Scan::Only608;
+    let mut i = 0;
+    while 3 * i + 4 < frame.len() {
+        s = scan_turn(s, 3 * i, frame[3 * i + 2]);
+        i += 1;
+    }
+    s
+}
+
+// Lays the pair of a triple of the 608 part, if it is valid, behind the n that are there; gives how many there are then.
+fn put_pair(pairs: &mut [u8; 93], n: usize, c: u8, x: u8, y: u8) -> usize
+    requires { ⌜ n < 31 ⌝ }
+    requires { ⌜ c % 4 < 2 ⌝ }
+    ensures { λ r. ⌜ ((ts : List Seen) → listing n (now (pairs .entry)) (seen (tri c x y) ∷ ts) ≡ listing r (now (pairs .exit)) ts) ⌝ }
+    ensures { λ r. ⌜ r ≤ n + 1 ⌝ }
+{
+    if c % 8 < 4 {
+        return n;
+    }
+    pairs[3 * n] = c % 4;
+    pairs[3 * n + 1] = x;
+    pairs[3 * n + 2] = y;
+    n + 1
+}
+
+// Lists the pairs of a frame's 608 part; gives how many there are.
+fn list_pairs(pairs: &mut [u8; 93], frame: &[u8]) -> usize
+    requires { ⌜ length (now frame) ≤ 95 ⌝ }
+    ensures { λ r. ⌜ record { count = r; places = now (pairs .exit) } ≡ listing 0 (now (pairs .entry)) (seenFrom 0 (now (frame .entry))) ⌝ }
+{
+    let mut n: usize = 0;
+    let mut i = 0;
+    while 3 * i + 4 < frame.len() {
+        let c = frame[3 * i + 2];
+        if c % 4 >= 2 {
+            return n;
+        }
+        n = put_pair(pairs, n, c, frame[3 * i + 3], frame[3 * i + 4]);
+        i += 1;
+    }
+    n
+}
+
+// What is to be done with a frame that has triples.
+fn plan_walk(frame: &[u8]) -> Plan
+    ensures { λ r. ⌜ r ≡ planWalked (now (frame .entry)) ⌝ }
+{
+    match scan_frame(frame) {
+        Scan::Late(byte_pos) => Plan {
+            answer: Answer::Refused(Refusal::Cea608AfterCea708 { byte_pos }),
+            lists: true,
+            gathers: false,
+        },
+        Scan::Carries => Plan {
+            answer: Answer::Accepted,
+            lists: true,
+            gathers: true,
+        },
+        Scan::Ended => Plan {
+            answer: Answer::Accepted,
+            lists: true,
+            gathers: false,
+        },
+        Scan::Only608 => Plan {
+            answer: Answer::Accepted,
+            lists: true,
+            gathers: false,
+        },
+    }
+}
+
+// What is to be done with a frame.
+pub fn plan_of(frame: &[u8]) -> Plan
+    ensures { λ r. ⌜ r ≡ planOf (now (frame .entry)) ⌝ }
+{
+    match header(frame) {
+        Head::Unread => Plan {
+            answer: Answer::Accepted,
+            lists: false,
+            gathers: false,
+        },
+        Head::Mismatch(expected, actual) => Plan {
+            answer: Answer::Refused(Refusal::LengthMismatch { expected, actual }),
+            lists: false,
+            gathers: false,
+        },
+        Head::Walk => plan_walk(frame),
+    }
+}
+
+// Lists the pairs of a frame of at most 31 triples where that is asked and 608 is on, and else none; gives how many there are.
+pub fn list_by(lists: bool, on: bool, pairs: &mut [u8; 93], frame: &[u8]) -> usize
+    ensures { λ r. ⌜ record { count = r; places = now (pairs .exit) } ≡ listedBy (lists && on) (now (pairs .entry)) (now (frame .entry)) ⌝ }
+{
+    if lists {
+        if on {
+            if frame.len() <= MOST_FRAME {
+                return list_pairs(pairs, frame);
+            }
+        }
+    }
+    0
+}

@@ -1,0 +1,2 @@
+pub mod Queues
+pub mod Steps

@@ -1,0 +1,58 @@
+-- `turns::Turns::take` meets its contract: one law of `Steps` for each test, and the turn functions do the rest. Assumes nothing.
+use mathlib.Core.Path.{refl}
+use native.Mathlib.Omega.{arith}
+use Rattle.turns.proofs.Steps.{no-fit, over1, over2, over3, over4, from1, from2}
+use borrow.Author.Needs.{needs}
+use Rattle.turns.proofs.Turns.take.Statement.{statement}
+use Rattle.turns.proofs.Turns.take.Tie as tie
+use Rattle.turns.proofs.Turns.take.Reads as reads
+use Rattle.turns.proofs.Turns.take.Lts as lts
+use Rattle.turns.proofs.field1_turn.Reads as field1-turn-reads
+use Rattle.turns.proofs.field2_turn.Reads as field2-turn-reads
+
+returns : tie.Need-returns
+returns c = let a = c .before .before .before .before .before .args in no-fit (a .self) (a .turns) (a .pad) (over1 (a .self) (a .turns) (a .pad) (omega arith)) refl
+
+returns-2 : tie.Need-returns-2
+returns-2 c = let a = c .before .before .before .before .before .before .before .args in no-fit (a .self) (a .turns) (a .pad) (over2 (a .self) (a .turns) (a .pad) (omega arith) (omega arith)) refl
+
+returns-3 : tie.Need-returns-3
+returns-3 c = let a = c .before .before .before .before .before .before .before .before .args in no-fit (a .self) (a .turns) (a .pad) (over3 (a .self) (a .turns) (a .pad) (omega arith) (omega arith) (omega arith)) refl
+
+mul-if4 : tie.Need-mul-if4
+mul-if4 c = search needs
+
+sub-if4 : tie.Need-sub-if4
+sub-if4 c = search needs
+
+returns-4 : tie.Need-returns-4
+returns-4 c = let a = c .before .before .before .before .before .before .before .before .before .before .args in no-fit (a .self) (a .turns) (a .pad) (over4 (a .self) (a .turns) (a .pad) (omega arith) (omega arith) (omega arith) (omega arith)) refl
+
+field2-turn-requires : tie.Need-field2-turn-requires
+field2-turn-requires c κs = search needs
+
+returns-5 : tie.Need-returns-5
+returns-5 c = let a = c .before .before .before .before .before .before .before .before .before .before .before .before .args in
+    from2 (a .self) (a .turns) (a .pad) (record { first = omega arith; second = omega arith; room = omega arith }) (c .before .if5 .taken) (c .field2-turn .ensures)
+
+field1-turn-requires : tie.Need-field1-turn-requires
+field1-turn-requires c κs = search needs
+
+returns-6 : tie.Need-returns-6
+returns-6 c = let a = c .before .before .before .before .before .before .before .before .before .before .before .before .args in
+    from1 (a .self) (a .turns) (a .pad) (record { first = omega arith; second = omega arith; room = omega arith }) (c .before .if5 .left) (c .field1-turn .ensures)
+
+pub take-spec : {M : Type 1} → statement M
+take-spec =
+    tie.close
+    (tie.spec
+    returns
+    returns-2
+    returns-3
+    mul-if4
+    sub-if4
+    returns-4
+    field2-turn-requires
+    returns-5
+    field1-turn-requires
+    returns-6)

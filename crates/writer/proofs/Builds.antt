@@ -1,0 +1,211 @@
+-- A frame that is built is the model's frame, and the state after it is what the model leaves. Assumes nothing.
+use mathlib.Core.Path.{_≡_, refl, sym, ap, _∙_}
+use mathlib.Core.Bool.{Bool, true, false, cond, not}
+use mathlib.Core.List.{List, [], _∷_, _++_, append-assoc}
+use Prim.Native.Nat.{ℕ, zero, suc, _+_, _-_, _*_, _/_, _%_, _≤_, _<_, min, max}
+use native.Mathlib.Omega.{arith}
+use lib.ListN.{length, take, drop, replicate, length-append, length-map}
+use lib.Seq.{length-take-le}
+use Rattle.model.specs.Packet.{Packet}
+use Rattle.model.specs.Frame.{Triple, tri, Pair, flat}
+use Rattle.model.specs.Rate.{Budgets}
+use Rattle.model.specs.Mux.{Mux, Turned, turn1, turn2, turned, turnsDue, countDue, triplesQueued, Sent, send, padding, framed, writeFrame}
+use Rattle.model.proofs.Cases.{by-cond}
+use Rattle.model.proofs.Frames.{flat-length}
+use Rattle.frames.specs.Frame.{headed, appended, fillers}
+use Rattle.frames.proofs.Stores.{appended-flat}
+use Rattle.turns.specs.Queue.{queueOf}
+use Rattle.turns.specs.Turn.{Fits, fits, taken, turnsFrom, takenFrom}
+use Rattle.turns.proofs.Queues.{Sized, queue-length}
+use Rattle.turns.proofs.Steps.{Leaves, leaves1, leaves2, fit}
+use Rattle.frames.specs.declared.Frame.{Frame}
+use Rattle.turns.specs.declared.Turns.{Turns}
+use Rattle.slots.specs.Slot.{slotPacket, writtenBytes}
+use Rattle.writer.specs.Slots.{packetsOf, leftFrom}
+use Rattle.writer.specs.Sending.{stands, sentFrom}
+use Rattle.writer.specs.Writer.{means, Ok, joined, leftBy, afterFrame, laid, built, turnsOf, triplesIn, padded, filled, startOf, turnsOn, Room}
+use Rattle.writer.proofs.Sends.{send-fewer}
+use Rattle.writer.proofs.Fills.{send-few, sent-next, sent-slot}
+use Rattle.writer.specs.declared.Sending.{Sending}
+use Rattle.writer.specs.declared.CCDataWriter.{CCDataWriter}
+use Rattle.writer.specs.declared.Built.{Built}
+
+-- the turns that the model takes
+pub leaves : (n : ℕ) (s : Mux) → Leaves n (s .queue1) (s .queue2) (turned n s)
+unfolding turned
+leaves n s =
+    by-cond (λ (r : Turned). Leaves n (s .queue1) (s .queue2) r) (s .next1)
+    (λ _. leaves1 n (s .pad608) (s .queue1) (s .queue2)) (λ _. leaves2 n (s .pad608) (s .queue1) (s .queue2))
+
+-- no more turns than pairs
+turns-most : (pairs : ℕ) (s : Mux) → turnsDue pairs s ≤ pairs
+unfolding turnsDue
+turns-most pairs s = by-cond (λ (n : ℕ). n ≤ pairs) (s .pad608) (λ _. omega arith) (λ _. omega arith)
+
+module _ (b : Budgets) (s : Mux) (within : b .pairs ≤ b .triples) where
+  -- no more than the budget
+  pub count-most : countDue b s ≤ b .triples
+  unfolding countDue
+  count-most = by-cond (λ (n : ℕ). n ≤ b .triples) (s .padOut) (λ _. omega arith) (λ _. omega arith)
+
+  -- room for every turn
+  pub count-least : turnsDue (b .pairs) s ≤ countDue b s
+  unfolding countDue
+  count-least = let m = turns-most (b .pairs) s in by-cond (λ (n : ℕ). turnsDue (b .pairs) s ≤ n) (s .padOut) (λ _. omega arith) (λ _. omega arith)
+
+module _ (w : CCDataWriter) (b : Budgets) (ok : Ok w) (within : b .pairs ≤ b .triples) (most : b .triples ≤ 31) where
+  -- the turns and the count
+  pub turns-are : turnsOf (w .«output_cea608_padding») (b .pairs) (w .field1 .count) (w .field2 .count) ≡ turnsDue (b .pairs) (means w)
+  unfolding turnsDue means
+  turns-are = rw (queue-length (w .field1) (ok .first), queue-length (w .field2) (ok .second))
+
+  -- the code's count is the model's
+  pub count-are : cond (w .«output_padding») (b .triples)
+      (min (b .triples) (turnsDue (b .pairs) (means w) + (length (leftFrom (w .sent) (writtenBytes (w .sending))) + triplesQueued (packetsOf (take (w .«packet_count») (w .packets)))))) ≡ countDue b (means w)
+  unfolding countDue means
+  count-are = refl
+
+  -- the turns of the frame
+  abbrev due : ℕ
+  due = turnsDue (b .pairs) (means w)
+
+  -- its count
+  abbrev count : ℕ
+  count = countDue b (means w)
+
+  -- what the turns send and leave
+  abbrev turns : Turned
+  turns = turned due (means w)
+
+  -- the frame after the turns
+  abbrev frame : Frame
+  frame = appended (headed count) (flat (turns .out))
+
+  -- the turns leave room for the count
+  few-turns : length (turns .out) ≤ count
+  few-turns = omega (arith, leaves due (means w) .few, count-least b (means w) within)
+
+  -- no more turns than triples
+  pub turns-few : due ≤ 31
+  turns-few = omega (arith, turns-most (b .pairs) (means w))
+
+  -- the count has five bits
+  pub count-few : count ≤ 31
+  count-few = omega (arith, count-most b (means w) within)
+
+  -- the turns that are taken
+  pub taken-are : cond (fits (turnsOn w (headed count)) due) (takenFrom due (w .«output_cea608_padding») (turnsOn w (headed count))) (turnsOn w (headed count)) ≡ taken (turnsOn w (headed count)) turns
+  unfolding turnsFrom turned means headed
+  taken-are =
+      rw (fit (turnsOn w (headed count)) due (w .«output_cea608_padding») (record { first = ok .first .few; second = ok .second .few; room = omega (arith, turns-few) }))
+
+  -- three bytes a triple behind the header
+  frame-length : frame .len ≡ 2 + 3 * length (turns .out)
+  unfolding headed
+  frame-length = ap (λ k. 2 + k) (flat-length (turns .out))
+
+  -- there is room up to the count
+  pub frame-room : Room frame count
+  frame-room =
+      record {
+        least = omega (arith, frame-length);
+        whole = omega (arith, frame-length);
+        most = omega (arith, frame-length, few-turns);
+        few = count-few;
+      }
+
+  -- the packet triples
+  abbrev sends : Sent
+  sends = send (count - length (turns .out)) (leftFrom (w .sent) (writtenBytes (w .sending))) (packetsOf (take (w .«packet_count») (w .packets)))
+
+  -- the code's packet triples are the model's
+  sends-are : sentFrom (w .packets) (w .«packet_count») (startOf w frame) (count - triplesIn frame) ≡ stands (w .packets) (w .«packet_count») (startOf w frame) sends
+  unfolding sentFrom
+  sends-are = let e : triplesIn frame ≡ length (turns .out) = omega (arith, frame-length) in rw e
+
+  -- no packet comes back
+  fewer : length (sends .packets) ≤ w .«packet_count»
+  fewer =
+      omega (
+        arith,
+        send-fewer (count - length (turns .out)) (leftFrom (w .sent) (writtenBytes (w .sending))) (packetsOf (take (w .«packet_count») (w .packets))),
+        length-map (take (w .«packet_count») (w .packets)) slotPacket,
+        length-take-le (w .«packet_count») (w .packets) (omega (arith, ok .queued .few, ok .queued .places)),
+      )
+
+  -- the whole frame
+  abbrev fillings : List Triple
+  fillings = cond (w .«output_padding») (fillers (count - length (turns .out) - length (sends .out))) []
+
+  -- turns, packet triples and padding make the frame
+  whole : (g : Frame) → g ≡ appended frame (flat (sends .out)) → padded (w .«output_padding») count g ≡ appended (headed count) (flat (turns .out ++ (sends .out ++ fillings)))
+  unfolding headed
+  whole g e =
+      let l : triplesIn (appended frame (flat (sends .out))) ≡ length (turns .out) + length (sends .out) = omega (arith, frame-length, flat-length (sends .out)) in
+      let d : count - (length (turns .out) + length (sends .out)) ≡ count - length (turns .out) - length (sends .out) = omega arith in
+      rw (e, l, d)
+      (ap (λ (f : Frame). appended f (flat fillings)) (appended-flat (headed count) (turns .out) (sends .out))
+      ∙ appended-flat (headed count) (turns .out ++ sends .out) fillings
+      ∙ ap (λ (x : List Triple). appended (headed count) (flat x)) (append-assoc (turns .out) (sends .out) fillings))
+
+  -- where sending stands in the end
+  pub next-few : (s : Sending) → s ≡ filled (w .packets) (w .«packet_count») (startOf w frame) count (w .«output_padding») → (s .next ≤ w .«packet_count») × (s .slot .len ≤ 128)
+  unfolding filled
+  next-few s e =
+      rw e (
+        sent-next (w .packets) (w .«packet_count») (startOf w frame) (count - triplesIn frame),
+        sent-slot (w .packets) (w .«packet_count») (startOf w frame) (count - triplesIn frame) refl (ok .queued) (ok .held),
+      )
+
+  -- frame and state are what the model says
+  pub built-are : (t : Turns) (s : Sending) → t ≡ taken (turnsOn w (headed count)) turns → s ≡ filled (w .packets) (w .«packet_count») (startOf w (t .frame)) count (w .«output_padding»)
+      → _≡_ {A = Built} (record { frame = s .frame; writer = joined w t s }) (built b w)
+  unfolding filled stands built afterFrame means writeFrame framed padding
+  built-are t s e g =
+      let k : w .«packet_count» - (w .«packet_count» - length (sends .packets)) ≡ length (sends .packets) = omega (arith, fewer) in
+      rw (g, e, sends-are, whole (appended frame (flat (sends .out))) refl, k)
+
+  -- what the calls of a build give, one after another
+  pub record Steps (n c : ℕ) (h : Frame) (t : Turns) : Type 0 where
+    pub turns : n ≡ turnsOf (w .«output_cea608_padding») (b .pairs) (w .field1 .count) (w .field2 .count)
+    pub count : c ≡ cond (w .«output_padding») (b .triples)
+        (min (b .triples) (n + (length (leftFrom (w .sent) (writtenBytes (w .sending))) + triplesQueued (packetsOf (take (w .«packet_count») (w .packets))))))
+    pub header : h ≡ headed (c % 32)
+    pub taken : t ≡ cond (fits (turnsOn w h) n) (takenFrom n (w .«output_cea608_padding») (turnsOn w h)) (turnsOn w h)
+
+  -- the turns that were found
+  pub due-is : (n : ℕ) → n ≡ turnsOf (w .«output_cea608_padding») (b .pairs) (w .field1 .count) (w .field2 .count) → n ≡ due
+  due-is n e = e ∙ turns-are
+
+  -- the count that was found
+  pub count-is : (n c : ℕ) → n ≡ due
+      → c ≡ cond (w .«output_padding») (b .triples)
+      (min (b .triples) (n + (length (leftFrom (w .sent) (writtenBytes (w .sending))) + triplesQueued (packetsOf (take (w .«packet_count») (w .packets))))))
+      → c ≡ count
+  count-is n c e q = rw e at q ∙ count-are
+
+  module _ (n c : ℕ) (h : Frame) (t : Turns) (s : Steps n c h t) where
+    -- it is the model's
+    count-found : c ≡ count
+    count-found = count-is n c (due-is n (s .turns)) (s .count)
+
+    -- the header tells it
+    header-found : h ≡ headed count
+    header-found = let e : c % 32 ≡ count = omega (arith, count-found, count-few) in s .header ∙ ap headed e
+
+    -- the turns are the model's
+    pub taken-is : t ≡ taken (turnsOn w (headed count)) turns
+    taken-is = rw (header-found, due-is n (s .turns)) at (s .taken) ∙ taken-are
+
+    -- they leave room
+    pub room-is : Room (t .frame) c
+    room-is = rw (taken-is, count-found) frame-room
+
+    -- sending stands within the queue
+    pub next-is : (r : Sending) → r ≡ filled (w .packets) (w .«packet_count») (startOf w (t .frame)) c (w .«output_padding») → (r .next ≤ w .«packet_count») × (r .slot .len ≤ 128)
+    next-is r e = next-few r (rw (taken-is, count-found) at e)
+
+    -- all calls together
+    pub built-is : (r : Sending) (x : CCDataWriter) → r ≡ filled (w .packets) (w .«packet_count») (startOf w (t .frame)) c (w .«output_padding») → x ≡ joined w t r
+        → _≡_ {A = Built} (record { frame = r .frame; writer = x }) (built b w)
+    built-is r x e z = rw z (built-are t r taken-is (rw count-found at e))

@@ -1,0 +1,11 @@
+pub mod Triples
+pub mod Sends
+pub mod Fills
+pub mod Builds
+pub mod Ends
+pub mod Means
+pub mod Valid
+pub mod Calls
+pub mod Packs
+pub mod Laws
+pub mod Packed

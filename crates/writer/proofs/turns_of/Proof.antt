@@ -1,0 +1,26 @@
+-- `writer::turns_of` meets its contract. Assumes nothing.
+use borrow.Author.Needs.{needs}
+use Rattle.writer.proofs.turns_of.Statement.{statement}
+use Rattle.writer.proofs.turns_of.Tie as tie
+use Rattle.writer.proofs.turns_of.Reads as reads
+use Rattle.writer.proofs.turns_of.Lts as lts
+use Rattle.writer.proofs.greater.Reads as greater-reads
+use Rattle.writer.proofs.lesser.Reads as lesser-reads
+
+returns : tie.Need-returns
+returns c = search needs
+
+mul-greater : tie.Need-mul-greater
+mul-greater c = search needs
+
+greater-requires : tie.Need-greater-requires
+greater-requires c κs = search needs
+
+lesser-requires : tie.Need-lesser-requires
+lesser-requires c κs = search needs
+
+returns-2 : tie.Need-returns-2
+returns-2 c = rw (c .lesser .ensures, c .before .greater .ensures, c .before .before .if1 .left)
+
+pub turns-of-spec : {M : Type 1} → statement M
+turns-of-spec = tie.close (tie.spec returns mul-greater greater-requires lesser-requires returns-2)

@@ -1,0 +1,143 @@
+-- What the calls of the multiplexer answer, and the states that they leave. Document 01, "Writing frames" and "What comes back".
+-- Assumes nothing.
+use mathlib.Core.Path.{_≡_}
+use mathlib.Core.Bool.{Bool, true, false, cond}
+use mathlib.Core.List.{List, [], _∷_, _++_}
+use Prim.Native.Nat.{ℕ, _+_}
+use lib.Dec.{eqb}
+use lib.ListN.{length, drop, set, replicate}
+use Rattle.model.specs.Said.{Said, Outcome, accepted, says, after, checked}
+use Rattle.model.specs.Packet.{Packet, packetLength, writtenPacket}
+use Rattle.model.specs.Frame.{frameBytes}
+use Rattle.model.specs.Rate.{Budgets, pairsAt, triplesAt}
+use Rattle.model.specs.Mux.{Written, writeFrame, writeAt}
+use Rattle.caption.specs.Answers.{saidRefusal, saidAnswer}
+use Rattle.caption.specs.declared.Framerate.{Framerate}
+use Rattle.caption.specs.declared.Cea608.{Cea608}
+use Rattle.caption.specs.declared.Cea608.the-variants.{Field1, Field2}
+use Rattle.turns.specs.Queue.{pushedPair}
+use Rattle.turns.specs.declared.PairQueue.{PairQueue}
+use Rattle.writer.specs.Writer.{means, validWriter}
+use Rattle.slots.specs.declared.Slot.{Slot}
+use Rattle.writer.specs.declared.CCDataWriter.{CCDataWriter}
+use Rattle.writer.specs.declared.WriterAnswer.{WriterAnswer}
+use Rattle.writer.specs.declared.Micros.{Micros}
+use Rattle.writer.specs.declared.Micros.the-variants.{Of, Refused}
+
+-- accepted, with the microseconds
+abbrev pub saidMicros : Micros → Said
+saidMicros (Of n) = accepted (n ∷ [])
+saidMicros (Refused why) = saidRefusal why
+
+-- an answer says what the outcome says, and the state beside it is the outcome's, or the old one where it refuses
+pub record Answers (o : Outcome CCDataWriter) (old : CCDataWriter) (r : WriterAnswer) : Type 0 where
+  pub answer : saidAnswer (r .answer) ≡ says o
+  pub writer : r .writer ≡ after old o
+
+-- "field 1 when fresh"
+abbrev emptySlot : Slot
+emptySlot = record { len = 0; bytes = replicate 128 0 }
+
+-- a queue of no pairs
+abbrev emptyQueue : PairQueue
+emptyQueue = record { bytes = replicate 128 0; count = 0 }
+
+-- "field 1 when fresh": nothing is queued, and no padding is on
+unfoldable pub fresh : CCDataWriter
+fresh =
+    record {
+      «output_cea608_padding» = false;
+      «output_padding» = false;
+      «packet_count» = 0;
+      packets = replicate 16 emptySlot;
+      sending = emptySlot;
+      sent = 0;
+      field1 = emptyQueue;
+      field2 = emptyQueue;
+      «field2_next» = false;
+    }
+
+-- the two switches
+abbrev pub withPadding : Bool → Bool → CCDataWriter → CCDataWriter
+withPadding a b w =
+    record {
+      «output_cea608_padding» = a;
+      «output_padding» = b;
+      «packet_count» = w .«packet_count»;
+      packets = w .packets;
+      sending = w .sending;
+      sent = w .sent;
+      field1 = w .field1;
+      field2 = w .field2;
+      «field2_next» = w .«field2_next»;
+    }
+
+-- the two queues of pairs
+abbrev pub withFields : PairQueue → PairQueue → CCDataWriter → CCDataWriter
+withFields p q w =
+    record {
+      «output_cea608_padding» = w .«output_cea608_padding»;
+      «output_padding» = w .«output_padding»;
+      «packet_count» = w .«packet_count»;
+      packets = w .packets;
+      sending = w .sending;
+      sent = w .sent;
+      field1 = p;
+      field2 = q;
+      «field2_next» = w .«field2_next»;
+    }
+
+-- a packet in a slot: its length, and the bytes that it is written in, over zeros
+unfoldable pub slotOf : Packet → Slot
+slotOf p = record { len = packetLength p; bytes = writtenPacket p ++ drop (length (writtenPacket p)) (replicate 128 0) }
+
+-- the slots, and how many are taken
+abbrev pub withPackets : ℕ → List Slot → CCDataWriter → CCDataWriter
+withPackets n l w =
+    record {
+      «output_cea608_padding» = w .«output_cea608_padding»;
+      «output_padding» = w .«output_padding»;
+      «packet_count» = n;
+      packets = l;
+      sending = w .sending;
+      sent = w .sent;
+      field1 = w .field1;
+      field2 = w .field2;
+      «field2_next» = w .«field2_next»;
+    }
+
+-- "An empty packet is accepted, even when full, and not stored"; any other goes into the first free slot
+unfoldable pub pushedPacket : Packet → CCDataWriter → CCDataWriter
+pushedPacket p w = cond (eqb (length (p .blocks)) 0) w (withPackets (w .«packet_count» + 1) (set (w .packets) (w .«packet_count») (slotOf p)) w)
+
+-- a pair goes to its field's queue
+abbrev pub pushedTo : Cea608 → CCDataWriter → CCDataWriter
+pushedTo (Field1 a b) w = withFields (pushedPair (w .field1) a b) (w .field2) w
+pushedTo (Field2 a b) w = withFields (w .field1) (pushedPair (w .field2) a b) w
+
+-- "Flush drops the queues and the packet being sent; the padding switches stay."
+abbrev pub flushed : CCDataWriter → CCDataWriter
+flushed w =
+    record {
+      «output_cea608_padding» = w .«output_cea608_padding»;
+      «output_padding» = w .«output_padding»;
+      «packet_count» = 0;
+      packets = w .packets;
+      sending = record { len = 0; bytes = w .sending .bytes };
+      sent = 0;
+      field1 = record { bytes = w .field1 .bytes; count = 0 };
+      field2 = record { bytes = w .field2 .bytes; count = 0 };
+      «field2_next» = w .«field2_next»;
+    }
+
+-- the budgets of a rate that is accepted
+abbrev pub budgetsAt : Framerate → Budgets
+budgetsAt r = record { pairs = pairsAt (r .numer) (r .denom); triples = triplesAt (r .numer) (r .denom) }
+
+-- the length of the frame at a rate
+unfoldable pub frameLength : Framerate → CCDataWriter → ℕ
+frameLength r w = length (frameBytes (writeFrame (budgetsAt r) (means w) .frame))
+
+-- a frame written to a lent output: 11, then 8, then 9
+unfoldable pub written : Framerate → List ℕ → CCDataWriter → Outcome Written
+written r out w = checked (validWriter w) (writeAt (r .numer) (r .denom) out (means w))

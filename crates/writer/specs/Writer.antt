@@ -1,0 +1,129 @@
+-- The multiplexer's state: what it is in the model, and what a frame does to its arrays. Document 01, "Writing frames". Assumes nothing.
+use mathlib.Core.Path.{_≡_}
+use mathlib.Core.Bool.{Bool, cond, not, _&&_}
+use mathlib.Core.List.{List, [], _∷_, _++_}
+use Prim.Native.Nat.{ℕ, _+_, _-_, _*_, _/_, _%_, _≤_, min, max}
+use lib.Dec.{leb}
+use lib.ListN.{length, take, drop}
+use Rattle.model.specs.Frame as model
+use Rattle.model.specs.Frame.{flat}
+use Rattle.model.specs.Rate.{Budgets}
+use Rattle.model.specs.Mux.{Mux, mostPackets, mostQueued, writeFrame}
+use Rattle.turns.specs.Queue.{queueOf, slid, downTo}
+use Rattle.frames.specs.Frame.{headed, appended, fillers}
+use Rattle.turns.proofs.Queues.{Sized}
+use Rattle.frames.specs.declared.Frame.{Frame}
+use Rattle.turns.specs.declared.Turns.{Turns}
+use Rattle.slots.specs.Slot.{writtenLength, writtenBytes}
+use Rattle.writer.specs.Slots.{packetsOf, leftFrom, allWritten, validSending, Queued, Held}
+use Rattle.writer.specs.Sending.{begun, sentFrom, restedSlot, restedSent}
+use Rattle.slots.specs.declared.Slot.{Slot}
+use Rattle.writer.specs.declared.Sending.{Sending}
+use Rattle.writer.specs.declared.CCDataWriter.{CCDataWriter}
+use Rattle.writer.specs.declared.Built.{Built}
+
+-- the multiplexer that a state is
+unfoldable pub means : CCDataWriter → Mux
+means w =
+    record {
+      pad608 = w .«output_cea608_padding»;
+      padOut = w .«output_padding»;
+      packets = packetsOf (take (w .«packet_count») (w .packets));
+      sending = leftFrom (w .sent) (writtenBytes (w .sending));
+      queue1 = queueOf (w .field1);
+      queue2 = queueOf (w .field2);
+      next1 = not (w .«field2_next»);
+    }
+
+-- "a state .. whose counts, numbers or lengths break this page's limits" is one of which this is false
+unfoldable pub validWriter : CCDataWriter → Bool
+validWriter w =
+    leb (w .«packet_count») mostPackets
+    && (leb (w .field1 .count) mostQueued
+    && (leb (w .field2 .count) mostQueued
+    && (validSending (w .sending) (w .sent) && allWritten (take (w .«packet_count») (w .packets)))))
+
+-- a state within its limits
+pub record Ok (w : CCDataWriter) : Type 0 where
+  pub queued : Queued (w .packets) (w .«packet_count»)
+  pub held : Held (w .sending) (w .sent)
+  pub first : Sized (w .field1)
+  pub second : Sized (w .field2)
+
+-- the state once the turns and the packet triples of a frame have left
+abbrev pub joined : CCDataWriter → Turns → Sending → CCDataWriter
+joined w t s =
+    record {
+      «output_cea608_padding» = w .«output_cea608_padding»;
+      «output_padding» = w .«output_padding»;
+      «packet_count» = w .«packet_count» - s .next;
+      packets = slid (s .next) (w .«packet_count» - s .next) (w .packets);
+      sending = restedSlot (s .slot) (s .sent);
+      sent = restedSent (s .slot) (s .sent);
+      field1 = t .field1;
+      field2 = t .field2;
+      «field2_next» = t .«field2_next»;
+    }
+
+-- what the model leaves, in the arrays: so many packets and pairs are left, and so many triples of the last packet begun
+abbrev pub leftBy : CCDataWriter → Mux → CCDataWriter
+leftBy w x =
+    let next = w .«packet_count» - length (x .packets) in
+    let slot = begun (w .packets) (w .sending) 0 next in
+    let sent = writtenLength slot - 2 * length (x .sending) in
+    record {
+      «output_cea608_padding» = w .«output_cea608_padding»;
+      «output_padding» = w .«output_padding»;
+      «packet_count» = length (x .packets);
+      packets = slid next (length (x .packets)) (w .packets);
+      sending = restedSlot slot sent;
+      sent = restedSent slot sent;
+      field1 = downTo (length (x .queue1)) (w .field1);
+      field2 = downTo (length (x .queue2)) (w .field2);
+      «field2_next» = not (x .next1);
+    }
+
+-- the state after a frame
+unfoldable pub afterFrame : Budgets → CCDataWriter → CCDataWriter
+afterFrame b w = leftBy w (writeFrame b (means w) .next)
+
+-- the bytes of a frame in their places
+abbrev pub laid : model.Frame → Frame
+laid f = appended (headed (f .count)) (flat (f .triples))
+
+-- the frame, and the state after it
+unfoldable pub built : Budgets → CCDataWriter → Built
+built b w = record { frame = laid (writeFrame b (means w) .frame); writer = afterFrame b w }
+
+-- "the lesser of pairs and max(queue 1, 2·queue 2)"
+abbrev pub turnsOf : Bool → ℕ → ℕ → ℕ → ℕ
+turnsOf pad pairs n1 n2 = cond pad pairs (min pairs (max n1 (2 * n2)))
+
+-- triples that are in a frame
+abbrev pub triplesIn : Frame → ℕ
+triplesIn f = (f .len - 2) / 3
+
+-- padding up to the count, if it is on
+abbrev pub padded : Bool → ℕ → Frame → Frame
+padded padding count f = appended f (flat (cond padding (fillers (count - triplesIn f)) []))
+
+-- packet triples up to the count, and padding
+unfoldable pub filled : List Slot → ℕ → Sending → ℕ → Bool → Sending
+filled l n s count padding =
+    let r = sentFrom l n s (count - triplesIn (s .frame)) in
+    record { slot = r .slot; sent = r .sent; next = r .next; frame = padded padding count (r .frame) }
+
+-- where sending starts
+abbrev pub startOf : CCDataWriter → Frame → Sending
+startOf w f = record { slot = w .sending; sent = w .sent; next = 0; frame = f }
+
+-- the queues and the frame when the turns start
+abbrev pub turnsOn : CCDataWriter → Frame → Turns
+turnsOn w f = record { field1 = w .field1; field2 = w .field2; «field2_next» = w .«field2_next»; frame = f }
+
+-- a frame with whole triples, and no more of them than the count
+pub record Room (f : Frame) (count : ℕ) : Type 0 where
+  pub least : 2 ≤ f .len
+  pub whole : (f .len - 2) % 3 ≡ 0
+  pub most : f .len ≤ 2 + 3 * count
+  pub few : count ≤ 31

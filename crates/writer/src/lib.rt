@@ -1,0 +1,653 @@
+// The multiplexer: packets and CEA-608 pairs in, frames of `cc_data` out.
+use caption::Answer;
+use caption::Budgets;
+use caption::Cea608;
+use caption::Counted;
+use caption::Framerate;
+use caption::Refusal;
+use caption::Truth;
+use frames::Frame;
+use packet::DTVCCPacket;
+use slots::Slot;
+use turns::PairQueue;
+use turns::Turns;
+ghost use mathlib.Core.Path.{_≡_};
+ghost use mathlib.Core.Bool.{cond, _&&_};
+ghost use mathlib.Core.List.{[], _∷_, _++_};
+ghost use Prim.Native.Nat.{ℕ, _+_, _-_, _*_, _/_, _%_, _≤_, _<_, min, max};
+ghost use lib.ListN.{length, getD, take, drop};
+ghost use lib.Seq.{sets};
+ghost use Rattle.model.specs.Said.{gave, saysWith, measured, checked, mapped, after};
+ghost use Rattle.model.specs.Frame.{flat};
+ghost use Rattle.model.specs.Mux.{triplesQueued, pushPacket, pushCea608};
+ghost use Rattle.packet.specs.Packet.{packetOf, validDTVCC};
+ghost use Rattle.model.specs.Duration.{pairsDuration, bytesDuration, lengthsOf, field1Duration, field2Duration, packetDuration};
+ghost use Rattle.caption.specs.Answers.{saidAnswer, saidCounted, saidTruth};
+ghost use Rattle.caption.specs.Pairs.{cea608Of};
+ghost use Rattle.writer.specs.Calls.{Answers, saidMicros, fresh, withPadding, flushed, pushedPacket, pushedTo, budgetsAt, written, frameLength};
+ghost use mathlib.Core.Bool.{true, false};
+ghost use Rattle.turns.specs.Queue.{slid};
+ghost use Rattle.slots.specs.Slot.{writtenBytes};
+ghost use Rattle.writer.specs.Slots.{allWritten, validSending, packetsOf, leftFrom, Queued, Held};
+ghost use Rattle.writer.specs.Writer.{means, Ok, validWriter, afterFrame, joined, built, turnsOf, padded, filled, Room};
+ghost use Rattle.writer.specs.Sending.{sentFrom, finished, restedSlot, restedSent};
+
+// The packets that wait, beside the one being sent.
+const MOST_PACKETS: usize = 16;
+
+// The pairs that wait, of each field.
+const MOST_QUEUED: usize = 64;
+
+// The multiplexer: the two switches, the queue of packets, the packet being sent and how many of its bytes have left, each field's queue,
+// and whether field 2 has the next turn.
+pub struct CCDataWriter {
+    pub output_cea608_padding: bool,
+    pub output_padding: bool,
+    pub packet_count: usize,
+    pub packets: [Slot; 16],
+    pub sending: Slot,
+    pub sent: usize,
+    pub field1: PairQueue,
+    pub field2: PairQueue,
+    pub field2_next: bool,
+}
+
+// What a call answers, and the state after it.
+pub struct WriterAnswer {
+    pub answer: Answer,
+    pub writer: CCDataWriter,
+}
+
+// What writing a frame answers, with the length of the frame, and the state after it.
+pub struct WriterCount {
+    pub answer: Counted,
+    pub writer: CCDataWriter,
+}
+
+// A time in microseconds.
+pub enum Micros {
+    Of(u64),
+    Refused(Refusal),
+}
+
+// A frame, and the state after it.
+pub struct Built {
+    pub frame: Frame,
+    pub writer: CCDataWriter,
+}
+
+// Where sending stands: the packet being sent and how many of its bytes have left, how many packets of the queue were begun, and the frame.
+pub struct Sending {
+    pub slot: Slot,
+    pub sent: usize,
+    pub next: usize,
+    pub frame: Frame,
+}
+
+// The last triples of a frame, all of one packet.
+fn finish(s: Sending, left: usize) -> Sending
+    requires { ⌜ Held (s .slot) (s .sent) ⌝ }
+    requires { ⌜ s .frame .len + 3 * left ≤ 95 ⌝ }
+    ensures { λ r. ⌜ r ≡ finished s left ⌝ }
+{
+    let slot = s.slot;
+    let sent = s.sent;
+    let n = lesser(left, (slot.len + slot.len % 2 - sent) / 2);
+    let f = s.frame;
+    let bytes = slot.bytes;
+    let frame = f.carry(bytes, sent, n);
+    Sending {
+        slot,
+        sent: sent + 2 * n,
+        next: s.next,
+        frame,
+    }
+}
+
+// `left` packet triples, or as many as there are: of the packet being sent, and of those in the queue after it.
+fn send(packets: [Slot; 16], count: usize, start: Sending, left: usize) -> Sending
+    requires { ⌜ Queued packets count ⌝ }
+    requires { ⌜ Held (start .slot) (start .sent) ⌝ }
+    requires { ⌜ (start .next ≡ 0) × (start .frame .len + 3 * left ≤ 95) ⌝ }
+    ensures { λ r. ⌜ r ≡ sentFrom packets count start left ⌝ }
+{
+    let mut s = start;
+    let mut m = left;
+    let mut i: usize = 0;
+    while i < count {
+        let slot = s.slot;
+        let sent = s.sent;
+        let n = (slot.len + slot.len % 2 - sent) / 2;
+        if m <= n {
+            return finish(s, m);
+        }
+        let f = s.frame;
+        let bytes = slot.bytes;
+        let frame = f.carry(bytes, sent, n);
+        let first = packets[i];
+        i += 1;
+        m -= n;
+        s = Sending {
+            slot: first,
+            sent: 0,
+            next: i,
+            frame,
+        };
+    }
+    finish(s, m)
+}
+
+// The lesser of two numbers.
+fn lesser(a: usize, b: usize) -> usize
+    ensures { λ r. ⌜ r ≡ min a b ⌝ }
+{
+    if a < b { a } else { b }
+}
+
+// The queue once its first `next` packets have been begun: the others move down.
+fn advance(packets: [Slot; 16], count: usize, next: usize) -> [Slot; 16]
+    requires { ⌜ (next ≤ count) × (count ≤ 16) ⌝ }
+    ensures { λ r. ⌜ r ≡ slid next (count - next) packets ⌝ }
+{
+    let m = count - next;
+    let mut slots = packets;
+    let mut i: usize = 0;
+    while i < m {
+        slots[i] = slots[i + next];
+        i += 1;
+    }
+    slots
+}
+
+// The packet triples that have not left.
+fn unsent(packets: [Slot; 16], count: usize, slot: Slot, sent: usize) -> usize
+    requires { ⌜ Queued packets count ⌝ }
+    requires { ⌜ Held slot sent ⌝ }
+    ensures { λ r. ⌜ (r ≡ length (leftFrom sent (writtenBytes slot)) + triplesQueued (packetsOf (take count packets))) × (r ≤ 1088) ⌝ }
+{
+    let mut sum = (slot.len + slot.len % 2 - sent) / 2;
+    let mut i: usize = 0;
+    while i < count {
+        let s = packets[i];
+        sum += (s.len + 1) / 2;
+        i += 1;
+    }
+    sum
+}
+
+// The greater of two numbers.
+fn greater(a: usize, b: usize) -> usize
+    ensures { λ r. ⌜ r ≡ max a b ⌝ }
+{
+    if a < b { b } else { a }
+}
+
+// The turns of a frame, where the fields have `n1` and `n2` pairs queued.
+fn turns_of(pad: bool, pairs: usize, n1: usize, n2: usize) -> usize
+    requires { ⌜ n2 ≤ 64 ⌝ }
+    ensures { λ r. ⌜ r ≡ turnsOf pad pairs n1 n2 ⌝ }
+{
+    if pad {
+        return pairs;
+    }
+    lesser(pairs, greater(n1, 2 * n2))
+}
+
+// The count of a frame with so many turns.
+fn count_of(
+    padding: bool,
+    triples: usize,
+    turns: usize,
+    packets: [Slot; 16],
+    count: usize,
+    slot: Slot,
+    sent: usize,
+) -> usize
+    requires { ⌜ Queued packets count ⌝ }
+    requires { ⌜ Held slot sent ⌝ }
+    requires { ⌜ turns ≤ 31 ⌝ }
+    ensures { λ r. ⌜ r ≡ cond padding triples (min triples (turns + (length (leftFrom sent (writtenBytes slot)) + triplesQueued (packetsOf (take count packets))))) ⌝ }
+{
+    if padding {
+        return triples;
+    }
+    lesser(triples, turns + unsent(packets, count, slot, sent))
+}
+
+// Packet triples up to the count, and padding after them.
+fn fill(packets: [Slot; 16], queued: usize, start: Sending, count: usize, padding: bool) -> Sending
+    requires { ⌜ Queued packets queued ⌝ }
+    requires { ⌜ Held (start .slot) (start .sent) ⌝ }
+    requires { ⌜ (start .next ≡ 0) × Room (start .frame) count ⌝ }
+    ensures { λ r. ⌜ r ≡ filled packets queued start count padding ⌝ }
+{
+    let f = start.frame;
+    let s = send(packets, queued, start, count - (f.len - 2) / 3);
+    if padding {
+        let g = s.frame;
+        let frame = g.pad(count - (g.len - 2) / 3);
+        let slot = s.slot;
+        return Sending {
+            slot,
+            sent: s.sent,
+            next: s.next,
+            frame,
+        };
+    }
+    s
+}
+
+impl CCDataWriter {
+    // The frame at budgets of `pairs` and `triples`, and the state after it.
+    fn build(self, pairs: usize, triples: usize) -> Built
+        requires { ⌜ Ok self ⌝ }
+        requires { ⌜ (pairs ≤ triples) × (triples ≤ 31) ⌝ }
+        ensures { λ r. ⌜ r ≡ built (record { pairs = pairs; triples = triples }) self ⌝ }
+    {
+        let pad = self.output_cea608_padding;
+        let padding = self.output_padding;
+        let queued = self.packet_count;
+        let packets = self.packets;
+        let slot = self.sending;
+        let field1 = self.field1;
+        let field2 = self.field2;
+        let turns = turns_of(pad, pairs, field1.count, field2.count);
+        let count = count_of(padding, triples, turns, packets, queued, slot, self.sent);
+        let empty = Frame::start(count);
+        let start = Turns {
+            field1,
+            field2,
+            field2_next: self.field2_next,
+            frame: empty,
+        };
+        let t = start.take(pad, turns);
+        let frame = t.frame;
+        let s = fill(
+            packets,
+            queued,
+            Sending {
+                slot,
+                sent: self.sent,
+                next: 0,
+                frame,
+            },
+            count,
+            padding,
+        );
+        let frame = s.frame;
+        let writer = self.join(t, s);
+        Built { frame, writer }
+    }
+
+    // The state once the turns and the packet triples of a frame have left.
+    fn join(self, t: Turns, s: Sending) -> CCDataWriter
+        requires { ⌜ (s .next ≤ self .«packet_count») × (self .«packet_count» ≤ 16) ⌝ }
+        requires { ⌜ s .slot .len ≤ 128 ⌝ }
+        ensures { λ r. ⌜ r ≡ joined self t s ⌝ }
+    {
+        let slots = self.packets;
+        let packets = advance(slots, self.packet_count, s.next);
+        let field1 = t.field1;
+        let field2 = t.field2;
+        let mut sending = s.slot;
+        let mut sent = s.sent;
+        if sending.len + sending.len % 2 <= sent {
+            sending.len = 0;
+            sent = 0;
+        }
+        CCDataWriter {
+            output_cea608_padding: self.output_cea608_padding,
+            output_padding: self.output_padding,
+            packet_count: self.packet_count - s.next,
+            packets,
+            sending,
+            sent,
+            field1,
+            field2,
+            field2_next: t.field2_next,
+        }
+    }
+}
+
+// Whether the slots of the queue are written packets.
+fn all_written(packets: [Slot; 16], count: usize) -> bool
+    requires { ⌜ count ≤ 16 ⌝ }
+    ensures { λ r. ⌜ r ≡ allWritten (take count packets) ⌝ }
+{
+    let mut i: usize = 0;
+    while i < count {
+        let slot = packets[i];
+        if slot.is_written() {
+            i += 1;
+        } else {
+            return false;
+        }
+    }
+    true
+}
+
+// Whether a slot can be the packet being sent, of which `sent` bytes have left.
+fn is_sending(slot: Slot, sent: usize) -> bool
+    ensures { λ r. ⌜ r ≡ validSending slot sent ⌝ }
+{
+    if slot.len == 0 {
+        return sent == 0;
+    }
+    if slot.is_written() {
+        if sent % 2 == 0 {
+            return sent <= slot.len + slot.len % 2;
+        }
+    }
+    false
+}
+
+impl CCDataWriter {
+    // Whether the state is within its limits.
+    fn is_valid(self) -> bool
+        ensures { λ r. ⌜ r ≡ validWriter self ⌝ }
+    {
+        let field1 = self.field1;
+        let field2 = self.field2;
+        let slot = self.sending;
+        if MOST_PACKETS < self.packet_count {
+            return false;
+        }
+        if MOST_QUEUED < field1.count {
+            return false;
+        }
+        if MOST_QUEUED < field2.count {
+            return false;
+        }
+        if is_sending(slot, self.sent) {
+            let packets = self.packets;
+            return all_written(packets, self.packet_count);
+        }
+        false
+    }
+
+    // A multiplexer with nothing queued, and no padding.
+    pub fn new() -> CCDataWriter
+        ensures { λ r. ⌜ r ≡ fresh ⌝ }
+    {
+        let slot = Slot {
+            len: 0,
+            bytes: [0; 128],
+        };
+        let queue = PairQueue {
+            bytes: [0; 128],
+            count: 0,
+        };
+        CCDataWriter {
+            output_cea608_padding: false,
+            output_padding: false,
+            packet_count: 0,
+            packets: [slot; 16],
+            sending: slot,
+            sent: 0,
+            field1: queue,
+            field2: queue,
+            field2_next: false,
+        }
+    }
+
+    // Whether to output padding CEA-608 bytes where not enough has been pushed.
+    pub fn set_output_cea608_padding(self, output_cea608_padding: bool) -> WriterAnswer
+        ensures { λ r. ⌜ Answers (checked (validWriter self) (gave (withPadding «output_cea608_padding» (self .«output_padding») self))) self r ⌝ }
+    {
+        if self.is_valid() {
+            let mut writer = self;
+            writer.output_cea608_padding = output_cea608_padding;
+            return WriterAnswer {
+                answer: Answer::Accepted,
+                writer,
+            };
+        }
+        WriterAnswer {
+            answer: Answer::Refused(Refusal::BadValue),
+            writer: self,
+        }
+    }
+
+    // Whether padding CEA-608 bytes are output.
+    pub fn output_cea608_padding(self) -> Truth
+        ensures { λ r. ⌜ saidTruth r ≡ measured (validWriter self) (cond (self .«output_cea608_padding») 1 0) ⌝ }
+    {
+        if self.is_valid() {
+            return Truth::Is(self.output_cea608_padding);
+        }
+        Truth::Refused(Refusal::BadValue)
+    }
+
+    // Whether to output padding triples up to the most that a frame holds.
+    pub fn set_output_padding(self, output_padding: bool) -> WriterAnswer
+        ensures { λ r. ⌜ Answers (checked (validWriter self) (gave (withPadding (self .«output_cea608_padding») «output_padding» self))) self r ⌝ }
+    {
+        if self.is_valid() {
+            let mut writer = self;
+            writer.output_padding = output_padding;
+            return WriterAnswer {
+                answer: Answer::Accepted,
+                writer,
+            };
+        }
+        WriterAnswer {
+            answer: Answer::Refused(Refusal::BadValue),
+            writer: self,
+        }
+    }
+
+    // Whether padding triples are output.
+    pub fn output_padding(self) -> Truth
+        ensures { λ r. ⌜ saidTruth r ≡ measured (validWriter self) (cond (self .«output_padding») 1 0) ⌝ }
+    {
+        if self.is_valid() {
+            return Truth::Is(self.output_padding);
+        }
+        Truth::Refused(Refusal::BadValue)
+    }
+
+    // Pushes a packet: it is written into the first free slot. An empty one is accepted, even when full, and not stored.
+    pub fn push_packet(self, packet: DTVCCPacket) -> WriterAnswer
+        ensures { λ r. ⌜ Answers (checked (validWriter self && validDTVCC packet) (mapped (λ _. pushedPacket (packetOf packet) self) (pushPacket (packetOf packet) (means self)))) self r ⌝ }
+    {
+        if self.is_valid() {
+            let length = packet.len();
+            let Counted::Count(len) = length else {
+                return WriterAnswer {
+                    answer: Answer::Refused(Refusal::BadValue),
+                    writer: self,
+                };
+            };
+            if len == 0 {
+                return WriterAnswer {
+                    answer: Answer::Accepted,
+                    writer: self,
+                };
+            }
+            let count = self.packet_count;
+            if count == MOST_PACKETS {
+                return WriterAnswer {
+                    answer: Answer::Refused(Refusal::Full),
+                    writer: self,
+                };
+            }
+            let mut bytes = [0u8; 128];
+            packet.write(&mut bytes);
+            let slot = Slot { len, bytes };
+            let mut writer = self;
+            writer.packets[count] = slot;
+            writer.packet_count = count + 1;
+            return WriterAnswer {
+                answer: Answer::Accepted,
+                writer,
+            };
+        }
+        WriterAnswer {
+            answer: Answer::Refused(Refusal::BadValue),
+            writer: self,
+        }
+    }
+
+    // Pushes a CEA-608 byte pair.
+    pub fn push_cea608(self, cea608: Cea608) -> WriterAnswer
+        ensures { λ r. ⌜ Answers (checked (validWriter self) (mapped (λ _. pushedTo cea608 self) (pushCea608 (cea608Of cea608) (means self)))) self r ⌝ }
+    {
+        if self.is_valid() {
+            match cea608 {
+                Cea608::Field1(a, b) => {
+                    let queue = self.field1;
+                    let pushed = queue.push(a, b);
+                    let answer = pushed.answer;
+                    let field1 = pushed.queue;
+                    let mut writer = self;
+                    writer.field1 = field1;
+                    return WriterAnswer { answer, writer };
+                }
+                Cea608::Field2(a, b) => {
+                    let queue = self.field2;
+                    let pushed = queue.push(a, b);
+                    let answer = pushed.answer;
+                    let field2 = pushed.queue;
+                    let mut writer = self;
+                    writer.field2 = field2;
+                    return WriterAnswer { answer, writer };
+                }
+            }
+        }
+        WriterAnswer {
+            answer: Answer::Refused(Refusal::BadValue),
+            writer: self,
+        }
+    }
+
+    // Drops what is queued, and the packet being sent.
+    pub fn flush(self) -> WriterAnswer
+        ensures { λ r. ⌜ Answers (checked (validWriter self) (gave (flushed self))) self r ⌝ }
+    {
+        if self.is_valid() {
+            let mut sending = self.sending;
+            sending.len = 0;
+            let mut empty1 = self.field1;
+            empty1.count = 0;
+            let mut empty2 = self.field2;
+            empty2.count = 0;
+            let mut writer = self;
+            writer.packet_count = 0;
+            writer.sending = sending;
+            writer.sent = 0;
+            writer.field1 = empty1;
+            writer.field2 = empty2;
+            return WriterAnswer {
+                answer: Answer::Accepted,
+                writer,
+            };
+        }
+        WriterAnswer {
+            answer: Answer::Refused(Refusal::BadValue),
+            writer: self,
+        }
+    }
+
+    // How long the pairs queued for field 1 take to leave.
+    pub fn buffered_cea608_field1_duration(self) -> Micros
+        ensures { λ r. ⌜ saidMicros r ≡ measured (validWriter self) (field1Duration (means self)) ⌝ }
+    {
+        if self.is_valid() {
+            let queue = self.field1;
+            return Micros::Of(pairs_duration(queue.count));
+        }
+        Micros::Refused(Refusal::BadValue)
+    }
+
+    // How long the pairs queued for field 2 take to leave.
+    pub fn buffered_cea608_field2_duration(self) -> Micros
+        ensures { λ r. ⌜ saidMicros r ≡ measured (validWriter self) (field2Duration (means self)) ⌝ }
+    {
+        if self.is_valid() {
+            let queue = self.field2;
+            return Micros::Of(pairs_duration(queue.count));
+        }
+        Micros::Refused(Refusal::BadValue)
+    }
+
+    // How long the packets queued, and what is left of the packet being sent, take to leave.
+    pub fn buffered_packet_duration(self) -> Micros
+        ensures { λ r. ⌜ saidMicros r ≡ measured (validWriter self) (packetDuration (means self)) ⌝ }
+    {
+        if self.is_valid() {
+            let packets = self.packets;
+            let slot = self.sending;
+            let bytes = bytes_left(packets, self.packet_count, slot, self.sent);
+            return Micros::Of(bytes_duration(bytes));
+        }
+        Micros::Refused(Refusal::BadValue)
+    }
+
+    // Writes the next frame at a rate: 608 pairs by turns, then packet triples.
+    pub fn write(self, rate: Framerate, out: &mut [u8]) -> WriterCount
+        ensures { λ r. ⌜ saidCounted (r .answer) ≡ saysWith (λ _. frameLength rate self ∷ []) (written rate (now (out .entry)) self) ⌝ }
+        ensures { λ r. ⌜ r .writer ≡ after self (mapped (λ _. afterFrame (budgetsAt rate) self) (written rate (now (out .entry)) self)) ⌝ }
+        ensures { λ r. ⌜ now (out .exit) ≡ after (now (out .entry)) (mapped (λ x. x .out) (written rate (now (out .entry)) self)) ⌝ }
+    {
+        if self.is_valid() {
+            let budgets = rate.budgets();
+            let Budgets::Of { pairs, triples } = budgets else {
+                return WriterCount {
+                    answer: Counted::Refused(Refusal::BadRate),
+                    writer: self,
+                };
+            };
+            let built = self.build(pairs, triples);
+            let frame = built.frame;
+            let needed = frame.len;
+            if out.len() < needed {
+                return WriterCount {
+                    answer: Counted::Refused(Refusal::OutShort { needed }),
+                    writer: self,
+                };
+            }
+            frame.emit(out);
+            let writer = built.writer;
+            return WriterCount {
+                answer: Counted::Count(needed),
+                writer,
+            };
+        }
+        WriterCount {
+            answer: Counted::Refused(Refusal::BadValue),
+            writer: self,
+        }
+    }
+}
+
+// `n` pairs take 1001/60000 of a second each: microseconds, upward.
+fn pairs_duration(n: usize) -> u64
+    requires { ⌜ n ≤ 64 ⌝ }
+    ensures { λ r. ⌜ r ≡ pairsDuration n ⌝ }
+{
+    (n as u64 * 1_001_000_000 + 59_999) / 60_000
+}
+
+// Bytes leave two at a time, at 1200000 in 1001 seconds: microseconds, upward.
+fn bytes_duration(bytes: usize) -> u64
+    requires { ⌜ bytes ≤ 4096 ⌝ }
+    ensures { λ r. ⌜ r ≡ bytesDuration bytes ⌝ }
+{
+    ((bytes as u64 + 1) / 2 * 2_002_000_000 + 1_199_999) / 1_200_000
+}
+
+// The lengths of the packets queued, and three bytes for each triple left of the packet being sent.
+fn bytes_left(packets: [Slot; 16], count: usize, slot: Slot, sent: usize) -> usize
+    requires { ⌜ Queued packets count ⌝ }
+    requires { ⌜ Held slot sent ⌝ }
+    ensures { λ r. ⌜ (r ≡ lengthsOf (packetsOf (take count packets)) + 3 * length (leftFrom sent (writtenBytes slot))) × (r ≤ 4096) ⌝ }
+{
+    let mut sum = 3 * ((slot.len + slot.len % 2 - sent) / 2);
+    let mut i: usize = 0;
+    while i < count {
+        let s = packets[i];
+        sum += s.len;
+        i += 1;
+    }
+    sum
+}
