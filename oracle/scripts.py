@@ -1,0 +1,329 @@
+"""Scripts for `ccscript`, by kind: every limit from both sides, damaged copies of good bytes, any order of calls.
+
+An operation is a tuple of its letter and its arguments; `generate(seed)` gives pairs of a kind and a list of operations.
+"""
+import random, itertools
+R = random.Random()
+def byte(): return R.choice([0, 1, 0x20, 0x41, 0x7F, 0x80, 0xFF, R.randrange(256), R.randrange(256)])
+def some(n): return [byte() for _ in range(n)]
+def batch(kind, ops, n):
+    for i in range(0, len(ops), n): yield kind, [o for g in ops[i:i + n] for o in g]
+
+def block_reading():
+    groups = [[("d", []), ("m",), ("y", []), ("e", 3)]]
+    for h in range(256):
+        size, two = h & 31, h >> 5 == 7 and h & 31 != 0
+        seconds = [R.choice([0, 1, 5, 6, 7, 63, 64, 65, 70, 71, 127, 128, 192, 255]) for _ in range(3)] if two else [None]
+        need = 1 + two + size
+        for k in sorted({1, 2, 3, need - 1, need, need + 1, R.randrange(1, 40)}):
+            for z in seconds:
+                d = ([h] + ([z] if two else []) + some(40))[:k]
+                groups.append([("d", d), ("y", d), ("m",)])
+    for z in range(256): groups.append([("d", [0xE2, z, 0x41, 0x42]), ("y", [0xE2, z, 0x41, 0x42]), ("m",), ("e", R.randrange(6))])
+    return batch("block reading", groups, 15)
+
+def a_block():
+    n = R.choice([0, 1, 2, 6, 7, 8, 63, R.randrange(64)])
+    size = R.choice([0, 1, 2, 3, 5, 30, 31, R.randrange(32)])
+    if R.random() < .5: size = R.randrange(6)
+    if n < 7 and R.random() < .8: return [n << 5 | size] + some(size)
+    return [0xE0 | size] + ([n | R.choice([0, 64, 128, 192])] if size else []) + some(size)
+
+def packet_bytes(most=128):
+    body = []
+    while len(body) < most - 1 and R.random() < .85: body += a_block()
+    body = body[:most - 1]
+    if len(body) % 2 == 0 and R.random() < .8: body.append(0)
+    n = (len(body) + 1 + 1) // 2 & 63
+    r = R.random()
+    if r < .1: n = R.randrange(64)
+    elif r < .2: n = max(0, min(63, n + R.choice([-1, 1, 2])))
+    d = [R.randrange(4) << 6 | n] + body
+    r = R.random()
+    if r < .15: d = d[:R.randrange(len(d) + 1)]
+    elif r < .25: d = d + some(R.randrange(4))
+    elif r < .4: d[R.randrange(len(d))] = R.randrange(256)
+    return d
+
+def packet_reading(count, op, kind):
+    alphabet = [0x00, 0x01, 0x02, 0x20, 0x21, 0x22, 0x41, 0xE0, 0xE1, 0xE2, 0x07]
+    groups = []
+    for n in range(0, 4):
+        for d in itertools.product(alphabet, repeat=n):
+            if n == 3 and R.random() > .35: continue
+            for h in ([0x02] if n == 3 else [0x02, 0x01, 0xC0, 0x03]): groups.append([(op, [h] + list(d))])
+    groups.append([(op, [])])
+    for h in range(256): groups.append([(op, [h] + [0x21, 0x41] * R.randrange(3) + [0] * R.randrange(3))])
+    # every length beside the header's size
+    for n in range(64):
+        size = 2 * n or 128
+        for k in (size - 1, size, size + 1): groups.append([(op, ([n] + [0] * 200)[:k])])
+    for _ in range(count): groups.append([(op, packet_bytes())] + ([("l",), ("o", R.choice([0, 1, 3, 128, 129, 200]))] if op == "p" else []))
+    return batch(kind, groups, 25)
+
+def a_run(room=None):
+    n = R.choice([0, 1, 1, 2, 3, 5, 10, 15, 20, 29, 30, 31, 32, 33, 60, 100, 127, 128, 200, R.randrange(40)])
+    return some(n)
+
+def block_pushes(count):
+    for _ in range(count):
+        s = []
+        for _ in range(12):
+            r = R.random()
+            if r < .25: s.append(("b", R.choice([0, 1, 6, 7, 8, 63, 64, 65, 255, R.randrange(64)])))
+            elif r < .6: s.append(("c", a_run()))
+            elif r < .7: s.append(("d", a_block()))
+            elif r < .85: s.append(("e", R.choice([0, 1, 2, 3, 31, 32, 33, 34, 100, R.randrange(40)])))
+            else: s.append(("m",))
+        yield "block writing and pushing", s + [("m",), ("e", 255)]
+
+def packet_pushes(count):
+    for _ in range(count):
+        s, few = [], R.sample([0, 1, 2, 6, 7, 8, 62, 63, 64, 255], 3)
+        for _ in range(R.choice([6, 12, 20, 30])):
+            r = R.random()
+            if r < .04: s.append(("k", R.choice([0, 1, 2, 3, 3, 4, 255])))
+            elif r < .34: s.append(("a", R.choice(few), a_run()))
+            elif r < .6: s.append(("i", R.choice(few), a_run()))
+            elif r < .66: s.append(("b", R.choice(few)))
+            elif r < .72: s.append(("c", a_run()))
+            elif r < .8: s.append(("v",))
+            elif r < .83: s.append(("p", packet_bytes()))
+            elif r < .9: s.append(("o", R.choice([0, 1, 2, 127, 128, 129, 200, R.randrange(130)])))
+            else: s.append(("l",))
+        yield "packet pushes and writing", s + [("l",), ("o", 255), ("p", [])]
+    # packets filled to the brim: rooms 0 to 5 with every push
+    for left in range(0, 7):
+        for n in (1, 7):
+            base = [("k", 2)]
+            fill = 127 - left
+            while fill > 0:
+                k = min(fill, 32 if fill != 33 else 30)
+                base += [("b", 2), ("c", [9] * (k - 1)), ("v",)]; fill -= k
+            for m in range(0, 8):
+                yield "packet pushes and writing", base + [("l",), ("a", n, [5] * m), ("l",), ("i", n, [6] * m), ("a", 2, [7] * m), ("i", 2, [8] * m), ("l",), ("b", n), ("c", [4] * m), ("v",), ("b", 0), ("v",), ("l",), ("o", 128)]
+
+def triples_of(d):
+    d = d + [0] * (len(d) % 2)
+    return [[0xFF if i == 0 else 0xFE, d[i], d[i + 1]] for i in range(0, len(d), 2)]
+
+def a_triple():
+    return [R.choice([0xF8, 0, 0xF8, R.randrange(32) << 3]) | R.choice([0, 1, 2, 3, 4, 5, 6, 6, 7, 7, 7]), R.choice([1, 2, 3, 4, 0x41, 0x82, 0, byte()]), R.choice([0x20, 0x21, 0x22, 0, byte()])]
+
+def a_frame(stream):
+    r = R.random()
+    ts = []
+    if r < .35:  # a good frame: 608 part, then packets' triples
+        for _ in range(R.randrange(4)): ts.append([R.choice([0xFC, 0xFD, 0xF8, 0xF9]), byte(), byte()])
+        for _ in range(R.randrange(1, 14)):
+            while not stream: stream.extend(triples_of(packet_bytes(R.choice([4, 6, 12, 40, 128]))))
+            ts.append(stream.pop(0))
+            if R.random() < .1: ts.append([R.choice([0xFA, 0xFB, 0xF8, 0xF9]), byte(), byte()])
+    elif r < .6: ts = [a_triple() for _ in range(R.randrange(0, 8))]
+    elif r < .8:  # in order, but of every type
+        ts = sorted((a_triple() for _ in range(R.randrange(1, 9))), key=lambda t: t[0] & 2)
+    elif r < .9: ts = [[0xFF, R.choice([1, 2, 4, 0x41, 0]), R.choice([0x21, 0x01, 0x00, 0x41])] for _ in range(R.choice([3, 10, 31]))]
+    else: ts = [a_triple() for _ in range(31)]
+    ts = ts[:31]
+    f = [0xC0 | len(ts), 0xFF] + [b for t in ts for b in t]
+    r = R.random()
+    if r < .06: f[0] = f[0] & 0xBF
+    elif r < .1: f[0] = R.randrange(256)
+    elif r < .15: f = f[:R.randrange(len(f) + 1)]
+    elif r < .2: f = f + some(R.randrange(1, 4))
+    elif r < .25: f[0] = f[0] & 0xE0 | R.randrange(32)
+    elif r < .3: f[0] = f[0] & 0x5F | R.choice([0, 0x20, 0x80])
+    return f
+
+def frames(count):
+    for _ in range(count):
+        s, stream = [], []
+        if R.random() < .7: s.append(("H",))
+        draining = R.random() < .5
+        for _ in range(R.choice([1, 2, 4, 8, 12])):
+            r = R.random()
+            if r < .04: s.append(("H",))
+            elif r < .06: s.append(("F",))
+            elif r < .08: s.append(("R",))
+            s.append(("f", a_frame(stream)))
+            if R.random() < .08: s += [R.choice([("H",), ("F",)]), ("n",)]
+            for _ in range(R.choice([0, 1, 3, 40]) if draining else R.choice([0, 0, 0, 1, 2])): s.append(("n",))
+        yield "frame sequences", s + [("n",)] * (45 if not draining else 5)
+
+def frames_small(full):
+    """Every frame of up to `full` triples over all eight kinds of triple, after none or some pending bytes, then one more frame."""
+    kinds = [0xF8 | k for k in range(8)]
+    groups = []
+    for n in range(1, full + 1):
+        for hs in itertools.product(kinds, repeat=n):
+            if n == 4 and R.random() > .25: continue
+            f = [0xC0 | n, 0xFF]
+            for h in hs: f += [h, R.choice([0x01, 0x02, 0x02, 0x03, 0x04]), R.choice([0x00, 0x21, 0x22, 0x41])]
+            pend = R.choice([[], [], [("f", [0xC1, 0xFF, 0xFF, 0x02, 0x21])], [("f", [0xC2, 0xFF, 0xFF, 0x83, 0x22, 0xFE, 0x41, 0x42])]])
+            last = R.choice([[], [("f", [0xC1, 0xFF, 0xFE, 0x41, 0x00])], [("f", [0xC1, 0xFF, 0xFF, 0x01, 0x00])]])
+            on = R.choice([[("H",)], [("H",)], []])
+            groups.append([("R",)] + on + pend + [("f", f)] + last + [("n",)] * 4)
+    return batch("small frames", groups, 10)
+
+def frame_full():
+    """Around 32 waiting packets."""
+    for start in range(26, 34):
+        for more in range(0, 8):
+            s = [("H",)] if R.random() < .7 else []
+            k = start
+            while k:
+                m = min(k, 15); k -= m
+                s.append(("f", [0xC0 | m, 0xFF] + [0xFF, 0x01, 0x00] * m))
+            s.append(("f", [0xC0 | 3, 0xFF, 0xFC, 1, 2, 0xFD, 3, 4, 0xFF, 0x02, 0x21]))
+            body = [0xFC, 7, 8] + ([0xFE, 0x41, 0] if R.random() < .5 else []) + [0xFF, 0x41, 0x00] * more + ([0xFF, 0x03, 0x22] if R.random() < .5 else [])
+            s.append(("f", [0xC0 | len(body) // 3, 0xFF] + body))
+            s += [("n",)] * R.choice([0, 1, 3, 5])
+            s.append(("f", [0xC0 | len(body) // 3, 0xFF] + body))
+            yield "frames around 32 waiting", s + [("n",)] * 46
+
+RATES = [(24, 1), (25, 1), (30000, 1001), (50, 1), (60000, 1001), (30, 1), (60, 1), (24000, 1001), (120, 1), (121, 1), (401, 21), (400, 21), (20, 1), (19, 1), (40, 1), (100, 1), (119, 1), (61, 2), (1, 1), (0, 1), (1, 0), (0, 0), (48, 1), (15, 1)]
+def a_rate(good=True):
+    if good: return R.choice(RATES[:9] + [(20, 1), (40, 1), (100, 1), (48, 1)])
+    return R.choice(RATES)
+
+def queue_packet(s):
+    r = R.random()
+    if r < .1: s.append(("k", R.randrange(4)))
+    elif r < .5:
+        s.append(("k", R.randrange(4)))
+        for _ in range(R.choice([1, 1, 2, 3])): s.append(("a", R.choice([1, 2, 6, 7, 8, 63]), some(R.choice([1, 1, 2, 3, 4, 5, 10, 31]))))
+    elif r < .65: s.append(("p", packet_bytes()))
+    elif r < .75:
+        s.append(("k", R.randrange(4)))
+        for i in range(5): s.append(("a", i + 1, some(R.choice([24, 25, 26, 31, 20]))))
+    s.append(("q",))
+
+def mux(count):
+    for _ in range(count):
+        s = []
+        if R.random() < .75: s.append(("S", R.randrange(2), R.randrange(2)))
+        rate = a_rate()
+        p1, p2, pq, pw = R.choice([(.3, .2, .2, .25), (.6, .05, .1, .2), (.05, .6, .1, .2), (.1, .1, .5, .25), (.0, .3, .0, .6), (.3, .0, .1, .5)])
+        for _ in range(R.choice([5, 12, 25, 40])):
+            r = R.random()
+            if r < p1: s.append(("1", *R.choice([(0x94, 0x2C), (0x80, 0x80), (0x80, 0), (0, 0x80), (byte(), byte())])))
+            elif r < p1 + p2: s.append(("2", *R.choice([(0x15, 0x2C), (0x80, 0x80), (byte(), byte()), (byte(), byte())])))
+            elif r < p1 + p2 + pq: queue_packet(s)
+            elif r < p1 + p2 + pq + pw:
+                if R.random() < .1: rate = a_rate(R.random() < .7)
+                s.append(("w", *rate, R.choice([95, 95, 95, 95, 100, 2, 1, 0, 5, 8, 11, 20, 30, 60, 94])))
+                if R.random() < .3: s.append(("u",))
+            else: s.append(R.choice([("S", R.randrange(2), R.randrange(2)), ("u",), ("x",), ("u",), ("W",)] ))
+        yield "multiplexer sequences", s + [("u",)] + [("w", *rate, 95)] * 4 + [("u",)]
+
+def mux_full():
+    """Around 64 pairs and 16 packets, then written until drained."""
+    for pads in range(4):
+        for n in (63, 64, 65):
+            s = [("S", pads & 1, pads >> 1)]
+            s += [("1", i & 255, 1) for i in range(n)] + [("1", 0x80, 0x80)] + [("2", i & 255, 2) for i in range(n)] + [("2", 0x80, 0x80), ("u",)]
+            s += [("w", *R.choice(RATES[:9]), 95), ("1", 7, 7), ("2", 7, 7), ("u",)] * 3
+            yield "multiplexer, queues full", s + [("w", *R.choice(RATES[:9]), 95)] * 12 + [("u",)]
+        for n in (15, 16, 17, 18):
+            s = [("S", pads & 1, pads >> 1)]
+            for i in range(n): s += [("k", i & 3), ("a", 1 + i, some(R.choice([1, 2, 3, 9, 30]))), ("q",)]
+            s += [("k", 0), ("q",), ("u",), ("w", 60, 1, 95), ("u",), ("a", 1, [1, 2]), ("q",), ("q",), ("u",)]
+            yield "multiplexer, queues full", s + [("w", *R.choice(RATES[:9]), 95), ("u",)] * 10
+
+def grid():
+    """Every number of pairs and packets near the budgets, in all four settings, at five rates, twice written."""
+    for rate in [(24, 1), (30000, 1001), (60, 1), (120, 1), (20, 1)]:
+        for pads in range(4):
+            for q1 in (0, 1, 2, 3, 4):
+                for q2 in (0, 1, 2, 3):
+                    s = [("S", pads & 1, pads >> 1)] + [("1", 1, i) for i in range(q1)] + [("2", 2, i) for i in range(q2)]
+                    for m in range(R.choice([0, 0, 1, 2])): s += [("k", m), ("a", R.choice([1, 7]), some(R.choice([1, 2, 3, 4, 31]))), ("q",)]
+                    yield "multiplexer grid", s + [("w", *rate, 95), ("u",), ("w", *rate, 95), ("1", 9, 9), ("w", *rate, 95), ("x",), ("1", 8, 8), ("w", *rate, 95)]
+
+def rates(count):
+    groups = []
+    def ask(n, d): groups.append([("W",), ("S", 1, 1), ("w", n, d, 95)])
+    for n, d in RATES: ask(n, d)
+    for n in range(0, 130): ask(n, 1)
+    for d in range(0, 12): ask(121, d); ask(400, d); ask(0, d)
+    for d in (1, 2, 3, 7, 20, 21, 22, 1001, 1000000, 35791394, 2**32 - 1):
+        for base in (120 * d, 400 * d // 21, 600 * d // 31, 1200 * d // 63, 24 * d, 40 * d):
+            for e in (-1, 0, 1):
+                if 0 <= base + e < 2**32: ask(base + e, d)
+    for n, d in [(2**32 - 1, 2**32 - 1), (2**32 - 1, 1), (1, 2**32 - 1), (2**32 - 1, 107374182), (2**32 - 1, 35791394), (2**32 - 1, 35791395), (2**32 - 1, 225485783), (2**32 - 1, 225485782)]: ask(n, d)
+    for _ in range(count):
+        d = R.choice([R.randrange(1, 100), R.randrange(1, 2000), R.randrange(1, 2**25)])
+        n = int(d * R.uniform(18, 125))
+        ask(n, d)
+    return batch("rates", groups, 15)
+
+def durations():
+    s = [("1", 1, 1), ("u",)] * 65
+    yield "durations", s
+    yield "durations", [("2", 1, 1), ("u",)] * 65
+    for _ in range(40):
+        s = []
+        for _ in range(R.randrange(1, 17)): queue_packet(s); s.append(("u",))
+        for _ in range(6): s += [("w", *a_rate(), 95), ("u",)]
+        yield "durations", s
+
+def journeys(count, written):
+    """What a multiplexer writes, read back by the demultiplexer, some frames damaged or lost. `written` gives a script's frames."""
+    for _ in range(count):
+        s = [("S", *R.choice([(0, 1), (1, 0), (1, 1), (0, 0)]))]
+        rate = a_rate()
+        for _ in range(R.choice([8, 16, 24])):
+            r = R.random()
+            if r < .25: s.append(("1", byte(), byte()))
+            elif r < .45: s.append(("2", byte(), byte()))
+            elif r < .65: queue_packet(s)
+            else: s.append(("w", *rate, 95))
+        s += [("w", *rate, 95)] * R.choice([1, 4, 12])
+        back = [("H",)]
+        for f in written(s):
+            f = list(f)
+            r = R.random()
+            if r < .04: continue
+            if r < .1: f[R.randrange(len(f))] ^= 1 << R.randrange(8)
+            back.append(("f", f))
+            back += [("n",)] * R.choice([0, 1, 3, 12])
+        yield "journeys", s + back + [("n",)] * 12
+
+def anything(count):
+    """Operations of every kind in any order."""
+    for _ in range(count):
+        s, stream = [], []
+        for _ in range(30):
+            k = R.choice("bcmedyvaailopptRHfffnnnFWSqqq1122wwwux" if R.random() < .9 else "RFWxk")
+            if k == "b": s.append((k, R.choice([0, 1, 2, 7, 63, 64])))
+            elif k == "k": s.append((k, R.choice([0, 1, 2, 3, 4])))
+            elif k in "eo": s.append((k, R.choice([0, 1, 2, 32, 128, 255, R.randrange(256)])))
+            elif k == "c": s.append((k, a_run()))
+            elif k in "dy": s.append((k, (a_block() + some(2))[:R.choice([50, 50, 1, 3])]))
+            elif k in "pt": s.append((k, packet_bytes(R.choice([4, 8, 40, 128]))))
+            elif k == "f": s.append((k, a_frame(stream)))
+            elif k in "ai": s.append((k, R.choice([0, 1, 2, 7, 64]), a_run()))
+            elif k == "S": s.append((k, R.randrange(2), R.randrange(2)))
+            elif k in "12": s.append((k, byte(), byte()))
+            elif k == "w": s.append((k, *a_rate(R.random() < .8), R.choice([95, 95, 255, R.randrange(96)])))
+            else: s.append((k,))
+        yield "anything", s + [("m",), ("l",), ("u",), ("n",), ("n",)]
+
+def encode(op):
+    """The record of an operation."""
+    k, args = op[0], op[1:]
+    if k in "cdyptf": body = list(args[0])
+    elif k in "ai": body = [args[0], *args[1]]
+    elif k == "S": body = [args[0] | args[1] << 1]
+    elif k == "w": body = [*args[0].to_bytes(4, "big"), *args[1].to_bytes(4, "big"), args[2]]
+    else: body = list(args)
+    return bytes([0xCC, 0x5C, len(body) + 1, ord(k), *body])
+
+def generate(seed, written, scale=1.0):
+    """All kinds; `written` runs a script and gives the frames it writes."""
+    R.seed(seed)
+    c = lambda n: max(1, int(n * scale))
+    for part in (block_reading(), packet_reading(c(600), "p", "packet reading, plain"), packet_reading(c(600), "t", "packet reading, tidy"),
+                 block_pushes(c(150)), packet_pushes(c(300)), frames(c(500)), frames_small(4), frame_full(), mux(c(500)), mux_full(), grid(),
+                 rates(c(300)), durations(), journeys(c(300), written), anything(c(400))):
+        yield from part

@@ -1,0 +1,47 @@
+//! `ccscript` over the Rust crate: runs the script on standard input and prints each answer on a line.
+//!
+//! Where document 01 adds a rule, the rule is applied around the crate's calls: refusals 6 to 10, the
+//! sizes, the draw, the dropping of empty packets, the part handed back, the tidy reader. The four
+//! operations that set raw fields (`B`, `K`, `D`, `Q`) have no counterpart in the crate, whose values
+//! cannot be made to break a limit: a script that holds one of them stops with an error.
+
+mod demux;
+mod machine;
+mod mux;
+mod refusal;
+mod text;
+mod tidy;
+
+use std::io::{Read, Write};
+
+use machine::{Line, Machine};
+
+/// The record at the start of the bytes: its content and its whole length.
+fn record(bytes: &[u8]) -> Option<(&[u8], usize)> {
+    let [0xCC, 0x5C, len, rest @ ..] = bytes else {
+        return None;
+    };
+    let content = rest.get(..*len as usize)?;
+    Some((content, 3 + content.len()))
+}
+
+fn main() -> std::io::Result<()> {
+    let mut script = vec![];
+    std::io::stdin().read_to_end(&mut script)?;
+    let mut out = std::io::BufWriter::new(std::io::stdout().lock());
+    let (mut machine, mut at, mut count) = (Machine::fresh(), 0, 0);
+    while at < script.len() {
+        let Some((content, len)) = record(&script[at..]) else {
+            return writeln!(out, "stopped at byte {at}");
+        };
+        match machine.operation(content) {
+            Line::Ok(values) if values.is_empty() => writeln!(out, "ok")?,
+            Line::Ok(values) => writeln!(out, "ok {values}")?,
+            Line::Refused(why, rest) => writeln!(out, "refused {why}{rest}")?,
+            Line::Bad => writeln!(out, "bad")?,
+        }
+        at += len;
+        count += 1;
+    }
+    writeln!(out, "end {count}")
+}

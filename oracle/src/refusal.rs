@@ -1,0 +1,57 @@
+//! The refusals of document 01 that the crate or the rules around it give.
+
+use std::fmt;
+
+use cea708_types::{ParserError, WriterError};
+
+pub enum Refusal {
+    LengthMismatch(usize, usize),
+    Cea608AfterCea708(usize),
+    WouldOverflow(usize),
+    ReadOnly,
+    EmptyService,
+    BadNumber,
+    BadRun,
+    BadRate,
+    OutShort(usize),
+    Full,
+}
+
+impl From<ParserError> for Refusal {
+    fn from(error: ParserError) -> Self {
+        match error {
+            ParserError::LengthMismatch { expected, actual } => {
+                Self::LengthMismatch(expected, actual)
+            }
+            ParserError::Cea608AfterCea708 { byte_pos } => Self::Cea608AfterCea708(byte_pos),
+        }
+    }
+}
+
+impl From<WriterError> for Refusal {
+    fn from(error: WriterError) -> Self {
+        match error {
+            WriterError::WouldOverflow(over) => Self::WouldOverflow(over),
+            WriterError::ReadOnly => Self::ReadOnly,
+            WriterError::EmptyService => Self::EmptyService,
+        }
+    }
+}
+
+/// The number of the table, then the values that the refusal carries.
+impl fmt::Display for Refusal {
+    fn fmt(&self, f: &mut fmt::Formatter) -> fmt::Result {
+        match self {
+            Self::LengthMismatch(expected, actual) => write!(f, "1 {expected} {actual}"),
+            Self::Cea608AfterCea708(byte_pos) => write!(f, "2 {byte_pos}"),
+            Self::WouldOverflow(over) => write!(f, "3 {over}"),
+            Self::ReadOnly => write!(f, "4"),
+            Self::EmptyService => write!(f, "5"),
+            Self::BadNumber => write!(f, "6"),
+            Self::BadRun => write!(f, "7"),
+            Self::BadRate => write!(f, "8"),
+            Self::OutShort(needed) => write!(f, "9 {needed}"),
+            Self::Full => write!(f, "10"),
+        }
+    }
+}
