@@ -1,11 +1,11 @@
 -- The part read lies within the array, and the rounds end.
 use Prim.Native.Nat.{_-_, _≤_}
 use borrow.Author.Needs.{needs}
-use Rattle.packet_speed.proofs.run.Statement.{statement}
-use Rattle.packet_speed.proofs.run.Tie as tie
+use Rattle.read_speed.proofs.read_packets.Statement.{statement}
+use Rattle.read_speed.proofs.read_packets.Tie as tie
 
 abbrev Inv-loop : tie.InvT-loop
-Inv-loop data₀ n sum₀ i₀ «data» sum i = (n ≤ 128) × (i ≤ 1000000)
+Inv-loop data₀ n sum₀ i₀ «data» sum i = (n ≤ 95000) × (i ≤ 1000000)
 
 abbrev μ-loop : tie.MeasureT-loop
 μ-loop data₀ n sum₀ i₀ «data» sum i = 1000000 - i
@@ -49,8 +49,8 @@ loop-again c = search needs
 returns : tie.Need-returns Inv-loop μ-loop
 returns c = search needs
 
-pub run-spec : {M : Type 1} → statement M
-run-spec =
+pub read-packets-spec : {M : Type 1} → statement M
+read-packets-spec =
     tie.close
     (tie.spec
     Inv-loop

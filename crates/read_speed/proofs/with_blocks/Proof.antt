@@ -1,8 +1,8 @@
 -- The walk stops at the end of the arrays, whatever the packet says.
 use Prim.Native.Nat.{_-_, _≤_}
 use borrow.Author.Needs.{needs}
-use Rattle.packet_speed.proofs.with_blocks.Statement.{statement}
-use Rattle.packet_speed.proofs.with_blocks.Tie as tie
+use Rattle.read_speed.proofs.with_blocks.Statement.{statement}
+use Rattle.read_speed.proofs.with_blocks.Tie as tie
 
 abbrev Inv-loop : tie.InvT-loop
 Inv-loop before packet sum₀ i₀ at₀ sum i at = i ≤ 63

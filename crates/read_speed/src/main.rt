@@ -1,0 +1,167 @@
+// Reads one packet, or a thousand frames of 95 bytes, a million times, to set the time beside the crate's
+// (`oracle/src/bin/read_speed.rs`). Standard input is the packet or the frames; the line written is how many items were
+// read and a sum over every block, so that no reading can be left out, and both programs write the same.
+ghost use mathlib.Core.Path.{_≡_};
+ghost use Prim.Native.Nat.{_≤_};
+ghost use lib.ListN.{length};
+use libc::STDIN_FILENO;
+use libc::STDOUT_FILENO;
+use packet::DTVCCPacket;
+use parser::CCDataParser;
+use parser::Item;
+
+// How many readings there are.
+const READINGS: usize = 1000000;
+
+// The most bytes of a packet: more are frames.
+const MOST_PACKET: usize = 128;
+
+// No frame leaves more to draw than 31 pairs and 32 packets.
+const MOST_ITEMS: usize = 64;
+
+// The items drawn, the sum over their blocks, and the demultiplexer.
+struct Totals {
+    items: u64,
+    sum: u64,
+    parser: CCDataParser,
+}
+
+// A byte as a number.
+fn wide(b: u8) -> usize
+    ensures { λ r. ⌜ r ≤ 255 ⌝ }
+{
+    b as usize
+}
+
+// 31 times the sum and x, without the carry.
+fn mix(sum: u64, x: u64) -> u64 {
+    let most = (sum % 576460752303423488) * 32;
+    std::num::wrapping_add_u64(std::num::wrapping_sub_u64(most, sum), x)
+}
+
+// What a block adds: its number, its first byte and its length.
+fn worth(number: u8, first: u8, size: u8) -> u64 {
+    number as u64 + first as u64 + size as u64
+}
+
+// The sum with every block of the packet.
+fn with_blocks(packet: DTVCCPacket, before: u64) -> u64 {
+    let mut sum = before;
+    let mut i: usize = 0;
+    let mut at: usize = 0;
+    while i < 63 {
+        if packet.count <= i {
+            return sum;
+        }
+        if 127 <= at {
+            return sum;
+        }
+        let size = packet.sizes[i];
+        sum = mix(sum, worth(packet.numbers[i], packet.payload[at], size));
+        at += wide(size);
+        i += 1;
+    }
+    sum
+}
+
+// The totals with everything that waits.
+fn with_items(t: Totals) -> Totals {
+    let mut parser = t.parser;
+    let mut items = t.items;
+    let mut sum = t.sum;
+    let mut n: usize = 0;
+    while n < MOST_ITEMS {
+        n += 1;
+        let drawn = parser.draw();
+        parser = drawn.parser;
+        let item = drawn.item;
+        match item {
+            Item::Pair(_) => {
+                items = std::num::wrapping_add_u64(items, 1);
+            }
+            Item::Packet => {
+                let packet = drawn.packet;
+                items = std::num::wrapping_add_u64(items, 1);
+                sum = with_blocks(packet, sum);
+            }
+            Item::Nothing => {
+                return Totals { items, sum, parser };
+            }
+            Item::Refused(_) => {
+                return Totals { items, sum, parser };
+            }
+        }
+    }
+    Totals { items, sum, parser }
+}
+
+// The totals of every frame.
+fn read_frames(frames: &[u8], before: Totals) -> Totals
+    requires { ⌜ length (now frames) ≡ 95000 ⌝ }
+{
+    let mut t = before;
+    let mut i: usize = 0;
+    while i < READINGS {
+        let at = i % 1000 * 95;
+        let end = at + 95;
+        let old = t.parser;
+        let pushed = old.push(&frames[at..end]);
+        let parser = pushed.parser;
+        t = with_items(Totals {
+            items: t.items,
+            sum: t.sum,
+            parser,
+        });
+        i += 1;
+    }
+    t
+}
+
+// The header with another sequence number, so that no two readings in a row are of the same bytes.
+fn turned(header: u8, i: usize) -> u8 {
+    header % 64 + (i % 4) as u8 * 64
+}
+
+// The sum after every reading of the first n bytes.
+fn read_packets(data: &mut [u8; 95000], n: usize) -> u64
+    requires { ⌜ n ≤ 95000 ⌝ }
+{
+    let mut sum: u64 = 0;
+    let mut i: usize = 0;
+    while i < READINGS {
+        data[0] = turned(data[0], i);
+        let whole = &data[..];
+        let answer = DTVCCPacket::parse(&whole[0..n]);
+        sum = with_blocks(answer.packet, sum);
+        i += 1;
+    }
+    sum
+}
+
+// Writes the two totals.
+fn tell(items: u64, sum: u64) {
+    io::print_decimal(STDOUT_FILENO, items);
+    io::write_all(STDOUT_FILENO, b" ");
+    io::print_decimal(STDOUT_FILENO, sum);
+    io::write_all(STDOUT_FILENO, b"\n");
+}
+
+fn main() {
+    let mut bytes = [0u8; 95000];
+    let n = io::read_full(STDIN_FILENO, &mut bytes);
+    if n <= MOST_PACKET {
+        tell(READINGS as u64, read_packets(&mut bytes, n));
+        return;
+    }
+    let on = CCDataParser::new().handle_cea608();
+    let parser = on.parser;
+    let t = read_frames(
+        &bytes,
+        Totals {
+            items: 0,
+            sum: 0,
+            parser,
+        },
+    );
+    tell(t.items, t.sum);
+}
