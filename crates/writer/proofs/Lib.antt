@@ -9,3 +9,4 @@ pub mod Calls
 pub mod Packs
 pub mod Laws
 pub mod Packed
+pub mod Kept
