@@ -1,0 +1,83 @@
+-- Frames fed to a demultiplexer that is emptied after each: where the model refuses none, none is refused, and what is given is what the model
+-- gives. Assumes nothing.
+use mathlib.Core.Path.{_≡_, refl, sym, ap, _∙_}
+use mathlib.Core.Bool.{true}
+use mathlib.Core.List.{List, [], _∷_, _++_}
+use Prim.Native.Nat.{ℕ, _≤_}
+use native.Mathlib.Omega.{arith}
+use lib.ListN.{length, replicate}
+use denote.Ref.{now}
+use Rattle.model.specs.Said.{Said, accepted}
+use Rattle.model.specs.Packet.{Packet, validPacket, allPackets}
+use Rattle.model.specs.Frame.{Cea608, field1, field2}
+use Rattle.model.specs.Demux.{Demux, takeFrame, validDemux}
+use Rattle.model.specs.Run.{Read, readFrames, emptied, ofField1, ofField2, others}
+use Rattle.model.proofs.DemuxStates.{demux-facts, facts-demux, take-valid}
+use Rattle.journey.proofs.Turns.{others-append}
+use Rattle.caption.specs.declared.Refusal.{Refusal}
+use Rattle.caption.specs.declared.Answer.the-variants.{Accepted}
+use Rattle.caption.proofs.Answers.{saidAnswer-injective}
+use Rattle.parser.specs.Means.{means, Answers, saidPush}
+use Rattle.parser.specs.Push.{pushed}
+use Rattle.parser.proofs.Kept.{Sound, pushed-sound, means-pushed}
+use Rattle.parser.specs.declared.CCDataParser.{CCDataParser}
+use Rattle.parser.specs.declared.ParserAnswer.{ParserAnswer}
+use Rattle.theorems.specs.Items.{Items, noItems, andThen}
+use Rattle.theorems.specs.Allowed.{Push}
+use Rattle.theorems.specs.Reading.{Feeds, no-frame, feed, refusedFrame}
+use Rattle.theorems.proofs.Emptying.{itemsIn, Emptied, empties-from}
+
+-- the items that the model reads
+abbrev pub itemsRead : Read → Items
+itemsRead o = itemsIn (o .pairs) (o .packets)
+
+-- what frames give that the model does not refuse
+pub record Fed (o : Read) (rs : List Refusal) (is : Items) : Type 0 where
+  pub no-refusal : rs ≡ []
+  pub items : is ≡ itemsRead o
+
+-- a demultiplexer within the limits that has been emptied is within them
+emptied-valid : (d : Demux) → validDemux d ≡ true → validDemux (emptied d) ≡ true
+unfolding allPackets
+emptied-valid d v = let f = demux-facts d v in facts-demux (emptied d) (record { pairs = omega arith; waiting = omega arith; packets = refl; pending = f .pending })
+
+-- the pairs of a field in one list behind another
+field-append : (xs ys : List Cea608) → (ofField1 (xs ++ ys) ≡ ofField1 xs ++ ofField1 ys) × (ofField2 (xs ++ ys) ≡ ofField2 xs ++ ofField2 ys)
+unfolding ofField1 ofField2
+field-append [] ys = (refl, refl)
+field-append (field1 x ∷ xs) ys = let e = field-append xs ys in (rw (e .0), e .1)
+field-append (field2 x ∷ xs) ys = let e = field-append xs ys in (e .0, rw (e .1))
+
+-- what was read before, and what after
+items-append : (xs ys : List Cea608) (ps qs : List Packet) → andThen (itemsIn xs ps) (itemsIn ys qs) ≡ itemsIn (xs ++ ys) (ps ++ qs)
+items-append xs ys ps qs = rw (field-append xs ys .0, field-append xs ys .1, others-append (ofField1 xs) (ofField1 ys), others-append (ofField2 xs) (ofField2 ys))
+
+-- a frame that the model accepts is accepted
+frame-accepted : (p : CCDataParser) (f : List ℕ) (r : ParserAnswer) → Sound p → Answers (saidPush p f) (pushed p f .parser) r → takeFrame f (means p) .answer ≡ accepted [] → r .answer ≡ Accepted
+frame-accepted p f r s a e = saidAnswer-injective (r .answer) Accepted (rw (s .valid, e) at (a .answer))
+
+-- by the demultiplexer of the model
+feeds-at : {p p′ : CCDataParser} {fs : List (List ℕ)} {rs : List Refusal} {is : Items} → Feeds p fs rs is p′ → (d : Demux) → Sound p → means p ≡ d → validDemux d ≡ true
+    → readFrames fs d .answers ≡ replicate (length fs) (accepted []) → Fed (readFrames fs d) rs is
+unfolding readFrames ofField1 ofField2 others
+feeds-at no-frame d s e v z = record { no-refusal = refl; items = refl }
+feeds-at {p} (feed {q} {fs} {rs} {rs′} {is} {is′} κs frame r a c k) d s e v z =
+    let f : List ℕ = now frame in
+    let t : Demux = takeFrame f d .next in
+    let b : Answers (saidPush p f) (pushed p f .parser) r = a in
+    let next : means (r .parser) ≡ t = rw (b .parser) (means-pushed p f s ∙ ap (λ (x : Demux). takeFrame f x .next) e) in
+    let w : validDemux t ≡ true = take-valid f d v in
+    let sound : Sound (r .parser) = rw (b .parser) (pushed-sound p f s) in
+    let m = empties-from c sound t next (demux-facts t w .packets) in
+    let first : takeFrame f d .answer ≡ accepted [] = (cc) in
+    let rest : readFrames fs (emptied t) .answers ≡ replicate (length fs) (accepted []) = (cc) in
+    let n = feeds-at k (emptied t) (m .sound) (m .means) (emptied-valid t w) rest in
+    record {
+      no-refusal = rw (frame-accepted p f r s b (ap (λ (x : Demux). takeFrame f x .answer) e ∙ first), m .no-refusal, n .no-refusal);
+      items = rw (m .items, n .items) (items-append (t .pairs) (readFrames fs (emptied t) .pairs) (t .waiting) (readFrames fs (emptied t) .packets));
+    }
+
+-- from any state within the limits
+pub feeds : {p p′ : CCDataParser} {fs : List (List ℕ)} {rs : List Refusal} {is : Items} → Feeds p fs rs is p′ → Sound p → validDemux (means p) ≡ true
+    → readFrames fs (means p) .answers ≡ replicate (length fs) (accepted []) → Fed (readFrames fs (means p)) rs is
+feeds {p} c s v z = feeds-at c (means p) s refl v z

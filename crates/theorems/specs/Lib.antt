@@ -1,0 +1,4 @@
+pub mod Items
+pub mod Allowed
+pub mod Writing
+pub mod Reading

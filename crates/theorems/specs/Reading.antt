@@ -1,0 +1,51 @@
+-- Sequences of calls of the demultiplexer's functions, each with a result that the function's contract allows. Assumes nothing.
+use mathlib.Core.Path.{_≡_}
+use mathlib.Core.List.{List, [], _∷_, _++_}
+use Prim.Native.Nat.{ℕ}
+use contract.Lifetimes.{Lfts}
+use denote.Ref.{now}
+use Rattle.caption.specs.Pairs.{cea608Of}
+use Rattle.caption.specs.declared.Refusal.{Refusal}
+use Rattle.caption.specs.declared.Answer.{Answer}
+use Rattle.caption.specs.declared.Answer.the-variants as answer
+use Rattle.packet.specs.Packet.{packetOf}
+use Rattle.packet.specs.declared.DTVCCPacket.{DTVCCPacket}
+use Rattle.parser.specs.declared.CCDataParser.{CCDataParser}
+use Rattle.parser.specs.declared.ParserAnswer.{ParserAnswer}
+use Rattle.parser.specs.declared.Drawn.{Drawn}
+use Rattle.parser.specs.declared.Item.{Item}
+use Rattle.parser.specs.declared.Item.the-variants as item
+use Rattle.theorems.specs.Items.{Items, noItems, andThen, onePacket, onePair}
+use Rattle.theorems.specs.Allowed.{Lent, Push, Draw}
+
+-- what was drawn: a pair of its field, or the packet beside the item
+abbrev pub drawnItem : Item → DTVCCPacket → Items
+drawnItem (item.Pair x) d = onePair (cea608Of x)
+drawnItem item.Packet d = onePacket (packetOf d)
+drawnItem item.Nothing d = noItems
+drawnItem (item.Refused why) d = noItems
+
+-- whether the draw was refused
+abbrev pub refusedDraw : Item → List Refusal
+refusedDraw (item.Pair x) = []
+refusedDraw item.Packet = []
+refusedDraw item.Nothing = []
+refusedDraw (item.Refused why) = why ∷ []
+
+-- whether the frame was refused
+abbrev pub refusedFrame : Answer → List Refusal
+refusedFrame answer.Accepted = []
+refusedFrame (answer.Refused why) = why ∷ []
+
+-- "emptied": draws until there is nothing left, with what was refused and what was given
+pub data Empties : CCDataParser → List Refusal → Items → CCDataParser → Type 0 where
+  nothing-left : {p : CCDataParser} (r : Drawn) → Draw p r → r .item ≡ item.Nothing → Empties p [] noItems (r .parser)
+  draw : {p p′ : CCDataParser} {rs : List Refusal} {is : Items} (r : Drawn) → Draw p r → (r .item ≡ item.Nothing → ⊥)
+      → Empties (r .parser) rs is p′ → Empties p (refusedDraw (r .item) ++ rs) (andThen (drawnItem (r .item) (r .packet)) is) p′
+
+-- "fed every frame and emptied after each": each result is one that its function's contract allows, and the next call is of the state that came
+-- back; with what was refused and what was given
+pub data Feeds : CCDataParser → List (List ℕ) → List Refusal → Items → CCDataParser → Type 0 where
+  no-frame : {p : CCDataParser} → Feeds p [] [] noItems p
+  feed : {p q p′ : CCDataParser} {fs : List (List ℕ)} {rs rs′ : List Refusal} {is is′ : Items} (κs : Lfts 1) (frame : Lent) (r : ParserAnswer) → Push κs p frame r
+      → Empties (r .parser) rs is q → Feeds q fs rs′ is′ p′ → Feeds p (now frame ∷ fs) (refusedFrame (r .answer) ++ (rs ++ rs′)) (andThen is is′) p′

@@ -1,0 +1,76 @@
+-- Sequences of calls of the multiplexer's functions, each with a result that the function's contract allows. Assumes nothing.
+use mathlib.Core.Path.{_≡_}
+use mathlib.Core.Bool.{Bool, true, _||_}
+use mathlib.Core.List.{List, [], _∷_, _++_}
+use Prim.Native.Nat.{ℕ, _≤_}
+use lib.ListN.{length, take}
+use contract.Lifetimes.{Lfts}
+use denote.Ref.{now}
+use Rattle.caption.specs.Pairs.{cea608Of}
+use Rattle.caption.specs.declared.Answer.{Answer}
+use Rattle.caption.specs.declared.Answer.the-variants as answer
+use Rattle.caption.specs.declared.Counted.{Counted}
+use Rattle.caption.specs.declared.Counted.the-variants as counted
+use Rattle.caption.specs.declared.Cea608.{Cea608}
+use Rattle.caption.specs.declared.Framerate.{Framerate}
+use Rattle.packet.specs.Packet.{packetOf}
+use Rattle.packet.specs.declared.DTVCCPacket.{DTVCCPacket}
+use Rattle.slots.specs.Slot.{writtenLength}
+use Rattle.writer.specs.declared.CCDataWriter.{CCDataWriter}
+use Rattle.writer.specs.declared.WriterAnswer.{WriterAnswer}
+use Rattle.writer.specs.declared.WriterCount.{WriterCount}
+use Rattle.theorems.specs.Items.{Items, noItems, andThen, ifNonempty, onePair}
+use Rattle.theorems.specs.Allowed.{Lent, PushPacket, PushCea608, SetCea608Padding, SetPadding, Write}
+
+-- the arrays of a packet have the places that their types give them
+pub record Typed (d : DTVCCPacket) : Type 0 where
+  pub numbers : length (d .numbers) ≡ 63
+  pub sizes : length (d .sizes) ≡ 63
+  pub payload : length (d .payload) ≡ 127
+
+-- what a call adds: an item only if the answer is that it is accepted
+abbrev pub ifAccepted : Answer → Items → Items
+ifAccepted answer.Accepted is = is
+ifAccepted (answer.Refused why) is = noItems
+
+-- the frame of a write: as many bytes of the lent output as the answer counts, and no frame if it refuses
+abbrev pub frameIn : Counted → List ℕ → List (List ℕ)
+frameIn (counted.Count n) out = take n out ∷ []
+frameIn (counted.Refused why) out = []
+
+-- "push and write in any order, never flush": calls one after the other from one state to another, with the frames that they wrote and the items
+-- that they accepted. Each has any arguments and any result that its function's contract allows, a refusal too, and the next call is of the state
+-- that came back. A write is at any rate, to lent bytes of any length.
+pub data Calls : CCDataWriter → List (List ℕ) → Items → CCDataWriter → Type 0 where
+  no-call : {w : CCDataWriter} → Calls w [] noItems w
+  push-packet : {w w′ : CCDataWriter} {fs : List (List ℕ)} {is : Items} (d : DTVCCPacket) (r : WriterAnswer) → Typed d → PushPacket w d r
+      → Calls (r .writer) fs is w′ → Calls w fs (andThen (ifAccepted (r .answer) (ifNonempty (packetOf d))) is) w′
+  push-cea608 : {w w′ : CCDataWriter} {fs : List (List ℕ)} {is : Items} (x : Cea608) (r : WriterAnswer) → PushCea608 w x r
+      → Calls (r .writer) fs is w′ → Calls w fs (andThen (ifAccepted (r .answer) (onePair (cea608Of x))) is) w′
+  set-cea608-padding : {w w′ : CCDataWriter} {fs : List (List ℕ)} {is : Items} (on : Bool) (r : WriterAnswer) → SetCea608Padding w on r
+      → Calls (r .writer) fs is w′ → Calls w fs is w′
+  set-padding : {w w′ : CCDataWriter} {fs : List (List ℕ)} {is : Items} (on : Bool) (r : WriterAnswer) → SetPadding w on r
+      → Calls (r .writer) fs is w′ → Calls w fs is w′
+  write : {w w′ : CCDataWriter} {fs : List (List ℕ)} {is : Items} (κs : Lfts 1) (rate : Framerate) (out end : Lent) (r : WriterCount) → Write κs w rate out end r
+      → Calls (r .writer) fs is w′ → Calls w (frameIn (r .answer) (now end) ++ fs) is w′
+
+-- whether a write that is accepted finds "at least one padding on"
+abbrev pub PaddingAt : Counted → CCDataWriter → Type 0
+PaddingAt (counted.Count n) w = w .«output_cea608_padding» || w .«output_padding» ≡ true
+PaddingAt (counted.Refused why) w = Unit {0}
+
+-- "at least one padding on at each write"; that its rate is accepted is what the answer says, else it is refused with 8
+abbrev pub Padded : {w w′ : CCDataWriter} {fs : List (List ℕ)} {is : Items} → Calls w fs is w′ → Type 0
+Padded no-call = Unit {0}
+Padded (push-packet d r t a c) = Padded c
+Padded (push-cea608 x r a c) = Padded c
+Padded (set-cea608-padding on r a c) = Padded c
+Padded (set-padding on r a c) = Padded c
+Padded (write {w} κs rate out end r a c) = PaddingAt (r .answer) w × Padded c
+
+-- "Once drained": nothing is queued, and every byte of the packet being sent has left
+pub record Drained (w : CCDataWriter) : Type 0 where
+  pub no-packet : w .«packet_count» ≡ 0
+  pub no-byte : writtenLength (w .sending) ≤ w .sent
+  pub no-pair1 : w .field1 .count ≡ 0
+  pub no-pair2 : w .field2 .count ≡ 0
