@@ -1,0 +1,146 @@
+-- What a sequence of real calls is in the model: calls of the model with the same frames and the same items. Assumes nothing.
+use mathlib.Core.Path.{_≡_, refl, sym, ap, _∙_}
+use mathlib.Core.Bool.{true}
+use mathlib.Core.List.{List, [], _∷_, _++_}
+use Prim.Native.Nat.{ℕ, _+_}
+use native.Mathlib.Omega.{arith}
+use lib.ListN.{length, length-append}
+use Rattle.model.specs.Packet.{Packet}
+use Rattle.model.specs.Frame.{Pair}
+use Rattle.model.specs.Mux.{Mux}
+use Rattle.model.specs.Run.{Call, Run, call, run, AllowedCall, Allowed, others}
+use Rattle.journey.specs.Bounds.{writesIn, AtRates, NoPush}
+use Rattle.journey.proofs.Turns.{others-append}
+use Rattle.writer.specs.Writer.{means, validWriter}
+use Rattle.writer.proofs.Valid.{Shaped}
+use Rattle.writer.specs.declared.CCDataWriter.{CCDataWriter}
+use Rattle.theorems.specs.Items.{Items, noItems, andThen}
+
+-- a state within its limits, its arrays of their lengths
+pub record Sound (w : CCDataWriter) : Type 0 where
+  pub valid : validWriter w ≡ true
+  pub shaped : Shaped w
+
+-- One call is one of the model, with the frames fs and the items is, if `pad` holds for its being allowed. It takes part in calls that follow
+-- by what it adds to what is known of them.
+pub record Step (w : CCDataWriter) (c : Call) (fs : List (List ℕ)) (is : Items) (w′ : CCDataWriter) (pad : Type 0) : Type 0 where
+  pub last : call c (means w) .last ≡ means w′
+  pub frames : call c (means w) .frames ≡ fs
+  pub packets : call c (means w) .packets ≡ is .packets
+  pub pairs1 : others (call c (means w) .pairs1) ≡ is .pairs1
+  pub pairs2 : others (call c (means w) .pairs2) ≡ is .pairs2
+  pub allowed : pad → AllowedCall c (means w)
+  pub rates : (cs : List Call) → AtRates cs → AtRates (c ∷ cs)
+  pub writes : (cs : List Call) → writesIn (c ∷ cs) ≡ length fs + writesIn cs
+  pub quiet : is ≡ noItems → (cs : List Call) → NoPush cs → NoPush (c ∷ cs)
+  pub sound : Sound w′
+
+-- a call leaves the state as it was, with no frame and no item; or it is one of the model
+pub data Moved (w : CCDataWriter) (fs : List (List ℕ)) (is : Items) (w′ : CCDataWriter) (pad : Type 0) : Type 0 where
+  stays : fs ≡ [] → is ≡ noItems → w′ ≡ w → Moved w fs is w′ pad
+  moves : (c : Call) → Step w c fs is w′ pad → Moved w fs is w′ pad
+
+-- either way the limits are kept
+pub moved-sound : {w w′ : CCDataWriter} {fs : List (List ℕ)} {is : Items} {pad : Type 0} → Moved w fs is w′ pad → Sound w → Sound w′
+moved-sound (stays f i e) s = rw e s
+moved-sound (moves c k) s = k .sound
+
+-- calls of the model from the multiplexer that w is to the one that w′ is, with the frames fs and the items is, allowed if `pad` holds
+pub record Follows (w : CCDataWriter) (fs : List (List ℕ)) (is : Items) (w′ : CCDataWriter) (pad : Type 0) : Type 0 where
+  pub calls : List Call
+  pub last : run calls (means w) .last ≡ means w′
+  pub frames : run calls (means w) .frames ≡ fs
+  pub packets : run calls (means w) .packets ≡ is .packets
+  pub pairs1 : others (run calls (means w) .pairs1) ≡ is .pairs1
+  pub pairs2 : others (run calls (means w) .pairs2) ≡ is .pairs2
+  pub allowed : pad → Allowed calls (means w)
+  pub rates : AtRates calls
+  pub writes : writesIn calls ≡ length fs
+  pub quiet : is ≡ noItems → NoPush calls
+  pub sound : Sound w′
+
+-- no call
+pub follows-none : (w : CCDataWriter) → Sound w → Follows w [] noItems w (Unit {0})
+unfolding run others
+follows-none w s =
+    record {
+      calls = [];
+      last = refl;
+      frames = refl;
+      packets = refl;
+      pairs1 = refl;
+      pairs2 = refl;
+      allowed = λ p. tt;
+      rates = tt;
+      writes = refl;
+      quiet = λ e. tt;
+      sound = s;
+    }
+
+-- a list behind another is empty only if both are
+append-none : {A : Type 0} (xs ys : List A) → xs ++ ys ≡ [] → (xs ≡ []) × (ys ≡ [])
+append-none [] ys e = (refl, e)
+append-none (x ∷ xs) ys e = ((cc), (cc))
+
+-- items that are the same list by list
+pub items-same : (a b : Items) → a .packets ≡ b .packets → a .pairs1 ≡ b .pairs1 → a .pairs2 ≡ b .pairs2 → a ≡ b
+items-same a b e f g = by (a .packets) (a .pairs1) (a .pairs2) e f g
+  where
+    by : (p : List Packet) (q r : List Pair) → p ≡ b .packets → q ≡ b .pairs1 → r ≡ b .pairs2 → _≡_ {A = Items} (record { packets = p; pairs1 = q; pairs2 = r }) b
+    by p q r e f g = rw (e, f, g)
+
+-- items behind others are none only if both are
+items-none : (a b : Items) → andThen a b ≡ noItems → (a ≡ noItems) × (b ≡ noItems)
+items-none a b e =
+    let p = append-none (a .packets) (b .packets) (ap (λ (x : Items). x .packets) e) in
+    let q = append-none (a .pairs1) (b .pairs1) (ap (λ (x : Items). x .pairs1) e) in
+    let r = append-none (a .pairs2) (b .pairs2) (ap (λ (x : Items). x .pairs2) e) in
+    (items-same a noItems (p .0) (q .0) (r .0), items-same b noItems (p .1) (q .1) (r .1))
+
+-- allowed under less
+pub repad : {w w′ : CCDataWriter} {fs : List (List ℕ)} {is : Items} {pad less : Type 0} → (less → pad) → Follows w fs is w′ pad → Follows w fs is w′ less
+repad f t =
+    record {
+      calls = t .calls;
+      last = t .last;
+      frames = t .frames;
+      packets = t .packets;
+      pairs1 = t .pairs1;
+      pairs2 = t .pairs2;
+      allowed = λ p. t .allowed (f p);
+      rates = t .rates;
+      writes = t .writes;
+      quiet = t .quiet;
+      sound = t .sound;
+    }
+
+-- what one call does, and then those that follow
+abbrev joined : Run → Run → Run
+joined a b = record { frames = a .frames ++ b .frames; packets = a .packets ++ b .packets; pairs1 = a .pairs1 ++ b .pairs1; pairs2 = a .pairs2 ++ b .pairs2; last = b .last }
+
+-- calls, where the first leaves s₁
+run-next : (c : Call) (cs : List Call) (s s₁ : Mux) → call c s .last ≡ s₁ → run (c ∷ cs) s ≡ joined (call c s) (run cs s₁)
+unfolding run
+run-next c cs s s₁ e = ap (λ (x : Mux). joined (call c s) (run cs x)) e
+
+-- one call, and then those that follow
+pub follow : {w w₁ w₂ : CCDataWriter} {fs₁ fs₂ : List (List ℕ)} {is₁ is₂ : Items} {pad₁ pad₂ : Type 0}
+    → Moved w fs₁ is₁ w₁ pad₁ → Follows w₁ fs₂ is₂ w₂ pad₂ → Follows w (fs₁ ++ fs₂) (andThen is₁ is₂) w₂ (pad₁ × pad₂)
+follow (stays f i e) t = rw (f, i, ← e) (repad (λ p. p .1) t)
+follow {w} {w₁} {w₂} {fs₁} {fs₂} {is₁} {is₂} (moves c k) t =
+    let a : Run = call c (means w) in
+    let b : Run = run (t .calls) (means w₁) in
+    let e = run-next c (t .calls) (means w) (means w₁) (k .last) in
+    record {
+      calls = c ∷ t .calls;
+      last = rw e (t .last);
+      frames = rw (e, k .frames, t .frames);
+      packets = rw (e, k .packets, t .packets);
+      pairs1 = rw (e, others-append (a .pairs1) (b .pairs1), k .pairs1, t .pairs1);
+      pairs2 = rw (e, others-append (a .pairs2) (b .pairs2), k .pairs2, t .pairs2);
+      allowed = λ p. (k .allowed (p .0), rw (k .last) (t .allowed (p .1)));
+      rates = k .rates (t .calls) (t .rates);
+      writes = k .writes (t .calls) ∙ ap (λ n. length fs₁ + n) (t .writes) ∙ sym (length-append fs₁ fs₂);
+      quiet = λ z. let n = items-none is₁ is₂ z in k .quiet (n .0) (t .calls) (t .quiet (n .1));
+      sound = t .sound;
+    }

@@ -1,0 +1,127 @@
+-- A write that is accepted is a frame of the model, at the budgets of its rate, and any other changes nothing. Assumes nothing.
+use mathlib.Core.Path.{_≡_, refl, sym, ap, _∙_}
+use mathlib.Core.Bool.{Bool, true, false, cond, _||_}
+use mathlib.Core.List.{List, [], _∷_, _++_}
+use Prim.Native.Nat.{ℕ, _+_}
+use native.Mathlib.Omega.{arith}
+use lib.Dec.{eqb, ltb}
+use lib.ListN.{length, take, drop}
+use lib.Seq.{take-at}
+use contract.Lifetimes.{Lfts}
+use denote.Ref.{now}
+use Rattle.model.specs.Said.{Said, Outcome, gave, refused, after, mapped, saysWith, putInto, badRate}
+use Rattle.model.specs.Frame.{frameBytes}
+use Rattle.model.specs.Rate.{Budgets, budgets, pairsAt, triplesAt, mostTriples}
+use Rattle.model.specs.Mux.{Written, writeFrame, writeAt}
+use Rattle.model.specs.Run.{writes, call, others}
+use Rattle.model.proofs.Cases.{by-test}
+use Rattle.model.proofs.Rates.{accepted-rate}
+use Rattle.caption.specs.Answers.{saidRefusal, saidCounted}
+use Rattle.caption.proofs.Answers.{saidCounted-injective}
+use Rattle.caption.specs.declared.Refusal.{Refusal}
+use Rattle.caption.specs.declared.Refusal.the-variants.{BadRate, OutShort}
+use Rattle.caption.specs.declared.Counted.the-variants as counted
+use Rattle.caption.specs.declared.Framerate.{Framerate}
+use Rattle.writer.specs.Writer.{means, Ok, afterFrame}
+use Rattle.writer.specs.Calls.{budgetsAt, frameLength, written}
+use Rattle.writer.proofs.Valid.{valid-ok}
+use Rattle.writer.proofs.Means.{ok-frame}
+use Rattle.writer.proofs.Calls.{budgets-at}
+use Rattle.writer.proofs.Laws.{means-after, valid-after}
+use Rattle.writer.specs.declared.CCDataWriter.{CCDataWriter}
+use Rattle.writer.specs.declared.WriterCount.{WriterCount}
+use Rattle.theorems.specs.Items.{Items, noItems}
+use Rattle.theorems.specs.Allowed.{Lent, Write}
+use Rattle.theorems.specs.Writing.{frameIn, PaddingAt}
+use Rattle.theorems.proofs.Following.{Sound, Step, Moved, stays, moves}
+
+-- a rate is refused with 8, or it has budgets
+budgets-by : {P : Type 0} (n d : ℕ) → (budgets n d ≡ refused badRate → P) → ((b : Budgets) → budgets n d ≡ gave b → P) → P
+unfolding budgets
+budgets-by n d f g = by-test (eqb n 0 || (eqb (pairsAt n d) 0 || ltb mostTriples (triplesAt n d))) (λ e. f (rw e)) (λ e. g (record { pairs = pairsAt n d; triples = triplesAt n d }) (rw e))
+
+-- what the contract of a write says
+record Wrote (w : CCDataWriter) (rate : Framerate) (out end : List ℕ) (r : WriterCount) : Type 0 where
+  answer : saidCounted (r .answer) ≡ saysWith (λ _. frameLength rate w ∷ []) (written rate out w)
+  writer : r .writer ≡ after w (mapped (λ _. afterFrame (budgetsAt rate) w) (written rate out w))
+  output : end ≡ after out (mapped (λ x. x .out) (written rate out w))
+
+-- read off it
+wrote : (κs : Lfts 1) (w : CCDataWriter) (rate : Framerate) (out end : Lent) (r : WriterCount) → Write κs w rate out end r → Wrote w rate (now out) (now end) r
+wrote κs w rate out end r a = record { answer = a .0; writer = a .1 .0; output = a .1 .1 }
+
+module _ (w : CCDataWriter) (rate : Framerate) (out end : List ℕ) (r : WriterCount) (s : Sound w) (a : Wrote w rate out end r) where
+  -- a refusal writes no frame and changes nothing
+  refused-stays : (why : Refusal) → written rate out w ≡ refused (saidRefusal why) → Moved w (frameIn (r .answer) end) noItems (r .writer) (PaddingAt (r .answer) w)
+  refused-stays why e =
+      let k : r .answer ≡ counted.Refused why = saidCounted-injective (r .answer) (counted.Refused why) (rw e at (a .answer)) in
+      rw k (stays refl refl (rw e at (a .writer)))
+
+  module _ (b : Budgets) (given : budgets (rate .numer) (rate .denom) ≡ gave b) where
+    -- the frame
+    abbrev bytes : List ℕ
+    bytes = frameBytes (writeFrame b (means w) .frame)
+
+    -- these are the rate's budgets
+    at-rate : b ≡ budgetsAt rate
+    at-rate = budgets-at (rate .numer) (rate .denom) b given
+
+    -- the output is too short
+    short-stays : ltb (length out) (length bytes) ≡ true → Moved w (frameIn (r .answer) end) noItems (r .writer) (PaddingAt (r .answer) w)
+    unfolding written writeAt putInto
+    short-stays e = refused-stays (OutShort (length bytes)) (rw (s .valid, given, e))
+
+    module _ (room : ltb (length out) (length bytes) ≡ false) where
+      -- the write is accepted
+      writes-all : written rate out w ≡ gave (record { out = bytes ++ drop (length bytes) out; next = writeFrame b (means w) .next })
+      unfolding written writeAt putInto
+      writes-all = rw (s .valid, given, room)
+
+      -- the answer counts the frame's bytes
+      counts : r .answer ≡ counted.Count (length bytes)
+      unfolding frameLength
+      counts = saidCounted-injective (r .answer) (counted.Count (length bytes)) (rw (writes-all, ← at-rate) at (a .answer))
+
+      -- and they are the first of the output
+      first : take (length bytes) end ≡ bytes
+      first = rw (rw writes-all at (a .output)) (take-at bytes (drop (length bytes) out) (length bytes) refl)
+
+      -- the state once the frame has left
+      next : r .writer ≡ afterFrame b w
+      next = rw (writes-all, ← at-rate) at (a .writer)
+
+      -- it is within its limits
+      next-sound : Sound (afterFrame b w)
+      next-sound =
+          let ok = ok-frame w (valid-ok w (s .shaped) (s .valid)) b in
+          record { valid = valid-after w (s .shaped) (s .valid) b; shaped = record { packets = ok .queued .places; first = ok .first .flat; second = ok .second .flat } }
+
+      -- the frame of the model
+      frame-moves : Moved w (frameIn (r .answer) end) noItems (r .writer) (PaddingAt (r .answer) w)
+      unfolding call others means
+      frame-moves =
+          rw (counts, next)
+          (moves (writes b) (record {
+            last = sym (means-after w (s .shaped) (s .valid) b);
+            frames = rw first;
+            packets = refl;
+            pairs1 = refl;
+            pairs2 = refl;
+            allowed = λ pad. (accepted-rate (rate .numer) (rate .denom) given, pad);
+            rates = λ cs t. (accepted-rate (rate .numer) (rate .denom) given, t);
+            writes = λ cs. omega arith;
+            quiet = λ e cs t. t;
+            sound = next-sound;
+          }))
+
+  -- in all
+  write-by : Moved w (frameIn (r .answer) end) noItems (r .writer) (PaddingAt (r .answer) w)
+  unfolding written writeAt
+  write-by =
+      budgets-by (rate .numer) (rate .denom) (λ e. refused-stays BadRate (rw (s .valid, e)))
+      (λ b e. by-test (ltb (length out) (length (frameBytes (writeFrame b (means w) .frame)))) (short-stays b e) (frame-moves b e))
+
+-- by its contract
+pub write-moves : (κs : Lfts 1) (w : CCDataWriter) (rate : Framerate) (out end : Lent) (r : WriterCount) → Sound w → Write κs w rate out end r
+    → Moved w (frameIn (r .answer) (now end)) noItems (r .writer) (PaddingAt (r .answer) w)
+write-moves κs w rate out end r s a = write-by w rate (now out) (now end) r s (wrote κs w rate out end r a)

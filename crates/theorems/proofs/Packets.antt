@@ -1,0 +1,109 @@
+-- A packet that is pushed is a push of the model, or changes nothing. Assumes nothing.
+use mathlib.Core.Path.{_≡_, refl, sym, ap}
+use mathlib.Core.Bool.{true, false, not, _&&_}
+use mathlib.Core.List.{[], _∷_, _++_}
+use native.Mathlib.Omega.{arith}
+use lib.Dec.{eqb, leb}
+use lib.ListN.{length, length-set}
+use Rattle.model.specs.Said.{Outcome, gave, mapped, checked}
+use Rattle.model.specs.Packet.{Packet}
+use Rattle.model.specs.Mux.{Mux, withPackets, pushPacket, queued, mostPackets}
+use Rattle.model.specs.Run.{pushes, writes, call, others}
+use Rattle.model.proofs.Cases.{by-test, gives-at}
+use Rattle.model.proofs.Packets.{Valid, facts-valid}
+use Rattle.caption.specs.declared.Refusal.the-variants.{BadValue, Full}
+use Rattle.packet.specs.Packet.{packetOf, validDTVCC}
+use Rattle.packet.proofs.Holds.{within-facts, held-valid}
+use Rattle.packet.specs.declared.DTVCCPacket.{DTVCCPacket}
+use Rattle.writer.specs.Writer.{means, validWriter}
+use Rattle.writer.specs.Calls.{Answers, pushedPacket}
+use Rattle.writer.proofs.Packed.{means-packet, valid-packet}
+use Rattle.writer.specs.declared.CCDataWriter.{CCDataWriter}
+use Rattle.writer.specs.declared.WriterAnswer.{WriterAnswer}
+use Rattle.theorems.specs.Items.{Items, noItems, onePacket, ifNonempty}
+use Rattle.theorems.specs.Allowed.{PushPacket}
+use Rattle.theorems.specs.Writing.{Typed, ifAccepted}
+use Rattle.theorems.proofs.Following.{Sound, Moved, stays, moves}
+use Rattle.theorems.proofs.Answered.{given, stays-denied}
+
+-- a packet is an item
+packet-some : (p : Packet) → onePacket p ≡ noItems → ⊥
+packet-some p e = omega (arith, ap (λ (x : Items). length (x .packets)) e)
+
+-- a packet
+module _ (w : CCDataWriter) (d : DTVCCPacket) (r : WriterAnswer) (s : Sound w) (typed : Typed d) where
+  -- the packet that it holds
+  abbrev p : Packet
+  p = packetOf d
+
+  -- what the push comes to
+  abbrev comes : Outcome CCDataWriter
+  comes = checked (validWriter w && validDTVCC d) (mapped (λ _. pushedPacket p w) (pushPacket p (means w)))
+
+  module _ (a : Answers comes w r) where
+    -- an item of the answer
+    abbrev item : Items
+    item = ifAccepted (r .answer) (ifNonempty p)
+
+    module _ (v : validDTVCC d ≡ true) where
+      -- the packet is within the limits
+      held : Valid p
+      held = held-valid d (within-facts d v) (record { numbers = typed .numbers; sizes = typed .sizes; payload = typed .payload })
+
+      -- an empty one is not stored
+      moves-empty : eqb (length (p .blocks)) 0 ≡ true → Moved w [] item (r .writer) (Unit {0})
+      unfolding pushPacket pushedPacket
+      moves-empty e = let g = given a w (rw (s .valid, v, e)) in rw (g .0, e) (stays refl refl (g .1))
+
+      module _ (some : eqb (length (p .blocks)) 0 ≡ false) where
+        -- no place is left
+        moves-full : leb mostPackets (length (means w .packets)) ≡ true → Moved w [] item (r .writer) (Unit {0})
+        unfolding pushPacket queued
+        moves-full f = stays-denied a (ifNonempty p) Full (rw (s .valid, v, some, f))
+
+        module _ (room : leb mostPackets (length (means w .packets)) ≡ false) where
+          -- the packet stands last
+          put : pushPacket p (means w) ≡ gave (withPackets (means w .packets ++ (p ∷ [])) (means w))
+          unfolding pushPacket queued
+          put = rw (some, room)
+
+          -- the arrays keep their lengths
+          stored-sound : Sound (pushedPacket p w)
+          unfolding pushedPacket
+          stored-sound =
+              let h = s .shaped in
+              record {
+                valid = gives-at (λ (m : Mux). validWriter (pushedPacket p w) ≡ true) (pushPacket p (means w)) put (valid-packet w h (s .valid) p held);
+                shaped = rw some (record { packets = simp length-set (h .packets); first = h .first; second = h .second });
+              }
+
+          -- the packet is stored
+          moves-stored : Moved w [] item (r .writer) (Unit {0})
+          unfolding call others
+          moves-stored =
+              let g = given a (pushedPacket p w) (rw (s .valid, v, put)) in
+              rw (g .0, g .1, some)
+              (moves (pushes p) (record {
+                last = rw put (sym (gives-at (λ (m : Mux). means (pushedPacket p w) ≡ m) (pushPacket p (means w)) put (means-packet w (s .shaped) (s .valid) p held)));
+                frames = refl;
+                packets = rw (put, some);
+                pairs1 = refl;
+                pairs2 = refl;
+                allowed = λ _. facts-valid p held;
+                rates = λ cs t. t;
+                writes = λ cs. omega arith;
+                quiet = λ e cs t. absurd (packet-some p e);
+                sound = stored-sound;
+              }))
+
+    -- in all
+    moves-by : Moved w [] item (r .writer) (Unit {0})
+    moves-by =
+        by-test (validDTVCC d)
+        (λ v. by-test (eqb (length (p .blocks)) 0) (moves-empty v)
+        (λ some. by-test (leb mostPackets (length (means w .packets))) (moves-full v some) (moves-stored v some)))
+        (λ v. stays-denied a (ifNonempty p) BadValue (rw (s .valid, v)))
+
+  -- by its contract
+  pub packet-moves : PushPacket w d r → Moved w [] (ifAccepted (r .answer) (ifNonempty p)) (r .writer) (Unit {0})
+  packet-moves a = moves-by a
