@@ -5,3 +5,5 @@ pub mod Answered
 pub mod Packets
 pub mod Pairs
 pub mod Frames
+pub mod Sequences
+pub mod Trip

@@ -2,3 +2,4 @@ pub mod Items
 pub mod Allowed
 pub mod Writing
 pub mod Reading
+pub mod Trip

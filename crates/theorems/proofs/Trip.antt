@@ -1,0 +1,106 @@
+-- Demand 3 about the functions themselves: whatever code meets their contracts, what is pushed is drawn. Assumes nothing.
+use mathlib.Core.Path.{_≡_, refl, sym, ap, _∙_}
+use mathlib.Core.Bool.{true}
+use mathlib.Core.List.{List, []}
+use Prim.Native.Nat.{ℕ, _*_, _≤_}
+use native.Mathlib.Omega.{arith}
+use lib.ListN.{length, replicate}
+use Rattle.model.specs.Said as said
+use Rattle.model.specs.Demux.{freshDemux, turn608On, validDemux}
+use Rattle.model.specs.Mux.{Mux, freshMux}
+use Rattle.model.specs.Run as model
+use Rattle.model.specs.Run.{run, Read, readFrames}
+use Rattle.model.proofs.DemuxStates.{fresh-demux, on-valid}
+use Rattle.journey.proofs.Trip as journey
+use Rattle.caption.specs.declared.Refusal.{Refusal}
+use Rattle.caption.specs.declared.Answer.the-variants.{Accepted}
+use Rattle.caption.proofs.Answers.{saidAnswer-injective}
+use Rattle.turns.specs.Queue.{queueOf, pairsOf}
+use Rattle.slots.specs.Slot.{writtenBytes, writtenLength}
+use Rattle.writer.specs.Slots.{leftFrom}
+use Rattle.writer.specs.Writer.{means}
+use Rattle.writer.specs.Calls.{fresh}
+use Rattle.writer.proofs.Valid.{valid-ok}
+use Rattle.writer.proofs.Laws.{means-fresh}
+use Rattle.writer.proofs.Triples.{left-end}
+use Rattle.writer.specs.declared.CCDataWriter.{CCDataWriter}
+use Rattle.parser.specs.Means as parser
+use Rattle.parser.specs.Fresh as parser-fresh
+use Rattle.parser.proofs.Kept as kept
+use Rattle.parser.specs.declared.CCDataParser.{CCDataParser}
+use Rattle.parser.specs.declared.ParserAnswer.{ParserAnswer}
+use Rattle.theorems.specs.Items.{Items}
+use Rattle.theorems.specs.Allowed.{NewWriter, NewParser, HandleCea608}
+use Rattle.theorems.specs.Writing.{Calls, Padded, Drained}
+use Rattle.theorems.specs.Reading.{Feeds}
+use Rattle.theorems.specs.Trip.{RoundTrip}
+use Rattle.theorems.proofs.Following.{Sound, Follows, items-same}
+use Rattle.theorems.proofs.Sequences.{fresh-sound, follows}
+use Rattle.theorems.proofs.Feeding.{itemsRead, Fed, feeds}
+
+-- a state that is drained is so in the model
+pub drained : (w : CCDataWriter) → Sound w → Drained w → model.Drained (means w)
+unfolding means queueOf pairsOf
+drained w s d =
+    let h = valid-ok w (s .shaped) (s .valid) .held in
+    record {
+      no-packet = rw (d .no-packet);
+      no-triple = left-end (w .sent) (writtenBytes (w .sending)) (omega (arith, h .whole, d .no-byte));
+      no-pair1 = rw (d .no-pair1);
+      no-pair2 = rw (d .no-pair2);
+    }
+
+-- a fresh multiplexer is the model's
+pub means-new : (w : CCDataWriter) → NewWriter w → means w ≡ freshMux
+means-new w a = let e : w ≡ fresh = a in rw e means-fresh
+
+-- 608 is turned on in a fresh demultiplexer: it is accepted, and the state is within the limits and the model's
+record Ready (on : ParserAnswer) : Type 0 where
+  answer : on .answer ≡ Accepted
+  sound : kept.Sound (on .parser)
+  means : parser.means (on .parser) ≡ turn608On freshDemux
+
+ready : (p : CCDataParser) (on : ParserAnswer) → NewParser p → HandleCea608 p on → Ready on
+ready p on a h =
+    let e : p ≡ parser-fresh.fresh = a in
+    let c : parser.Answers (parser.saidCall p) (parser.afterCall p (parser.turnedOn p)) on = h in
+    let s : kept.Sound p = rw e kept.fresh-sound in
+    let t : on .parser ≡ parser.turnedOn p = rw (s .valid) at (c .parser) in
+    record {
+      answer = saidAnswer-injective (on .answer) Accepted (rw (s .valid) at (c .answer));
+      sound = rw t (kept.turned-sound p s);
+      means = rw t (kept.means-turned p ∙ ap (λ (x : CCDataParser). turn608On (parser.means x)) e ∙ ap turn608On kept.means-fresh);
+    }
+
+-- Calls from a fresh multiplexer that end drained: what the model's demultiplexer reads in their frames.
+pub record Carried (frames : List (List ℕ)) (accepted : Items) (o : Read) : Type 0 where
+  pub answers : o .answers ≡ replicate (length frames) (said.accepted [])
+  pub exactly : itemsRead o ≡ accepted
+
+-- it is what was accepted
+pub carried : {w₀ w : CCDataWriter} {frames : List (List ℕ)} {accepted : Items} → NewWriter w₀ → (c : Calls w₀ frames accepted w) → Padded c → Drained w
+    → Carried frames accepted (readFrames frames (turn608On freshDemux))
+carried {w₀} {w} {frames} {accepted} new c padded empty =
+    let f = follows c (fresh-sound w₀ new) in
+    let e = means-new w₀ new in
+    let last : run (f .calls) freshMux .last ≡ means w = rw e at (f .last) in
+    let made : run (f .calls) freshMux .frames ≡ frames = rw e at (f .frames) in
+    let t = journey.round-trip (f .calls) (rw e at (f .allowed padded)) (rw last (drained w (f .sound) empty)) in
+    rw (← made)
+    (record {
+      answers = t .answers;
+      exactly = items-same _ accepted (t .packets ∙ (rw e at (f .packets))) (t .pairs1 ∙ (rw e at (f .pairs1))) (t .pairs2 ∙ (rw e at (f .pairs2)));
+    })
+
+-- "Start a multiplexer fresh; push and write in any order, never flush, an accepted rate and at least one padding on at each write. Once drained, a
+-- fresh demultiplexer with 608 on, fed every frame and emptied after each, has given exactly the accepted nonempty packets (sequence number,
+-- block numbers, payload bytes) and each field's pairs other than 0x80,0x80, in order, once each."
+pub round-trip : {w₀ w : CCDataWriter} {p₀ p : CCDataParser} {frames : List (List ℕ)} {accepted given : Items} {on : ParserAnswer} {refused : List Refusal}
+    → NewWriter w₀ → (c : Calls w₀ frames accepted w) → Padded c → Drained w
+    → NewParser p₀ → HandleCea608 p₀ on → Feeds (on .parser) frames refused given p
+    → RoundTrip on refused given accepted
+round-trip {frames} {on} new c padded empty newParser turned read =
+    let y = ready _ on newParser turned in
+    let t = carried new c padded empty in
+    let d = feeds read (y .sound) (rw (y .means) (on-valid freshDemux fresh-demux)) (rw (y .means) (t .answers)) in
+    record { turned-on = y .answer; no-refusal = d .no-refusal; exactly = d .items ∙ (rw (y .means) (t .exactly)) }
