@@ -13,7 +13,7 @@ use Rattle.model.specs.Said.{Said, Outcome, gave, refused, after, mapped, saysW
 use Rattle.model.specs.Frame.{frameBytes}
 use Rattle.model.specs.Rate.{Budgets, budgets, pairsAt, triplesAt, mostTriples}
 use Rattle.model.specs.Mux.{Written, writeFrame, writeAt}
-use Rattle.model.specs.Run.{writes, call, others}
+use Rattle.model.specs.Run.{writes, call, others, Accepted}
 use Rattle.model.proofs.Cases.{by-test}
 use Rattle.model.proofs.Rates.{accepted-rate}
 use Rattle.caption.specs.Answers.{saidRefusal, saidCounted}
@@ -50,12 +50,16 @@ record Wrote (w : CCDataWriter) (rate : Framerate) (out end : List ℕ) (r : Wri
 wrote : (κs : Lfts 1) (w : CCDataWriter) (rate : Framerate) (out end : Lent) (r : WriterCount) → Write κs w rate out end r → Wrote w rate (now out) (now end) r
 wrote κs w rate out end r a = record { answer = a .0; writer = a .1 .0; output = a .1 .1 }
 
+-- a write is refused, and changes nothing; or it is accepted, and its frame is the model's at the rate's budgets
+pub data Writes (w : CCDataWriter) (end : List ℕ) (r : WriterCount) : Type 0 where
+  no-frame : (why : Refusal) → r .answer ≡ counted.Refused why → r .writer ≡ w → Writes w end r
+  one-frame : (b : Budgets) → Accepted b → r .answer ≡ counted.Count (length (frameBytes (writeFrame b (means w) .frame)))
+      → take (length (frameBytes (writeFrame b (means w) .frame))) end ≡ frameBytes (writeFrame b (means w) .frame) → r .writer ≡ afterFrame b w → Writes w end r
+
 module _ (w : CCDataWriter) (rate : Framerate) (out end : List ℕ) (r : WriterCount) (s : Sound w) (a : Wrote w rate out end r) where
-  -- a refusal writes no frame and changes nothing
-  refused-stays : (why : Refusal) → written rate out w ≡ refused (saidRefusal why) → Moved w (frameIn (r .answer) end) noItems (r .writer) (PaddingAt (r .answer) w)
-  refused-stays why e =
-      let k : r .answer ≡ counted.Refused why = saidCounted-injective (r .answer) (counted.Refused why) (rw e at (a .answer)) in
-      rw k (stays refl refl (rw e at (a .writer)))
+  -- a refusal
+  refuses : (why : Refusal) → written rate out w ≡ refused (saidRefusal why) → Writes w end r
+  refuses why e = no-frame why (saidCounted-injective (r .answer) (counted.Refused why) (rw e at (a .answer))) (rw e at (a .writer))
 
   module _ (b : Budgets) (given : budgets (rate .numer) (rate .denom) ≡ gave b) where
     -- the frame
@@ -67,61 +71,57 @@ module _ (w : CCDataWriter) (rate : Framerate) (out end : List ℕ) (r : WriterC
     at-rate = budgets-at (rate .numer) (rate .denom) b given
 
     -- the output is too short
-    short-stays : ltb (length out) (length bytes) ≡ true → Moved w (frameIn (r .answer) end) noItems (r .writer) (PaddingAt (r .answer) w)
+    refuses-short : ltb (length out) (length bytes) ≡ true → Writes w end r
     unfolding written writeAt putInto
-    short-stays e = refused-stays (OutShort (length bytes)) (rw (s .valid, given, e))
+    refuses-short e = refuses (OutShort (length bytes)) (rw (s .valid, given, e))
 
     module _ (room : ltb (length out) (length bytes) ≡ false) where
       -- the write is accepted
-      writes-all : written rate out w ≡ gave (record { out = bytes ++ drop (length bytes) out; next = writeFrame b (means w) .next })
+      accepts : written rate out w ≡ gave (record { out = bytes ++ drop (length bytes) out; next = writeFrame b (means w) .next })
       unfolding written writeAt putInto
-      writes-all = rw (s .valid, given, room)
+      accepts = rw (s .valid, given, room)
 
-      -- the answer counts the frame's bytes
-      counts : r .answer ≡ counted.Count (length bytes)
+      -- the answer counts the frame's bytes, and they are the first of the output
+      writes-frame : Writes w end r
       unfolding frameLength
-      counts = saidCounted-injective (r .answer) (counted.Count (length bytes)) (rw (writes-all, ← at-rate) at (a .answer))
-
-      -- and they are the first of the output
-      first : take (length bytes) end ≡ bytes
-      first = rw (rw writes-all at (a .output)) (take-at bytes (drop (length bytes) out) (length bytes) refl)
-
-      -- the state once the frame has left
-      next : r .writer ≡ afterFrame b w
-      next = rw (writes-all, ← at-rate) at (a .writer)
-
-      -- it is within its limits
-      next-sound : Sound (afterFrame b w)
-      next-sound =
-          let ok = ok-frame w (valid-ok w (s .shaped) (s .valid)) b in
-          record { valid = valid-after w (s .shaped) (s .valid) b; shaped = record { packets = ok .queued .places; first = ok .first .flat; second = ok .second .flat } }
-
-      -- the frame of the model
-      frame-moves : Moved w (frameIn (r .answer) end) noItems (r .writer) (PaddingAt (r .answer) w)
-      unfolding call others means
-      frame-moves =
-          rw (counts, next)
-          (moves (writes b) (record {
-            last = sym (means-after w (s .shaped) (s .valid) b);
-            frames = rw first;
-            packets = refl;
-            pairs1 = refl;
-            pairs2 = refl;
-            allowed = λ pad. (accepted-rate (rate .numer) (rate .denom) given, pad);
-            rates = λ cs t. (accepted-rate (rate .numer) (rate .denom) given, t);
-            writes = λ cs. omega arith;
-            quiet = λ e cs t. t;
-            sound = next-sound;
-          }))
+      writes-frame =
+          one-frame b (accepted-rate (rate .numer) (rate .denom) given)
+          (saidCounted-injective (r .answer) (counted.Count (length bytes)) (rw (accepts, ← at-rate) at (a .answer)))
+          (rw (rw accepts at (a .output)) (take-at bytes (drop (length bytes) out) (length bytes) refl))
+          (rw (accepts, ← at-rate) at (a .writer))
 
   -- in all
-  write-by : Moved w (frameIn (r .answer) end) noItems (r .writer) (PaddingAt (r .answer) w)
+  writes-by : Writes w end r
   unfolding written writeAt
-  write-by =
-      budgets-by (rate .numer) (rate .denom) (λ e. refused-stays BadRate (rw (s .valid, e)))
-      (λ b e. by-test (ltb (length out) (length (frameBytes (writeFrame b (means w) .frame)))) (short-stays b e) (frame-moves b e))
+  writes-by =
+      budgets-by (rate .numer) (rate .denom) (λ e. refuses BadRate (rw (s .valid, e)))
+      (λ b e. by-test (ltb (length out) (length (frameBytes (writeFrame b (means w) .frame)))) (refuses-short b e) (writes-frame b e))
 
 -- by its contract
-pub write-moves : (κs : Lfts 1) (w : CCDataWriter) (rate : Framerate) (out end : Lent) (r : WriterCount) → Sound w → Write κs w rate out end r
-    → Moved w (frameIn (r .answer) (now end)) noItems (r .writer) (PaddingAt (r .answer) w)
-write-moves κs w rate out end r s a = write-by w rate (now out) (now end) r s (wrote κs w rate out end r a)
+pub write-does : (κs : Lfts 1) (w : CCDataWriter) (rate : Framerate) (out end : Lent) (r : WriterCount) → Sound w → Write κs w rate out end r → Writes w (now end) r
+write-does κs w rate out end r s a = writes-by w rate (now out) (now end) r s (wrote κs w rate out end r a)
+
+-- a frame leaves a state within its limits
+next-sound : (w : CCDataWriter) (b : Budgets) → Sound w → Sound (afterFrame b w)
+next-sound w b s =
+    let ok = ok-frame w (valid-ok w (s .shaped) (s .valid)) b in
+    record { valid = valid-after w (s .shaped) (s .valid) b; shaped = record { packets = ok .queued .places; first = ok .first .flat; second = ok .second .flat } }
+
+-- so a write is one of the model, or changes nothing
+pub write-moves : (w : CCDataWriter) (end : List ℕ) (r : WriterCount) → Sound w → Writes w end r → Moved w (frameIn (r .answer) end) noItems (r .writer) (PaddingAt (r .answer) w)
+unfolding call others means
+write-moves w end r s (no-frame why k e) = rw k (stays refl refl e)
+write-moves w end r s (one-frame b accepted counts first next) =
+    rw (counts, next)
+    (moves (writes b) (record {
+      last = sym (means-after w (s .shaped) (s .valid) b);
+      frames = rw first;
+      packets = refl;
+      pairs1 = refl;
+      pairs2 = refl;
+      allowed = λ pad. (accepted, pad);
+      rates = λ cs t. (accepted, t);
+      writes = λ cs. omega arith;
+      quiet = λ e cs t. t;
+      sound = next-sound w b s;
+    }))

@@ -7,3 +7,5 @@ pub mod Pairs
 pub mod Frames
 pub mod Sequences
 pub mod Trip
+pub mod Distinct
+pub mod Bounds

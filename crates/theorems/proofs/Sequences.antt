@@ -2,6 +2,7 @@
 use mathlib.Core.Path.{_≡_, refl}
 use mathlib.Core.List.{List, _++_}
 use Prim.Native.Nat.{ℕ}
+use denote.Ref.{now}
 use Rattle.writer.specs.Calls.{fresh}
 use Rattle.writer.proofs.Laws.{valid-fresh}
 use Rattle.writer.specs.declared.CCDataWriter.{CCDataWriter}
@@ -12,7 +13,7 @@ use Rattle.theorems.proofs.Following.{Sound, Follows, Moved, moved-soun
 use Rattle.theorems.proofs.Answered.{pads-moves}
 use Rattle.theorems.proofs.Packets.{packet-moves}
 use Rattle.theorems.proofs.Pairs.{pair-moves}
-use Rattle.theorems.proofs.Frames.{write-moves}
+use Rattle.theorems.proofs.Frames.{write-does, write-moves}
 
 -- a fresh state is within its limits
 pub fresh-sound : (w : CCDataWriter) → NewWriter w → Sound w
@@ -31,4 +32,4 @@ follows {w} (push-packet d r t a c) s = then s (packet-moves w d r s t a) (λ k.
 follows {w} (push-cea608 x r a c) s = then s (pair-moves w s x r a) (λ k. follows c k)
 follows {w} (set-cea608-padding on r a c) s = then s (pads-moves w r on (w .«output_padding») s a) (λ k. follows c k)
 follows {w} (set-padding on r a c) s = then s (pads-moves w r (w .«output_cea608_padding») on s a) (λ k. follows c k)
-follows {w} (write κs rate out end r a c) s = let m = write-moves κs w rate out end r s a in follow m (follows c (moved-sound m s))
+follows {w} (write κs rate out end r a c) s = let m = write-moves w (now end) r s (write-does κs w rate out end r s a) in follow m (follows c (moved-sound m s))

@@ -3,3 +3,4 @@ pub mod Allowed
 pub mod Writing
 pub mod Reading
 pub mod Trip
+pub mod Bounds

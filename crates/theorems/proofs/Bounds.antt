@@ -1,0 +1,114 @@
+-- How soon what is queued leaves, for any sequence of calls that the contracts allow. Assumes nothing.
+use mathlib.Core.Path.{_≡_, refl, sym, ap, _∙_}
+use mathlib.Core.Bool.{false≢true}
+use mathlib.Core.List.{List, [], _∷_, _++_}
+use Prim.Native.Nat.{ℕ, _+_, _-_, _*_, _/_, _≤_}
+use native.Mathlib.Omega.{arith}
+use lib.ListN.{length, take, drop, length-map}
+use lib.Seq.{length-take-le}
+use contract.Lifetimes.{Lfts}
+use denote.Ref.{now}
+use Rattle.model.specs.Frame as model
+use Rattle.model.specs.Frame.{Triple, frameBytes, triplesIn}
+use Rattle.model.specs.Rate.{Budgets}
+use Rattle.model.specs.Mux.{Mux, freshMux, writeFrame}
+use Rattle.model.specs.Run as runs
+use Rattle.model.specs.Run.{run}
+use Rattle.model.proofs.Frames.{unflat}
+use Rattle.journey.specs.Bounds as journey
+use Rattle.journey.specs.Bounds.{Field, one, two, Left}
+use Rattle.journey.proofs.Leaves as leaves
+use Rattle.journey.proofs.Four as four
+use Rattle.journey.proofs.Drains as drains
+use Rattle.caption.specs.declared.Counted.the-variants as counted
+use Rattle.caption.specs.declared.Framerate.{Framerate}
+use Rattle.turns.specs.Queue.{queueOf}
+use Rattle.turns.proofs.Queues.{queue-length}
+use Rattle.slots.specs.Slot.{slotPacket, writtenBytes, writtenLength}
+use Rattle.writer.specs.Writer.{means, Ok}
+use Rattle.writer.proofs.Valid.{valid-ok}
+use Rattle.writer.proofs.Triples.{left-length}
+use Rattle.writer.proofs.Laws.{means-after}
+use Rattle.writer.specs.declared.CCDataWriter.{CCDataWriter}
+use Rattle.writer.specs.declared.WriterCount.{WriterCount}
+use Rattle.theorems.specs.Items.{Items, noItems}
+use Rattle.theorems.specs.Allowed.{Lent, NewWriter, Write}
+use Rattle.theorems.specs.Writing.{Calls, Padded, Drained}
+use Rattle.theorems.specs.Bounds.{queueAt, unsentOf, SendsFour}
+use Rattle.theorems.proofs.Following.{Sound, Follows}
+use Rattle.theorems.proofs.Frames.{Writes, no-frame, one-frame, write-does}
+use Rattle.theorems.proofs.Sequences.{fresh-sound, follows}
+use Rattle.theorems.proofs.Trip.{means-new}
+
+-- the triples in a frame's bytes are the frame's
+frame-triples : (f : model.Frame) → triplesIn (drop 2 (frameBytes f)) ≡ f .triples
+unfolding frameBytes
+frame-triples f = unflat (f .triples)
+
+-- a field's queue is the model's
+queue-means : (f : Field) (w : CCDataWriter) → journey.queueOf f (means w) ≡ queueAt f w
+unfolding means
+queue-means one w = refl
+queue-means two w = refl
+
+-- a state that is drained in the model is drained
+drained-back : (w : CCDataWriter) → Sound w → runs.Drained (means w) → Drained w
+unfolding means
+drained-back w s d =
+    let ok = valid-ok w (s .shaped) (s .valid) in
+    let h = ok .held in
+    let n : length (means w .packets) ≡ w .«packet_count» =
+    length-map (take (w .«packet_count») (w .packets)) slotPacket ∙ length-take-le (w .«packet_count») (w .packets) (omega (arith, ok .queued .few, ok .queued .places)) in
+    record {
+      no-packet = sym n ∙ ap length (d .no-packet);
+      no-byte = omega (arith, left-length (w .sending) (w .sent) h, ap length (d .no-triple), h .even, h .within);
+      no-pair1 = sym (queue-length (w .field1) (ok .first)) ∙ ap length (d .no-pair1);
+      no-pair2 = sym (queue-length (w .field2) (ok .second)) ∙ ap length (d .no-pair2);
+    }
+
+-- a write that counts n bytes sends what the model's sends
+four-by : (w : CCDataWriter) (end : List ℕ) (r : WriterCount) → Sound w → (n : ℕ) → r .answer ≡ counted.Count n
+    → ((b : Budgets) → runs.Accepted b → journey.SendsFour (means w) (writeFrame b (means w))) → Writes w end r → SendsFour w (take n end) (r .writer)
+four-by w end r s n e f (no-frame why k same) = absurd (false≢true (cc))
+four-by w end r s n e f (one-frame b accepted counts first next) =
+    let m = f b accepted in
+    let z : n ≡ length (frameBytes (writeFrame b (means w) .frame)) = (cc) in
+    rw (next, z, first)
+    (record {
+      four = rw (frame-triples (writeFrame b (means w) .frame)) (m .four);
+      no-other = rw (frame-triples (writeFrame b (means w) .frame), means-after w (s .shaped) (s .valid) b) (m .no-other);
+    })
+
+-- a state that calls of a fresh multiplexer have reached
+module _ {w₀ w : CCDataWriter} {fs₀ : List (List ℕ)} {is₀ : Items} (new : NewWriter w₀) (before : Calls w₀ fs₀ is₀ w) where
+  -- these calls in the model
+  abbrev reached : Follows w₀ fs₀ is₀ w (Padded before)
+  reached = follows before (fresh-sound w₀ new)
+
+  -- "The pair at place i of its field leaves within 2i accepted writes": whatever is pushed or switched between them, once 2i writes or more have
+  -- been accepted the first i places of what was queued have gone.
+  pub pair-leaves : {w′ : CCDataWriter} {fs : List (List ℕ)} {is : Items} → Calls w fs is w′ → (f : Field) (i : ℕ) → i ≤ length (queueAt f w) → 2 * i ≤ length fs
+      → Left i (queueAt f w) (queueAt f w′)
+  pair-leaves {w′} c f i there writes =
+      let k = follows c (reached .sound) in
+      rw (← queue-means f w, ← queue-means f w′, ← k .last) (leaves.leaves f (k .calls) (means w) i (k .rates) (rw (queue-means f w) there) (omega (arith, k .writes)))
+
+  -- "each sends at least four packet triples or all that remain"
+  pub sends-four : (κs : Lfts 1) (rate : Framerate) (out end : Lent) (r : WriterCount) → Write κs w rate out end r
+      → (n : ℕ) → r .answer ≡ counted.Count n → SendsFour w (take n (now end)) (r .writer)
+  sends-four κs rate out end r a n e =
+      let k = reached in
+      let last : run (k .calls) freshMux .last ≡ means w = rw (means-new w₀ new) at (k .last) in
+      four-by w (now end) r (k .sound) n e (λ b accepted. rw last at (four.four (k .calls) b accepted)) (write-does κs w rate out end r (k .sound) a)
+
+  -- so many accepted writes drain a multiplexer, if nothing more is accepted: twice as many as the pairs of either field, and a quarter of the
+  -- packet triples
+  pub writes-drain : {w′ : CCDataWriter} {fs : List (List ℕ)} → Calls w fs noItems w′
+      → 2 * w .field1 .count ≤ length fs → 2 * w .field2 .count ≤ length fs → unsentOf w ≤ 4 * length fs → Drained w′
+  writes-drain {w′} c k₁ k₂ u =
+      let ok = valid-ok w (reached .sound .shaped) (reached .sound .valid) in
+      let k = follows c (reached .sound) in
+      let n₁ = ap length (queue-means one w) ∙ queue-length (w .field1) (ok .first) in
+      let n₂ = ap length (queue-means two w) ∙ queue-length (w .field2) (ok .second) in
+      drained-back w′ (k .sound)
+      (rw (← k .last) (drains.drains (k .calls) (means w) (k .quiet refl) (k .rates) (omega (arith, n₁, k .writes)) (omega (arith, n₂, k .writes)) (omega (arith, k .writes))))
