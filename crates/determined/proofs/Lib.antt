@@ -1,0 +1,13 @@
+pub mod Ways
+pub mod Caption
+pub mod Service
+pub mod Packet
+pub mod Slots
+pub mod Triples
+pub mod Gather
+pub mod Parser
+pub mod Frames
+pub mod Turns
+pub mod Writer
+pub mod Records
+pub mod Lines

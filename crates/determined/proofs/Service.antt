@@ -1,0 +1,105 @@
+-- The block's functions. Assumes nothing.
+use mathlib.Core.Path.{_≡_, sym, _∙_}
+use mathlib.Core.Bool.{Bool}
+use mathlib.Core.List.{List}
+use Prim.Native.Nat.{ℕ}
+use contract.Lifetimes.{Lfts}
+use denote.Ref.{RefT, now}
+use Rattle.model.specs.Said.{Outcome}
+use Rattle.caption.proofs.Answers.{saidRefusal-injective, saidAnswer-injective, saidCounted-injective, saidTruth-injective}
+use Rattle.caption.specs.declared.Answer.{Answer}
+use Rattle.caption.specs.declared.Counted.{Counted}
+use Rattle.service.specs.Service.{Answers, Writes}
+use Rattle.service.specs.declared.Service.{Service}
+use Rattle.service.specs.declared.ServiceAnswer.{ServiceAnswer}
+use Rattle.service.proofs.put_bytes.Reads as put_bytes
+use Rattle.service.proofs.read_head.Reads as read_head
+use Rattle.service.proofs.short_of.Reads as short_of
+use Rattle.service.proofs.payload_of.Reads as payload_of
+use Rattle.service.proofs.block_length.Reads as block_length
+use Rattle.service.proofs.put_header.Reads as put_header
+use Rattle.service.proofs.Service.new.Reads as new
+use Rattle.service.proofs.Service.is_valid.Reads as is_valid
+use Rattle.service.proofs.Service.number.Reads as number
+use Rattle.service.proofs.Service.free_space.Reads as free_space
+use Rattle.service.proofs.Service.len.Reads as len
+use Rattle.service.proofs.Service.is_empty.Reads as is_empty
+use Rattle.service.proofs.Service.push_code.Reads as push_code
+use Rattle.service.proofs.Service.parse.Reads as parse
+use Rattle.service.proofs.Service.write.Reads as write
+use Rattle.determined.specs.Determines.{Determines, DeterminesLent, DeterminesPart}
+use Rattle.determined.proofs.Ways.{equal, said, filled, part-equal, two}
+
+module _ {A E : Type 0} where
+  -- an answer and a block
+  pub answers : {o : A → Outcome Service} {beside : A → Service} → Determines (λ (a : A) (r : ServiceAnswer) (e : E). Answers (o a) (beside a) r)
+  answers =
+      record {
+        result = λ a r q e f h k. two (λ (x : Answer) (s : Service). record { answer = x; service = s })
+            (saidAnswer-injective (r .answer) (q .answer) (h .answer ∙ sym (k .answer))) (h .service ∙ sym (k .service));
+      }
+
+  -- bytes written to a lent output, and how many
+  pub writes : {valid : A → Bool} {bytes before : A → List ℕ} {lent : E → RefT (List ℕ)} → DeterminesLent lent (λ (a : A) (r : Counted) (e : E). Writes (valid a) (bytes a) (before a) r (now (lent e)))
+  writes =
+      record { result = λ a r q e f h k. saidCounted-injective r q (h .answer ∙ sym (k .answer)); contents = λ a r q e f h k. h .output ∙ sym (k .output) }
+
+-- `put_bytes(dst, at, src)`
+pub put-bytes : (κs : Lfts 2) → DeterminesLent (λ e. e .0) (put_bytes.Post κs)
+put-bytes κs = filled
+
+-- `read_head(data, at)`
+pub read-head : (κs : Lfts 1) → Determines (read_head.Post κs)
+read-head κs = equal
+
+-- `short_of(head, present)`
+pub short-of : Determines (short_of.Post (tt {0}))
+short-of = said saidRefusal-injective
+
+-- `payload_of(data)`
+pub payload-of : (κs : Lfts 1) → DeterminesPart (payload_of.Post κs)
+payload-of κs = part-equal
+
+-- `block_length(number, size)`
+pub block-length : Determines (block_length.Post (tt {0}))
+block-length = equal
+
+-- `put_header(out, at, number, size)`
+pub put-header : (κs : Lfts 1) → DeterminesLent (λ e. e .0) (put_header.Post κs)
+put-header κs = filled
+
+-- `Service::new(service_no)`
+pub Service-new : Determines (new.Post (tt {0}))
+Service-new = answers
+
+-- `service.is_valid()`
+pub Service-is-valid : Determines (is_valid.Post (tt {0}))
+Service-is-valid = equal
+
+-- `service.number()`
+pub Service-number : Determines (number.Post (tt {0}))
+Service-number = said saidCounted-injective
+
+-- `service.free_space()`
+pub Service-free-space : Determines (free_space.Post (tt {0}))
+Service-free-space = said saidCounted-injective
+
+-- `service.len()`
+pub Service-len : Determines (len.Post (tt {0}))
+Service-len = said saidCounted-injective
+
+-- `service.is_empty()`
+pub Service-is-empty : Determines (is_empty.Post (tt {0}))
+Service-is-empty = said saidTruth-injective
+
+-- `service.push_code(code)`
+pub Service-push-code : (κs : Lfts 1) → Determines (push_code.Post κs)
+Service-push-code κs = answers
+
+-- `Service::parse(data)`
+pub Service-parse : (κs : Lfts 1) → Determines (parse.Post κs)
+Service-parse κs = answers
+
+-- `service.write(out)`
+pub Service-write : (κs : Lfts 1) → DeterminesLent (λ e. e .1 .0) (write.Post κs)
+Service-write κs = writes

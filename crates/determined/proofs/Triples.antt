@@ -1,0 +1,23 @@
+-- The functions that plan a frame and list its pairs. Assumes nothing.
+use mathlib.Core.Path.{_≡_, sym, ap, _∙_}
+use mathlib.Core.List.{List}
+use Prim.Native.Nat.{ℕ}
+use contract.Lifetimes.{Lfts}
+use denote.Ref.{RefT, now}
+use Rattle.triples.specs.Pairs.{Listing}
+use Rattle.triples.proofs.plan_of.Reads as plan_of
+use Rattle.triples.proofs.list_by.Reads as list_by
+use Rattle.determined.specs.Determines.{Determines, DeterminesLent}
+use Rattle.determined.proofs.Ways.{equal}
+
+-- pairs laid into a lent list, and how many
+lists : {A E : Type 0} {list : A → Listing} {lent : E → RefT (List ℕ)} → DeterminesLent lent (λ (a : A) (r : ℕ) (e : E). record { count = r; places = now (lent e) } ≡ list a)
+lists = record { result = λ a r q e f h k. ap (λ (x : Listing). x .count) (h ∙ sym k); contents = λ a r q e f h k. ap (λ (x : Listing). x .places) (h ∙ sym k) }
+
+-- `plan_of(frame)`
+pub plan-of : (κs : Lfts 1) → Determines (plan_of.Post κs)
+plan-of κs = equal
+
+-- `list_by(lists, on, pairs, frame)`
+pub list-by : (κs : Lfts 2) → DeterminesLent (λ e. e .1 .1 .0) (list_by.Post κs)
+list-by κs = lists
