@@ -37,8 +37,7 @@ use Rattle.theorems.specs.Writing.{Calls, Padded, Drained}
 use Rattle.theorems.specs.Bounds.{queueAt, unsentOf, SendsFour}
 use Rattle.theorems.proofs.Following.{Sound, Follows}
 use Rattle.theorems.proofs.Frames.{Writes, no-frame, one-frame, write-does}
-use Rattle.theorems.proofs.Sequences.{fresh-sound, follows}
-use Rattle.theorems.proofs.Trip.{means-new}
+use Rattle.theorems.proofs.Sequences.{follows, from-fresh}
 
 -- the triples in a frame's bytes are the frame's
 frame-triples : (f : model.Frame) → triplesIn (drop 2 (frameBytes f)) ≡ f .triples
@@ -82,8 +81,8 @@ four-by w end r s n e f (one-frame b accepted counts first next) =
 -- a state that calls of a fresh multiplexer have reached
 module _ {w₀ w : CCDataWriter} {fs₀ : List (List ℕ)} {is₀ : Items} (new : NewWriter w₀) (before : Calls w₀ fs₀ is₀ w) where
   -- these calls in the model
-  abbrev reached : Follows w₀ fs₀ is₀ w (Padded before)
-  reached = follows before (fresh-sound w₀ new)
+  abbrev reached : Follows freshMux fs₀ is₀ w (Padded before)
+  reached = from-fresh new before
 
   -- "The pair at place i of its field leaves within 2i accepted writes": whatever is pushed or switched between them, once 2i writes or more have
   -- been accepted the first i places of what was queued have gone.
@@ -98,8 +97,7 @@ module _ {w₀ w : CCDataWriter} {fs₀ : List (List ℕ)} {is₀ : Items} (new 
       → (n : ℕ) → r .answer ≡ counted.Count n → SendsFour w (take n (now end)) (r .writer)
   sends-four κs rate out end r a n e =
       let k = reached in
-      let last : run (k .calls) freshMux .last ≡ means w = rw (means-new w₀ new) at (k .last) in
-      four-by w (now end) r (k .sound) n e (λ b accepted. rw last at (four.four (k .calls) b accepted)) (write-does κs w rate out end r (k .sound) a)
+      four-by w (now end) r (k .sound) n e (λ b accepted. rw (k .last) at (four.four (k .calls) b accepted)) (write-does κs w rate out end r (k .sound) a)
 
   -- so many accepted writes drain a multiplexer, if nothing more is accepted: twice as many as the pairs of either field, and a quarter of the
   -- packet triples

@@ -45,22 +45,22 @@ pub moved-sound : {w w′ : CCDataWriter} {fs : List (List ℕ)} {is : Items} {p
 moved-sound (stays f i e) s = rw e s
 moved-sound (moves c k) s = k .sound
 
--- calls of the model from the multiplexer that w is to the one that w′ is, with the frames fs and the items is, allowed if `pad` holds
-pub record Follows (w : CCDataWriter) (fs : List (List ℕ)) (is : Items) (w′ : CCDataWriter) (pad : Type 0) : Type 0 where
+-- calls of the model from s to the multiplexer that w is, with the frames fs and the items is, allowed if `pad` holds
+pub record Follows (s : Mux) (fs : List (List ℕ)) (is : Items) (w : CCDataWriter) (pad : Type 0) : Type 0 where
   pub calls : List Call
-  pub last : run calls (means w) .last ≡ means w′
-  pub frames : run calls (means w) .frames ≡ fs
-  pub packets : run calls (means w) .packets ≡ is .packets
-  pub pairs1 : others (run calls (means w) .pairs1) ≡ is .pairs1
-  pub pairs2 : others (run calls (means w) .pairs2) ≡ is .pairs2
-  pub allowed : pad → Allowed calls (means w)
+  pub last : run calls s .last ≡ means w
+  pub frames : run calls s .frames ≡ fs
+  pub packets : run calls s .packets ≡ is .packets
+  pub pairs1 : others (run calls s .pairs1) ≡ is .pairs1
+  pub pairs2 : others (run calls s .pairs2) ≡ is .pairs2
+  pub allowed : pad → Allowed calls s
   pub rates : AtRates calls
   pub writes : writesIn calls ≡ length fs
   pub quiet : is ≡ noItems → NoPush calls
-  pub sound : Sound w′
+  pub sound : Sound w
 
 -- no call
-pub follows-none : (w : CCDataWriter) → Sound w → Follows w [] noItems w (Unit {0})
+pub follows-none : (w : CCDataWriter) → Sound w → Follows (means w) [] noItems w (Unit {0})
 unfolding run others
 follows-none w s =
     record {
@@ -98,7 +98,7 @@ items-none a b e =
     (items-same a noItems (p .0) (q .0) (r .0), items-same b noItems (p .1) (q .1) (r .1))
 
 -- allowed under less
-pub repad : {w w′ : CCDataWriter} {fs : List (List ℕ)} {is : Items} {pad less : Type 0} → (less → pad) → Follows w fs is w′ pad → Follows w fs is w′ less
+pub repad : {s : Mux} {w : CCDataWriter} {fs : List (List ℕ)} {is : Items} {pad less : Type 0} → (less → pad) → Follows s fs is w pad → Follows s fs is w less
 repad f t =
     record {
       calls = t .calls;
@@ -125,7 +125,7 @@ run-next c cs s s₁ e = ap (λ (x : Mux). joined (call c s) (run cs x)) e
 
 -- one call, and then those that follow
 pub follow : {w w₁ w₂ : CCDataWriter} {fs₁ fs₂ : List (List ℕ)} {is₁ is₂ : Items} {pad₁ pad₂ : Type 0}
-    → Moved w fs₁ is₁ w₁ pad₁ → Follows w₁ fs₂ is₂ w₂ pad₂ → Follows w (fs₁ ++ fs₂) (andThen is₁ is₂) w₂ (pad₁ × pad₂)
+    → Moved w fs₁ is₁ w₁ pad₁ → Follows (means w₁) fs₂ is₂ w₂ pad₂ → Follows (means w) (fs₁ ++ fs₂) (andThen is₁ is₂) w₂ (pad₁ × pad₂)
 follow (stays f i e) t = rw (f, i, ← e) (repad (λ p. p .1) t)
 follow {w} {w₁} {w₂} {fs₁} {fs₂} {is₁} {is₂} (moves c k) t =
     let a : Run = call c (means w) in

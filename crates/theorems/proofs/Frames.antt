@@ -115,7 +115,7 @@ write-moves w end r s (one-frame b accepted counts first next) =
     rw (counts, next)
     (moves (writes b) (record {
       last = sym (means-after w (s .shaped) (s .valid) b);
-      frames = rw first;
+      frames = ap (λ (l : List ℕ). l ∷ []) (sym first);
       packets = refl;
       pairs1 = refl;
       pairs2 = refl;

@@ -34,8 +34,8 @@ use Rattle.theorems.specs.Allowed.{NewWriter, NewParser, HandleCea608}
 use Rattle.theorems.specs.Writing.{Calls, Padded, Drained}
 use Rattle.theorems.specs.Reading.{Feeds}
 use Rattle.theorems.specs.Trip.{RoundTrip}
-use Rattle.theorems.proofs.Following.{Sound, Follows, items-same}
-use Rattle.theorems.proofs.Sequences.{fresh-sound, follows}
+use Rattle.theorems.proofs.Following.{Sound, items-same}
+use Rattle.theorems.proofs.Sequences.{from-fresh}
 use Rattle.theorems.proofs.Feeding.{itemsRead, Fed, feeds}
 
 -- a state that is drained is so in the model
@@ -49,10 +49,6 @@ drained w s d =
       no-pair1 = rw (d .no-pair1);
       no-pair2 = rw (d .no-pair2);
     }
-
--- a fresh multiplexer is the model's
-pub means-new : (w : CCDataWriter) → NewWriter w → means w ≡ freshMux
-means-new w a = let e : w ≡ fresh = a in rw e means-fresh
 
 -- 608 is turned on in a fresh demultiplexer: it is accepted, and the state is within the limits and the model's
 record Ready (on : ParserAnswer) : Type 0 where
@@ -80,17 +76,11 @@ pub record Carried (frames : List (List ℕ)) (accepted : Items) (o : Read) : Ty
 -- it is what was accepted
 pub carried : {w₀ w : CCDataWriter} {frames : List (List ℕ)} {accepted : Items} → NewWriter w₀ → (c : Calls w₀ frames accepted w) → Padded c → Drained w
     → Carried frames accepted (readFrames frames (turn608On freshDemux))
-carried {w₀} {w} {frames} {accepted} new c padded empty =
-    let f = follows c (fresh-sound w₀ new) in
-    let e = means-new w₀ new in
-    let last : run (f .calls) freshMux .last ≡ means w = rw e at (f .last) in
-    let made : run (f .calls) freshMux .frames ≡ frames = rw e at (f .frames) in
-    let t = journey.round-trip (f .calls) (rw e at (f .allowed padded)) (rw last (drained w (f .sound) empty)) in
-    rw (← made)
-    (record {
-      answers = t .answers;
-      exactly = items-same _ accepted (t .packets ∙ (rw e at (f .packets))) (t .pairs1 ∙ (rw e at (f .pairs1))) (t .pairs2 ∙ (rw e at (f .pairs2)));
-    })
+carried {w} {frames} {accepted} new c padded empty =
+    let f = from-fresh new c in
+    let t = journey.round-trip (f .calls) (f .allowed padded) (rw (f .last) (drained w (f .sound) empty)) in
+    rw (← f .frames)
+    (record { answers = t .answers; exactly = items-same _ accepted (t .packets ∙ f .packets) (t .pairs1 ∙ f .pairs1) (t .pairs2 ∙ f .pairs2) })
 
 -- "Start a multiplexer fresh; push and write in any order, never flush, an accepted rate and at least one padding on at each write. Once drained, a
 -- fresh demultiplexer with 608 on, fed every frame and emptied after each, has given exactly the accepted nonempty packets (sequence number,
