@@ -1,6 +1,6 @@
 -- How soon what is queued leaves, for any sequence of calls that the contracts allow. Assumes nothing.
 use mathlib.Core.Path.{_≡_, refl, sym, ap, _∙_}
-use mathlib.Core.Bool.{false≢true}
+use mathlib.Core.Bool.{true, false≢true}
 use mathlib.Core.List.{List, [], _∷_, _++_}
 use Prim.Native.Nat.{ℕ, _+_, _-_, _*_, _/_, _≤_}
 use native.Mathlib.Omega.{arith}
@@ -8,9 +8,10 @@ use lib.ListN.{length, take, drop, length-map}
 use lib.Seq.{length-take-le}
 use contract.Lifetimes.{Lfts}
 use denote.Ref.{now}
+use Rattle.model.specs.Said.{Outcome, gave, refused, isGiven, saysWith}
 use Rattle.model.specs.Frame as model
-use Rattle.model.specs.Frame.{Triple, frameBytes, triplesIn}
-use Rattle.model.specs.Rate.{Budgets}
+use Rattle.model.specs.Frame.{mostFrame, Triple, frameBytes, triplesIn}
+use Rattle.model.specs.Rate.{Budgets, budgets}
 use Rattle.model.specs.Mux.{Mux, freshMux, writeFrame}
 use Rattle.model.specs.Run as runs
 use Rattle.model.specs.Run.{run}
@@ -20,15 +21,19 @@ use Rattle.journey.specs.Bounds.{Field, one, two, Left}
 use Rattle.journey.proofs.Leaves as leaves
 use Rattle.journey.proofs.Four as four
 use Rattle.journey.proofs.Drains as drains
+use Rattle.caption.specs.Answers.{saidCounted}
+use Rattle.caption.proofs.Answers.{saidCounted-injective}
+use Rattle.caption.specs.declared.Counted.{Counted}
 use Rattle.caption.specs.declared.Counted.the-variants as counted
 use Rattle.caption.specs.declared.Framerate.{Framerate}
 use Rattle.turns.specs.Queue.{queueOf}
 use Rattle.turns.proofs.Queues.{queue-length}
 use Rattle.slots.specs.Slot.{slotPacket, writtenBytes, writtenLength}
-use Rattle.writer.specs.Writer.{means, Ok}
+use Rattle.writer.specs.Writer.{means}
+use Rattle.writer.specs.Calls.{frameLength, written}
 use Rattle.writer.proofs.Valid.{valid-ok}
 use Rattle.writer.proofs.Triples.{left-length}
-use Rattle.writer.proofs.Laws.{means-after}
+use Rattle.writer.proofs.Laws.{means-after, write-given}
 use Rattle.writer.specs.declared.CCDataWriter.{CCDataWriter}
 use Rattle.writer.specs.declared.WriterCount.{WriterCount}
 use Rattle.theorems.specs.Items.{Items, noItems}
@@ -36,7 +41,7 @@ use Rattle.theorems.specs.Allowed.{Lent, NewWriter, Write}
 use Rattle.theorems.specs.Writing.{Calls, Padded, Drained}
 use Rattle.theorems.specs.Bounds.{queueAt, unsentOf, SendsFour}
 use Rattle.theorems.proofs.Following.{Sound, Follows}
-use Rattle.theorems.proofs.Frames.{Writes, no-frame, one-frame, write-does}
+use Rattle.theorems.proofs.Frames.{Writes, no-frame, one-frame, wrote, write-does}
 use Rattle.theorems.proofs.Sequences.{follows, from-fresh}
 
 -- the triples in a frame's bytes are the frame's
@@ -78,6 +83,16 @@ four-by w end r s n e f (one-frame b accepted counts first next) =
       no-other = rw (frame-triples (writeFrame b (means w) .frame), means-after w (s .shaped) (s .valid) b) (m .no-other);
     })
 
+-- what is given is something
+given-by : {A P : Type 0} (o : Outcome A) → isGiven o ≡ true → ((x : A) → o ≡ gave x → P) → P
+given-by (gave x) e f = f x refl
+given-by (refused why) e f = absurd (false≢true e)
+
+-- an answer that says what a given outcome says counts
+counted-given : {A : Type 0} (a : Counted) (n : ℕ) (o : Outcome A) → isGiven o ≡ true → saidCounted a ≡ saysWith (λ _. n ∷ []) o → a ≡ counted.Count n
+counted-given a n (gave x) e s = saidCounted-injective a (counted.Count n) s
+counted-given a n (refused why) e s = absurd (false≢true e)
+
 -- a state that calls of a fresh multiplexer have reached
 module _ {w₀ w : CCDataWriter} {fs₀ : List (List ℕ)} {is₀ : Items} (new : NewWriter w₀) (before : Calls w₀ fs₀ is₀ w) where
   -- these calls in the model
@@ -98,6 +113,15 @@ module _ {w₀ w : CCDataWriter} {fs₀ : List (List ℕ)} {is₀ : Items} (new 
   sends-four κs rate out end r a n e =
       let k = reached in
       four-by w (now end) r (k .sound) n e (λ b accepted. rw (k .last) at (four.four (k .calls) b accepted)) (write-does κs w rate out end r (k .sound) a)
+
+  -- a write at an accepted rate, with room for the longest frame, is accepted
+  pub write-accepted : (κs : Lfts 1) (rate : Framerate) (out end : Lent) (r : WriterCount) → Write κs w rate out end r
+      → isGiven (budgets (rate .numer) (rate .denom)) ≡ true → mostFrame ≤ length (now out) → r .answer ≡ counted.Count (frameLength rate w)
+  write-accepted κs rate out end r a given room =
+      let s = reached .sound in
+      counted-given (r .answer) (frameLength rate w) (written rate (now out) w)
+      (given-by (budgets (rate .numer) (rate .denom)) given (λ b e. write-given w (s .shaped) (s .valid) rate (now out) e room))
+      (wrote κs w rate out end r a .answer)
 
   -- so many accepted writes drain a multiplexer, if nothing more is accepted: twice as many as the pairs of either field, and a quarter of the
   -- packet triples

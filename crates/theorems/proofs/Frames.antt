@@ -41,13 +41,13 @@ unfolding budgets
 budgets-by n d f g = by-test (eqb n 0 || (eqb (pairsAt n d) 0 || ltb mostTriples (triplesAt n d))) (λ e. f (rw e)) (λ e. g (record { pairs = pairsAt n d; triples = triplesAt n d }) (rw e))
 
 -- what the contract of a write says
-record Wrote (w : CCDataWriter) (rate : Framerate) (out end : List ℕ) (r : WriterCount) : Type 0 where
-  answer : saidCounted (r .answer) ≡ saysWith (λ _. frameLength rate w ∷ []) (written rate out w)
-  writer : r .writer ≡ after w (mapped (λ _. afterFrame (budgetsAt rate) w) (written rate out w))
-  output : end ≡ after out (mapped (λ x. x .out) (written rate out w))
+pub record Wrote (w : CCDataWriter) (rate : Framerate) (out end : List ℕ) (r : WriterCount) : Type 0 where
+  pub answer : saidCounted (r .answer) ≡ saysWith (λ _. frameLength rate w ∷ []) (written rate out w)
+  pub writer : r .writer ≡ after w (mapped (λ _. afterFrame (budgetsAt rate) w) (written rate out w))
+  pub output : end ≡ after out (mapped (λ x. x .out) (written rate out w))
 
 -- read off it
-wrote : (κs : Lfts 1) (w : CCDataWriter) (rate : Framerate) (out end : Lent) (r : WriterCount) → Write κs w rate out end r → Wrote w rate (now out) (now end) r
+pub wrote : (κs : Lfts 1) (w : CCDataWriter) (rate : Framerate) (out end : Lent) (r : WriterCount) → Write κs w rate out end r → Wrote w rate (now out) (now end) r
 wrote κs w rate out end r a = record { answer = a .0; writer = a .1 .0; output = a .1 .1 }
 
 -- a write is refused, and changes nothing; or it is accepted, and its frame is the model's at the rate's budgets

@@ -9,3 +9,5 @@ pub mod Sequences
 pub mod Trip
 pub mod Distinct
 pub mod Bounds
+pub mod SoFar
+pub mod Types

@@ -68,6 +68,15 @@ ready p on a h =
       means = rw t (kept.means-turned p ∙ ap (λ (x : CCDataParser). turn608On (parser.means x)) e ∙ ap turn608On kept.means-fresh);
     }
 
+-- frames that the model's demultiplexer accepts, fed to a fresh one with 608 on
+pub given-fed : {p₀ p : CCDataParser} {on : ParserAnswer} {frames : List (List ℕ)} {refused : List Refusal} {given : Items}
+    → NewParser p₀ → HandleCea608 p₀ on → Feeds (on .parser) frames refused given p
+    → readFrames frames (turn608On freshDemux) .answers ≡ replicate (length frames) (said.accepted [])
+    → (on .answer ≡ Accepted) × Fed (readFrames frames (turn608On freshDemux)) refused given
+given-fed {p₀} {on} new turned read e =
+    let y = ready p₀ on new turned in
+    (y .answer, rw (y .means) at (feeds read (y .sound) (rw (y .means) (on-valid freshDemux fresh-demux)) (rw (y .means) e)))
+
 -- Calls from a fresh multiplexer that end drained: what the model's demultiplexer reads in their frames.
 pub record Carried (frames : List (List ℕ)) (accepted : Items) (o : Read) : Type 0 where
   pub answers : o .answers ≡ replicate (length frames) (said.accepted [])
@@ -89,8 +98,7 @@ pub round-trip : {w₀ w : CCDataWriter} {p₀ p : CCDataParser} {frames : List 
     → NewWriter w₀ → (c : Calls w₀ frames accepted w) → Padded c → Drained w
     → NewParser p₀ → HandleCea608 p₀ on → Feeds (on .parser) frames refused given p
     → RoundTrip on refused given accepted
-round-trip {frames} {on} new c padded empty newParser turned read =
-    let y = ready _ on newParser turned in
+round-trip new c padded empty newParser turned read =
     let t = carried new c padded empty in
-    let d = feeds read (y .sound) (rw (y .means) (on-valid freshDemux fresh-demux)) (rw (y .means) (t .answers)) in
-    record { turned-on = y .answer; no-refusal = d .no-refusal; exactly = d .items ∙ (rw (y .means) (t .exactly)) }
+    let d = given-fed newParser turned read (t .answers) in
+    record { turned-on = d .0; no-refusal = d .1 .no-refusal; exactly = d .1 .items ∙ t .exactly }

@@ -1,8 +1,14 @@
--- What demand 3 promises of calls that ended drained and of the frames that they wrote. Assumes nothing.
+-- What demand 3 promises of calls and of the frames that they wrote. Assumes nothing.
 use mathlib.Core.Path.{_≡_}
-use mathlib.Core.List.{List, []}
+use mathlib.Core.List.{List, [], _++_}
+use Prim.Native.Nat.{_≤_}
+use lib.ListN.{length}
+use Rattle.model.specs.Packet.{Packet}
+use Rattle.model.specs.Run.{others}
 use Rattle.caption.specs.declared.Refusal.{Refusal}
 use Rattle.caption.specs.declared.Answer.the-variants.{Accepted}
+use Rattle.writer.specs.Writer.{means}
+use Rattle.writer.specs.declared.CCDataWriter.{CCDataWriter}
 use Rattle.parser.specs.declared.ParserAnswer.{ParserAnswer}
 use Rattle.theorems.specs.Items.{Items}
 
@@ -11,3 +17,12 @@ pub record RoundTrip (on : ParserAnswer) (refused : List Refusal) (given accepte
   pub turned-on : on .answer ≡ Accepted
   pub no-refusal : refused ≡ []
   pub exactly : given ≡ accepted
+
+-- Before it is drained: what was accepted is what has been given, and then what is still there. Of packets that is the one being sent, if there is
+-- one, and those queued; of pairs it is those queued.
+pub record SoFar (w : CCDataWriter) (given accepted : Items) : Type 0 where
+  pub sending : List Packet
+  pub one : length sending ≤ 1
+  pub packets : accepted .packets ≡ given .packets ++ (sending ++ means w .packets)
+  pub pairs1 : accepted .pairs1 ≡ given .pairs1 ++ others (means w .queue1)
+  pub pairs2 : accepted .pairs2 ≡ given .pairs2 ++ others (means w .queue2)
