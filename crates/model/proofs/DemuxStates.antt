@@ -123,7 +123,7 @@ gathering-start : (a b : ℕ) → Gathering (take (packetSize a) (a ∷ b ∷ []
 gathering-start a b = rw (take-all (packetSize a) (a ∷ b ∷ []) (size-least a)) (record { even = refl; most = size-least a })
 
 -- closed bytes become a packet within its limits, or none
-closed-valid : (g : List ℕ) → allPackets validPacket (closed g) ≡ true
+pub closed-valid : (g : List ℕ) → allPackets validPacket (closed g) ≡ true
 unfolding closed allPackets
 closed-valid g = by-reading (readPacket g) refl
   where

@@ -16,7 +16,7 @@ use Rattle.packet.specs.Packet.{packetOf, over, blank, validDTVCC}
 use Rattle.packet.proofs.Holds.{Places, within-facts, facts-within, held-valid, over-holds, over-within, over-places}
 
 -- the empty places have their lengths
-blank-places : Places blank
+pub blank-places : Places blank
 blank-places = record { numbers = length-replicate {A = ℕ} 63 0; sizes = length-replicate {A = ℕ} 63 0; payload = length-replicate {A = ℕ} 127 0 }
 
 -- a packet within the limits, laid over any places: it is held, breaks no limit and keeps the places

@@ -55,7 +55,7 @@ unfolding turnedOn
 call-turned p b tested e = call-accepted p (turnedOn p) b tested _ e refl
 
 -- how many wait
-pairs-length : (n : ℕ) (l : List ℕ) → length (pairsOf n l) ≡ n
+pub pairs-length : (n : ℕ) (l : List ℕ) → length (pairsOf n l) ≡ n
 unfolding pairsOf
 pairs-length zero l = refl
 pairs-length (suc n) l = ap suc (pairs-length n _)

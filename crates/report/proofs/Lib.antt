@@ -1,0 +1,4 @@
+pub mod Lays
+pub mod Draws
+pub mod Going
+pub mod Frames
