@@ -131,7 +131,7 @@ none-left d e = by-items (d .on608) (d .pairs) (d .pending) (d .waiting) e
     by-items on [] g [] k = refl
 
 -- the packets of slots are within their limits
-slots-valid : (l : List Slot) → allPackets validPacket (packetsIn l) ≡ true
+pub slots-valid : (l : List Slot) → allPackets validPacket (packetsIn l) ≡ true
 unfolding packetsIn allPackets
 slots-valid [] = refl
 slots-valid (s ∷ l) = all-append validPacket (closed (take (s .len) (s .bytes))) (packetsIn l) (closed-valid (take (s .len) (s .bytes))) (slots-valid l)

@@ -2,3 +2,4 @@ pub mod Lays
 pub mod Draws
 pub mod Going
 pub mod Frames
+pub mod Fits
