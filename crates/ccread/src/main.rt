@@ -1,20 +1,21 @@
 // Reads records of frames from standard input to its end and writes what each frame holds, as document 01 says under
 // "Checked examples". Reads and writes go through two buffers of fixed size, whatever the input's length and cut.
-ghost use Prim.Native.Nat.{_≤_};
+ghost use mathlib.Core.Path.{_≡_};
+ghost use mathlib.Core.Bool.{cond};
+ghost use Prim.Native.Nat.{_+_, _≤_};
+ghost use lib.Dec.{leb};
 ghost use lib.ListN.{length};
-use caption::Answer;
+ghost use Rattle.records.specs.Laid.{Whole};
+ghost use Rattle.ccread.specs.Walk.{walked};
+ghost use Rattle.report.specs.Report.{frameLines, settled};
 use libc::STDIN_FILENO;
 use libc::STDOUT_FILENO;
-use packet::DTVCCPacket;
 use parser::CCDataParser;
-use parser::Item;
 use records::Found;
+use report::Told;
 
-// A line has at most "block 63 ", the hex of 127 bytes and a newline: 264 bytes.
-const ROOM: usize = 300;
-
-// No frame leaves more to draw than 31 pairs and 32 packets.
-const MOST_ITEMS: usize = 64;
+// The lines of a frame have at most 32768 bytes.
+const ROOM: usize = 32768;
 
 // No buffer holds more records.
 const MOST_RECORDS: usize = 65536;
@@ -47,112 +48,53 @@ struct State {
     parser: CCDataParser,
 }
 
-// The place reached in the output, and the demultiplexer.
-struct Told {
-    laid: usize,
-    parser: CCDataParser,
-}
-
 // Writes the first n bytes out.
 fn send(out: &[u8], n: usize) {
     io::write_all(STDOUT_FILENO, records::part(out, 0, n));
 }
 
-// A place with room for a line: `at`, or 0 after what was laid is written out.
-fn with_room(out: &[u8], at: usize) -> usize {
+// A place with room for the lines of a frame: `at`, or 0 after what was laid is written out.
+fn with_room(out: &[u8], at: usize) -> usize
+    ensures { λ r. ⌜ r ≡ cond (leb (at + 32768) (length (now (out .entry)))) at 0 ⌝ }
+{
     let size = out.len();
-    if at < size {
-        if ROOM <= size - at {
-            return at;
-        }
+    if size < ROOM {
+        send(out, at);
+        return 0;
     }
-    send(out, at);
-    0
+    if size - ROOM < at {
+        send(out, at);
+        return 0;
+    }
+    at
 }
 
-// The lines of a packet's blocks.
-fn put_blocks(out: &mut [u8], at: usize, packet: DTVCCPacket) -> usize {
-    let payload = packet.payload;
-    let mut laid = at;
-    let mut used: usize = 0;
-    let mut i: usize = 0;
-    while i < 63 {
-        if packet.count <= i {
-            return laid;
-        }
-        let size = packet.sizes[i] as usize;
-        laid = with_room(out, laid);
-        laid = lines::put_block_line(
-            out,
-            laid,
-            packet.numbers[i],
-            records::part(&payload, used, size),
-        );
-        used = std::num::wrapping_add_usize(used, size);
-        i += 1;
-    }
-    laid
-}
-
-// The lines of everything that waits in the demultiplexer.
-fn put_items(out: &mut [u8], at: usize, before: CCDataParser) -> Told {
-    let mut parser = before;
-    let mut laid = at;
-    let mut n: usize = 0;
-    while n < MOST_ITEMS {
-        n += 1;
-        let drawn = parser.draw();
-        parser = drawn.parser;
-        let item = drawn.item;
-        laid = with_room(out, laid);
-        match item {
-            Item::Pair(pair) => {
-                let end = lines::put_pair(out, laid, pair);
-                laid = records::put_newline(out, end);
-            }
-            Item::Packet => {
-                let packet = drawn.packet;
-                let end = lines::put_packet(out, laid, packet.seq_no);
-                laid = records::put_newline(out, end);
-                laid = put_blocks(out, laid, packet);
-            }
-            Item::Nothing => {
-                return Told { laid, parser };
-            }
-            Item::Refused(_) => {
-                return Told { laid, parser };
-            }
-        }
-    }
-    Told { laid, parser }
-}
-
-// The lines of one frame.
-fn put_frame(out: &mut [u8], at: usize, number: u64, frame: &[u8], before: CCDataParser) -> Told {
-    let pushed = before.push(frame);
-    let answer = pushed.answer;
-    let parser = pushed.parser;
+// The lines of a record's frame, behind those that wait or, after those are written out, at the front: none of them is cut.
+fn put_record(out: &mut [u8], at: usize, number: u64, frame: &[u8], before: CCDataParser) -> Told
+    requires { ⌜ 32768 ≤ length (now out) ⌝ }
+    ensures { λ r. ⌜ Whole (frameLines number (now (frame .entry)) before) (now (out .entry)) (cond (leb (at + 32768) (length (now (out .entry)))) at 0) (r .laid) (now (out .exit)) ⌝ }
+    ensures { λ r. ⌜ r .parser ≡ settled before (now (frame .entry)) ⌝ }
+{
     let from = with_room(out, at);
-    let laid = lines::put_frame_line(out, from, number, answer);
-    if let Answer::Accepted = answer {
-        return put_items(out, laid, parser);
-    }
-    Told { laid, parser }
+    report::put_frame(out, from, number, frame, before)
 }
 
 // Every record that is whole in the buffer.
-fn drain(buf: &[u8], ended: bool, out: &mut [u8], first: u64, before: CCDataParser) -> Drained {
+fn drain(buf: &[u8], ended: bool, out: &mut [u8], first: u64, before: CCDataParser) -> Drained
+    requires { ⌜ 32768 ≤ length (now out) ⌝ }
+    ensures { λ r. ⌜ record { at = r .at; records = r .records; left = r .left; parser = r .parser } ≡ walked 65536 ended (now (buf .entry)) 0 first before ⌝ }
+{
     let mut at: usize = 0;
     let mut laid: usize = 0;
     let mut records = first;
     let mut parser = before;
-    let mut n: usize = 0;
-    while n < MOST_RECORDS {
-        n += 1;
+    let mut n: usize = MOST_RECORDS;
+    while 0 < n {
+        n -= 1;
         let found = records::next_record(buf, at, ended, 0xCC, 0xDA);
         match found {
             Found::Record { start, len, next } => {
-                let told = put_frame(out, laid, records, records::part(buf, start, len), parser);
+                let told = put_record(out, laid, records, records::part(buf, start, len), parser);
                 laid = told.laid;
                 parser = told.parser;
                 at = next;
@@ -229,6 +171,7 @@ fn finish(out: &mut [u8], at: usize, left: Left, start: u64, records: u64) -> bo
 // One read of the input, and what it completes.
 fn step(buf: &mut [u8], out: &mut [u8], s: State) -> State
     requires { ⌜ s .have ≤ length (now buf) ⌝ }
+    requires { ⌜ 32768 ≤ length (now out) ⌝ }
     ensures { λ r. ⌜ r .have ≤ length (now (buf .entry)) ⌝ }
 {
     let have = s.have;
@@ -253,7 +196,10 @@ fn step(buf: &mut [u8], out: &mut [u8], s: State) -> State
     }
 }
 
-fn run(buf: &mut [u8], out: &mut [u8]) {
+// Reads the input to its end.
+fn run(buf: &mut [u8], out: &mut [u8])
+    requires { ⌜ 32768 ≤ length (now out) ⌝ }
+{
     let on = CCDataParser::new().handle_cea608();
     let parser = on.parser;
     let mut s = State {

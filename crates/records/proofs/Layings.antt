@@ -10,7 +10,7 @@ use lib.Seq.{sets, length-sets, sets-eq, drop-cons}
 use borrow.Author.Tests.{leb-true, leb-false}
 use Rattle.model.proofs.Cases.{by-test}
 use Rattle.service.proofs.Runs.{sets-append, sets-past}
-use Rattle.records.specs.Laid.{Laid}
+use Rattle.records.specs.Laid.{Laid, Whole}
 use Rattle.records.specs.Text.{digit, hexByte, hex}
 
 -- For callers: the place behind is in the buffer or at its end, and the buffer is as long as it was,
@@ -19,8 +19,8 @@ laid-within {text} {out} {after} {at} w = (omega (arith, w .place), ap length (w
 
 -- where there is room, all of it is laid, and the place is behind it,
 pub laid-whole : {text out after : List ℕ} {at r : ℕ} → Laid text out at r after → at + length text ≤ length out
-    → (r ≡ at + length text) × (after ≡ take at out ++ text ++ drop (at + length text) out)
-laid-whole {text} {out} {after} {at} w fits = (omega (arith, w .place), w .bytes ∙ sets-eq text out at fits)
+    → Whole text out at r after
+laid-whole {text} {out} {after} {at} w fits = record { place = omega (arith, w .place); bytes = w .bytes ∙ sets-eq text out at fits }
 
 -- and the text, the buffer and the place settle both what is answered and what is left.
 pub laid-settled : {text out l m : List ℕ} {at r s : ℕ} → Laid text out at r l → Laid text out at s m → (r ≡ s) × (l ≡ m)

@@ -11,6 +11,11 @@ pub record Laid (text before : List ℕ) (at r : ℕ) (after : List ℕ) : Type 
   pub place : r ≡ min (at + length text) (length before)
   pub bytes : after ≡ sets before at text
 
+-- All of the text is laid into `before` from `at` on, and r is the place behind it. Every other byte stays.
+pub record Whole (text before : List ℕ) (at r : ℕ) (after : List ℕ) : Type 0 where
+  pub place : r ≡ at + length text
+  pub bytes : after ≡ take at before ++ text ++ drop (at + length text) before
+
 -- the bytes from one place to another, as far as they are there
 abbrev pub between : ℕ → ℕ → List ℕ → List ℕ
 between from to l = take (to - from) (drop from l)

@@ -1,22 +1,25 @@
--- The records are counted, and every line is laid into the same buffer.
-use Prim.Native.Nat.{_-_, _≤_}
-use mathlib.Core.Path.{_≡_}
+-- What is left of the walk is the whole walk at each turn. Assumes nothing.
+use mathlib.Core.Path.{_≡_, refl}
+use Prim.Native.Nat.{_≤_}
+use native.Mathlib.Omega.{arith}
 use lib.ListN.{length}
 use borrow.Author.Needs.{needs}
+use Rattle.ccread.specs.Walk.{walked}
+use Rattle.ccread.proofs.Walks.{walk-over, walk-more, walk-wrong, walk-short, walk-ended, walk-on}
 use Rattle.ccread.proofs.drain.Statement.{statement}
 use Rattle.ccread.proofs.drain.Tie as tie
 
 abbrev Inv-loop : tie.InvT-loop
-Inv-loop buf ended out₀ first at₀ laid₀ records₀ parser₀ n₀ out at laid records parser n = (n ≤ 65536) × (length out ≡ length out₀)
+Inv-loop buf ended out₀ first at₀ laid₀ records₀ parser₀ n₀ out at laid records parser n = (n ≤ 65536) × (32768 ≤ length out) × (length out ≡ length out₀) × (walked 65536 ended buf 0 first parser₀ ≡ walked n ended buf at records parser)
 
 abbrev μ-loop : tie.MeasureT-loop
-μ-loop buf ended out₀ first at₀ laid₀ records₀ parser₀ n₀ out at laid records parser n = 65536 - n
+μ-loop buf ended out₀ first at₀ laid₀ records₀ parser₀ n₀ out at laid records parser n = n
 
 loop-holds : tie.Need-loop-holds Inv-loop μ-loop
-loop-holds c = search needs
+loop-holds c = (omega arith, search needs, refl, refl)
 
-add-n : tie.Need-add-n Inv-loop μ-loop
-add-n c = search needs
+sub-n : tie.Need-sub-n Inv-loop μ-loop
+sub-n c = search needs
 
 next-record-requires : tie.Need-next-record-requires Inv-loop μ-loop
 next-record-requires c κs = search needs
@@ -27,17 +30,17 @@ enum-known-found c = search needs
 part-requires : tie.Need-part-requires Inv-loop μ-loop
 part-requires c κs = search needs
 
-put-frame-requires : tie.Need-put-frame-requires Inv-loop μ-loop
-put-frame-requires c κs = search needs
+put-record-requires : tie.Need-put-record-requires Inv-loop μ-loop
+put-record-requires c κs = search needs
 
 wrapping-add-u64-requires : tie.Need-wrapping-add-u64-requires Inv-loop μ-loop
 wrapping-add-u64-requires c κs = search needs
 
 loop-less : tie.Need-loop-less Inv-loop μ-loop
-loop-less c = search needs
+loop-less c = omega arith
 
 loop-again : tie.Need-loop-again Inv-loop μ-loop
-loop-again c = search needs
+loop-again c = let l = c .before .before .before .before .before .before .before .before .before .before .before .before .loop in (omega arith, search needs, search needs, walk-on (l .n) _ _ (l .at) (l .records) _ (l .inv .3) (c .before .before .before .before .before .before .before .before .before .before .before .loop-test .taken) _ (c .before .before .before .before .before .before .before .before .before .before .next-record .ensures) _ _ _ _ _ _ (c .before .before .before .before .before .before .before .before .found .given .1) (c .before .before .before .before .before .part .ensures) (c .before .before .before .before .put-record .ensures .1) (c .wrapping-add-u64 .ensures))
 
 enum-told : tie.Need-enum-told Inv-loop μ-loop
 enum-told c = search needs
@@ -46,7 +49,7 @@ same-length : tie.Need-same-length Inv-loop μ-loop
 same-length c = search needs
 
 returns : tie.Need-returns Inv-loop μ-loop
-returns c = search needs
+returns c = let l = c .before .before .before .before .loop in walk-more (l .n) _ _ (l .at) (l .records) _ (l .inv .3) (c .before .before .before .loop-test .taken) _ (c .before .before .next-record .ensures) (c .enum-told .given .1)
 
 enum-told-2 : tie.Need-enum-told-2 Inv-loop μ-loop
 enum-told-2 c = search needs
@@ -55,7 +58,7 @@ same-length-2 : tie.Need-same-length-2 Inv-loop μ-loop
 same-length-2 c = search needs
 
 returns-2 : tie.Need-returns-2 Inv-loop μ-loop
-returns-2 c = search needs
+returns-2 c = let l = c .before .before .before .before .loop in walk-wrong (l .n) _ _ (l .at) (l .records) _ (l .inv .3) (c .before .before .before .loop-test .taken) _ (c .before .before .next-record .ensures) (c .enum-told2 .given .1)
 
 enum-told-3 : tie.Need-enum-told-3 Inv-loop μ-loop
 enum-told-3 c = search needs
@@ -64,7 +67,7 @@ same-length-3 : tie.Need-same-length-3 Inv-loop μ-loop
 same-length-3 c = search needs
 
 returns-3 : tie.Need-returns-3 Inv-loop μ-loop
-returns-3 c = search needs
+returns-3 c = let l = c .before .before .before .before .loop in walk-short (l .n) _ _ (l .at) (l .records) _ (l .inv .3) (c .before .before .before .loop-test .taken) _ (c .before .before .next-record .ensures) (c .enum-told3 .given .1)
 
 enum-told-4 : tie.Need-enum-told-4 Inv-loop μ-loop
 enum-told-4 c = search needs
@@ -73,13 +76,13 @@ same-length-4 : tie.Need-same-length-4 Inv-loop μ-loop
 same-length-4 c = search needs
 
 returns-4 : tie.Need-returns-4 Inv-loop μ-loop
-returns-4 c = search needs
+returns-4 c = let l = c .before .before .before .before .loop in walk-ended (l .n) _ _ (l .at) (l .records) _ (l .inv .3) (c .before .before .before .loop-test .taken) _ (c .before .before .next-record .ensures) (c .enum-told4 .given .1)
 
 same-length-5 : tie.Need-same-length-5 Inv-loop μ-loop
 same-length-5 c = search needs
 
 returns-5 : tie.Need-returns-5 Inv-loop μ-loop
-returns-5 c = search needs
+returns-5 c = let l = c .before .loop in walk-over (l .n) _ _ (l .at) (l .records) _ (l .inv .3) (omega arith)
 
 pub drain-spec : {M : Type 1} → statement M
 drain-spec =
@@ -88,11 +91,11 @@ drain-spec =
     Inv-loop
     μ-loop
     loop-holds
-    add-n
+    sub-n
     next-record-requires
     enum-known-found
     part-requires
-    put-frame-requires
+    put-record-requires
     wrapping-add-u64-requires
     loop-less
     loop-again

@@ -1,0 +1,27 @@
+-- One law of `Places` for each way out. Assumes nothing.
+use native.Mathlib.Omega.{arith}
+use Rattle.ccread.proofs.Places.{place-there, place-front}
+use borrow.Author.Needs.{needs}
+use Rattle.ccread.proofs.with_room.Statement.{statement}
+use Rattle.ccread.proofs.with_room.Tie as tie
+use Rattle.ccread.proofs.with_room.Reads as reads
+use Rattle.ccread.proofs.with_room.Lts as lts
+use Rattle.ccread.proofs.send.Reads as send-reads
+
+send-requires : tie.Need-send-requires
+send-requires c κs = search needs
+
+returns : tie.Need-returns
+returns c = place-front (c .before .before .before .args .at) _ (omega arith)
+
+send-requires-2 : tie.Need-send-requires-2
+send-requires-2 c κs = search needs
+
+returns-2 : tie.Need-returns-2
+returns-2 c = place-front (c .before .before .before .before .args .at) _ (omega arith)
+
+returns-3 : tie.Need-returns-3
+returns-3 c = search (needs, place-there)
+
+pub with-room-spec : {M : Type 1} → statement M
+with-room-spec = tie.close (tie.spec send-requires returns send-requires-2 returns-2 returns-3)
