@@ -1,13 +1,34 @@
-"""Scripts for `ccscript`, by kind: every limit from both sides, damaged copies of good bytes, any order of calls.
+"""Scripts for `ccscript`, by kind: all short ones, every limit from both sides, damaged copies of good bytes, any order of calls.
 
-An operation is a tuple of its letter and its arguments; `generate(seed)` gives pairs of a kind and a list of operations.
+An operation is a tuple of its letter and its arguments, or of "raw" and a record's bytes; a script is a list of operations.
+`generate(seed, written)` gives each kind with its scripts.
 """
 import random, itertools
 R = random.Random()
 def byte(): return R.choice([0, 1, 0x20, 0x41, 0x7F, 0x80, 0xFF, R.randrange(256), R.randrange(256)])
 def some(n): return [byte() for _ in range(n)]
-def batch(kind, ops, n):
-    for i in range(0, len(ops), n): yield kind, [o for g in ops[i:i + n] for o in g]
+def batch(groups, n):
+    """One script of every n groups of operations."""
+    for i in range(0, len(groups), n): yield [o for g in groups[i:i + n] for o in g]
+
+def short_strings(op):
+    """Every string of up to two bytes."""
+    strings = [[]] + [[a] for a in range(256)] + [[a, b] for a in range(256) for b in range(256)]
+    return batch([[(op, d)] for d in strings], 64)
+
+def block_headers():
+    """Every two first bytes of a block, with all the bytes that it may need and one byte fewer than it needs."""
+    body = [0x20 + i for i in range(33)]
+    for h in range(256):
+        size, two = h & 31, h >> 5 == 7 and h & 31 != 0
+        ds = [[h, z] + body for z in range(256)]
+        yield [("d", d) for d in ds] + [("d", d[:size + two]) for d in (ds if two else ds[:1])]
+
+def packet_headers(op):
+    """Every two first bytes of a packet, with some bytes behind them."""
+    body = [0x41, 0x22, 0xE1, 0x07, 0x61, 0x00]
+    for h in range(256):
+        yield [(op, ([h, z] + body)[:max(2, min(8, 2 * (h & 63) or 8))]) for z in range(256)]
 
 def block_reading():
     groups = [[("d", []), ("m",), ("y", []), ("e", 3)]]
@@ -20,7 +41,7 @@ def block_reading():
                 d = ([h] + ([z] if two else []) + some(40))[:k]
                 groups.append([("d", d), ("y", d), ("m",)])
     for z in range(256): groups.append([("d", [0xE2, z, 0x41, 0x42]), ("y", [0xE2, z, 0x41, 0x42]), ("m",), ("e", R.randrange(6))])
-    return batch("block reading", groups, 15)
+    return batch(groups, 15)
 
 def a_block():
     n = R.choice([0, 1, 2, 6, 7, 8, 63, R.randrange(64)])
@@ -45,7 +66,7 @@ def packet_bytes(most=128):
     elif r < .4: d[R.randrange(len(d))] = R.randrange(256)
     return d
 
-def packet_reading(count, op, kind):
+def packet_reading(count, op):
     alphabet = [0x00, 0x01, 0x02, 0x20, 0x21, 0x22, 0x41, 0xE0, 0xE1, 0xE2, 0x07]
     groups = []
     for n in range(0, 4):
@@ -59,7 +80,7 @@ def packet_reading(count, op, kind):
         size = 2 * n or 128
         for k in (size - 1, size, size + 1): groups.append([(op, ([n] + [0] * 200)[:k])])
     for _ in range(count): groups.append([(op, packet_bytes())] + ([("l",), ("o", R.choice([0, 1, 3, 128, 129, 200]))] if op == "p" else []))
-    return batch(kind, groups, 25)
+    return batch(groups, 25)
 
 def a_run(room=None):
     n = R.choice([0, 1, 1, 2, 3, 5, 10, 15, 20, 29, 30, 31, 32, 33, 60, 100, 127, 128, 200, R.randrange(40)])
@@ -75,7 +96,7 @@ def block_pushes(count):
             elif r < .7: s.append(("d", a_block()))
             elif r < .85: s.append(("e", R.choice([0, 1, 2, 3, 31, 32, 33, 34, 100, R.randrange(40)])))
             else: s.append(("m",))
-        yield "block writing and pushing", s + [("m",), ("e", 255)]
+        yield s + [("m",), ("e", 255)]
 
 def packet_pushes(count):
     for _ in range(count):
@@ -91,7 +112,7 @@ def packet_pushes(count):
             elif r < .83: s.append(("p", packet_bytes()))
             elif r < .9: s.append(("o", R.choice([0, 1, 2, 127, 128, 129, 200, R.randrange(130)])))
             else: s.append(("l",))
-        yield "packet pushes and writing", s + [("l",), ("o", 255), ("p", [])]
+        yield s + [("l",), ("o", 255), ("p", [])]
     # packets filled to the brim: rooms 0 to 5 with every push
     for left in range(0, 7):
         for n in (1, 7):
@@ -101,7 +122,7 @@ def packet_pushes(count):
                 k = min(fill, 32 if fill != 33 else 30)
                 base += [("b", 2), ("c", [9] * (k - 1)), ("v",)]; fill -= k
             for m in range(0, 8):
-                yield "packet pushes and writing", base + [("l",), ("a", n, [5] * m), ("l",), ("i", n, [6] * m), ("a", 2, [7] * m), ("i", 2, [8] * m), ("l",), ("b", n), ("c", [4] * m), ("v",), ("b", 0), ("v",), ("l",), ("o", 128)]
+                yield base + [("l",), ("a", n, [5] * m), ("l",), ("i", n, [6] * m), ("a", 2, [7] * m), ("i", 2, [8] * m), ("l",), ("b", n), ("c", [4] * m), ("v",), ("b", 0), ("v",), ("l",), ("o", 128)]
 
 def triples_of(d):
     d = d + [0] * (len(d) % 2)
@@ -148,7 +169,7 @@ def frames(count):
             s.append(("f", a_frame(stream)))
             if R.random() < .08: s += [R.choice([("H",), ("F",)]), ("n",)]
             for _ in range(R.choice([0, 1, 3, 40]) if draining else R.choice([0, 0, 0, 1, 2])): s.append(("n",))
-        yield "frame sequences", s + [("n",)] * (45 if not draining else 5)
+        yield s + [("n",)] * (45 if not draining else 5)
 
 def frames_small(full):
     """Every frame of up to `full` triples over all eight kinds of triple, after none or some pending bytes, then one more frame."""
@@ -163,7 +184,7 @@ def frames_small(full):
             last = R.choice([[], [("f", [0xC1, 0xFF, 0xFE, 0x41, 0x00])], [("f", [0xC1, 0xFF, 0xFF, 0x01, 0x00])]])
             on = R.choice([[("H",)], [("H",)], []])
             groups.append([("R",)] + on + pend + [("f", f)] + last + [("n",)] * 4)
-    return batch("small frames", groups, 10)
+    return batch(groups, 10)
 
 def frame_full():
     """Around 32 waiting packets."""
@@ -179,7 +200,7 @@ def frame_full():
             s.append(("f", [0xC0 | len(body) // 3, 0xFF] + body))
             s += [("n",)] * R.choice([0, 1, 3, 5])
             s.append(("f", [0xC0 | len(body) // 3, 0xFF] + body))
-            yield "frames around 32 waiting", s + [("n",)] * 46
+            yield s + [("n",)] * 46
 
 RATES = [(24, 1), (25, 1), (30000, 1001), (50, 1), (60000, 1001), (30, 1), (60, 1), (24000, 1001), (120, 1), (121, 1), (401, 21), (400, 21), (20, 1), (19, 1), (40, 1), (100, 1), (119, 1), (61, 2), (1, 1), (0, 1), (1, 0), (0, 0), (48, 1), (15, 1)]
 def a_rate(good=True):
@@ -214,7 +235,7 @@ def mux(count):
                 s.append(("w", *rate, R.choice([95, 95, 95, 95, 100, 2, 1, 0, 5, 8, 11, 20, 30, 60, 94])))
                 if R.random() < .3: s.append(("u",))
             else: s.append(R.choice([("S", R.randrange(2), R.randrange(2)), ("u",), ("x",), ("u",), ("W",)] ))
-        yield "multiplexer sequences", s + [("u",)] + [("w", *rate, 95)] * 4 + [("u",)]
+        yield s + [("u",)] + [("w", *rate, 95)] * 4 + [("u",)]
 
 def mux_full():
     """Around 64 pairs and 16 packets, then written until drained."""
@@ -223,12 +244,12 @@ def mux_full():
             s = [("S", pads & 1, pads >> 1)]
             s += [("1", i & 255, 1) for i in range(n)] + [("1", 0x80, 0x80)] + [("2", i & 255, 2) for i in range(n)] + [("2", 0x80, 0x80), ("u",)]
             s += [("w", *R.choice(RATES[:9]), 95), ("1", 7, 7), ("2", 7, 7), ("u",)] * 3
-            yield "multiplexer, queues full", s + [("w", *R.choice(RATES[:9]), 95)] * 12 + [("u",)]
+            yield s + [("w", *R.choice(RATES[:9]), 95)] * 12 + [("u",)]
         for n in (15, 16, 17, 18):
             s = [("S", pads & 1, pads >> 1)]
             for i in range(n): s += [("k", i & 3), ("a", 1 + i, some(R.choice([1, 2, 3, 9, 30]))), ("q",)]
             s += [("k", 0), ("q",), ("u",), ("w", 60, 1, 95), ("u",), ("a", 1, [1, 2]), ("q",), ("q",), ("u",)]
-            yield "multiplexer, queues full", s + [("w", *R.choice(RATES[:9]), 95), ("u",)] * 10
+            yield s + [("w", *R.choice(RATES[:9]), 95), ("u",)] * 10
 
 def grid():
     """Every number of pairs and packets near the budgets, in all four settings, at five rates, twice written."""
@@ -238,7 +259,7 @@ def grid():
                 for q2 in (0, 1, 2, 3):
                     s = [("S", pads & 1, pads >> 1)] + [("1", 1, i) for i in range(q1)] + [("2", 2, i) for i in range(q2)]
                     for m in range(R.choice([0, 0, 1, 2])): s += [("k", m), ("a", R.choice([1, 7]), some(R.choice([1, 2, 3, 4, 31]))), ("q",)]
-                    yield "multiplexer grid", s + [("w", *rate, 95), ("u",), ("w", *rate, 95), ("1", 9, 9), ("w", *rate, 95), ("x",), ("1", 8, 8), ("w", *rate, 95)]
+                    yield s + [("w", *rate, 95), ("u",), ("w", *rate, 95), ("1", 9, 9), ("w", *rate, 95), ("x",), ("1", 8, 8), ("w", *rate, 95)]
 
 def rates(count):
     groups = []
@@ -255,20 +276,21 @@ def rates(count):
         d = R.choice([R.randrange(1, 100), R.randrange(1, 2000), R.randrange(1, 2**25)])
         n = int(d * R.uniform(18, 125))
         ask(n, d)
-    return batch("rates", groups, 15)
+    return batch(groups, 15)
 
 def durations():
     s = [("1", 1, 1), ("u",)] * 65
-    yield "durations", s
-    yield "durations", [("2", 1, 1), ("u",)] * 65
+    yield s
+    yield [("2", 1, 1), ("u",)] * 65
     for _ in range(40):
         s = []
         for _ in range(R.randrange(1, 17)): queue_packet(s); s.append(("u",))
         for _ in range(6): s += [("w", *a_rate(), 95), ("u",)]
-        yield "durations", s
+        yield s
 
 def journeys(count, written):
-    """What a multiplexer writes, read back by the demultiplexer, some frames damaged or lost. `written` gives a script's frames."""
+    """What a multiplexer writes, read back by the demultiplexer, some frames damaged or lost. `written` gives scripts' frames."""
+    fronts = []
     for _ in range(count):
         s = [("S", *R.choice([(0, 1), (1, 0), (1, 1), (0, 0)]))]
         rate = a_rate()
@@ -278,16 +300,17 @@ def journeys(count, written):
             elif r < .45: s.append(("2", byte(), byte()))
             elif r < .65: queue_packet(s)
             else: s.append(("w", *rate, 95))
-        s += [("w", *rate, 95)] * R.choice([1, 4, 12])
+        fronts.append(s + [("w", *rate, 95)] * R.choice([1, 4, 12]))
+    for s, frames in zip(fronts, written(fronts)):
         back = [("H",)]
-        for f in written(s):
+        for f in frames:
             f = list(f)
             r = R.random()
             if r < .04: continue
             if r < .1: f[R.randrange(len(f))] ^= 1 << R.randrange(8)
             back.append(("f", f))
             back += [("n",)] * R.choice([0, 1, 3, 12])
-        yield "journeys", s + back + [("n",)] * 12
+        yield s + back + [("n",)] * 12
 
 def anything(count):
     """Operations of every kind in any order."""
@@ -307,11 +330,49 @@ def anything(count):
             elif k in "12": s.append((k, byte(), byte()))
             elif k == "w": s.append((k, *a_rate(R.random() < .8), R.choice([95, 95, 255, R.randrange(96)])))
             else: s.append((k,))
-        yield "anything", s + [("m",), ("l",), ("u",), ("n",), ("n",)]
+        yield s + [("m",), ("l",), ("u",), ("n",), ("n",)]
+
+def raw_fields(count):
+    """Fields set to what breaks a limit, or does not, and calls on them."""
+    calls = [("m",), ("c", [1, 2]), ("c", []), ("e", 40), ("v",), ("l",), ("a", 1, [5]), ("a", 64, []), ("i", 2, [6, 7]), ("o", 130), ("o", 0), ("q",)]
+    for _ in range(count):
+        s = []
+        for _ in range(20):
+            r = R.random()
+            if r < .12: s.append(("B", R.choice([0, 1, 7, 62, 63, 64, 255]), R.choice([0, 1, 2, 30, 31, 32, 255])))
+            elif r < .24: s.append(("K", R.choice([0, 3, 3, 4, 255]), R.choice([0, 1, 2, 3, 4, 5, 62, 63, 64, 255])))
+            elif r < .3: s.append(("b", R.choice([0, 1, 7, 63, 64])))
+            elif r < .36: s.append(("k", R.choice([0, 3, 4])))
+            elif r < .45: s.append(("d", a_block()))
+            elif r < .55: s.append(("p", packet_bytes(R.choice([8, 40, 128]))))
+            else: s.append(R.choice(calls))
+        yield s + [("m",), ("l",), ("e", 40), ("o", 130)]
+    breaking = [(32, 0, 0), (255, 0, 0), (0, 1, 0), (0, 127, 0), (0, 128, 0), (0, 255, 0), (0, 0, 33), (0, 0, 255), (255, 255, 255)]
+    for fields in breaking:
+        frame = ("f", [0xC3, 0xFF, 0xFC, 0x94, 0x2C, 0xFF, 0x82, 0x21, 0xFE, 0x41, 0x00])
+        yield [("H",), frame, ("D", *fields), ("n",), frame, ("f", []), ("H",), ("F",), ("n",), ("R",), ("n",), ("H",), frame, ("n",), ("n",), ("n",)]
+    breaking = [(17, 0, 0, 0), (255, 0, 0, 0), (0, 1, 0, 0), (0, 129, 0, 0), (0, 130, 0, 0), (0, 255, 0, 0), (0, 0, 65, 0), (0, 0, 255, 0), (0, 0, 0, 65), (0, 0, 0, 255), (255, 255, 255, 255)]
+    for fields in breaking:
+        s = [("1", 0x94, 0x2C), ("2", 0x15, 0x2C), ("k", 2), ("a", 1, [0x41]), ("q",), ("Q", *fields), ("u",), ("S", 1, 1), ("1", 1, 1), ("2", 0x80, 0x80)]
+        yield s + [("q",), ("w", 30, 1, 95), ("w", 0, 0, 0), ("x",), ("k", 0), ("q",), ("W",), ("u",), ("1", 1, 1), ("w", 30, 1, 95)]
+
+def not_there():
+    """Every operation byte with every number of argument bytes up to 12, and a record of no bytes."""
+    yield [("raw", [])]
+    for op in range(256):
+        yield [("raw", [op] + [0xFF] * n) for n in range(13)]
+
+def endings():
+    """Input whose last record is cut short or has a wrong mark, as bytes."""
+    whole = b"".join(map(encode, [("m",), ("b", 7), ("o", 3)]))
+    yield "input that ends within a record", [whole[:n] for n in range(len(whole) + 1)]
+    marks = [b"\xCC", b"\xCD", b"\xCC\x5D", b"\xCC\xDA\x00", b"\x5C\xCC\x01m", b"\x00\x00\x00\x00", b"\xCC\x5C\xFFm"]
+    yield "input with a wrong mark", [before + mark for before in (b"", whole) for mark in marks]
 
 def encode(op):
     """The record of an operation."""
     k, args = op[0], op[1:]
+    if k == "raw": return bytes([0xCC, 0x5C, len(args[0]), *args[0]])
     if k in "cdyptf": body = list(args[0])
     elif k in "ai": body = [args[0], *args[1]]
     elif k == "S": body = [args[0] | args[1] << 1]
@@ -320,10 +381,30 @@ def encode(op):
     return bytes([0xCC, 0x5C, len(body) + 1, ord(k), *body])
 
 def generate(seed, written, scale=1.0):
-    """All kinds; `written` runs a script and gives the frames it writes."""
+    """All kinds; `written` runs scripts by the crate and gives the frames that each writes."""
     R.seed(seed)
     c = lambda n: max(1, int(n * scale))
-    for part in (block_reading(), packet_reading(c(600), "p", "packet reading, plain"), packet_reading(c(600), "t", "packet reading, tidy"),
-                 block_pushes(c(150)), packet_pushes(c(300)), frames(c(500)), frames_small(4), frame_full(), mux(c(500)), mux_full(), grid(),
-                 rates(c(300)), durations(), journeys(c(300), written), anything(c(400))):
-        yield from part
+    yield "blocks, every string of up to two bytes", short_strings("d")
+    yield "payloads handed back, every string of up to two bytes", short_strings("y")
+    yield "packets, every string of up to two bytes", short_strings("p")
+    yield "packets read tidily, every string of up to two bytes", short_strings("t")
+    yield "blocks, every first two bytes", block_headers()
+    yield "packets, every first two bytes", packet_headers("p")
+    yield "packets read tidily, every first two bytes", packet_headers("t")
+    yield "blocks read", block_reading()
+    yield "packets read", packet_reading(c(1500), "p")
+    yield "packets read tidily", packet_reading(c(1500), "t")
+    yield "blocks pushed to and written", block_pushes(c(300))
+    yield "packets pushed to and written", packet_pushes(c(600))
+    yield "frames, whole and damaged", frames(c(1000))
+    yield "frames of triples of every type in every order", frames_small(4)
+    yield "frames around 32 waiting packets", frame_full()
+    yield "multiplexer", mux(c(1000))
+    yield "multiplexer, queues full", mux_full()
+    yield "multiplexer, every queue near the budgets", grid()
+    yield "rates", rates(c(1000))
+    yield "durations", durations()
+    yield "multiplexer into demultiplexer", journeys(c(600), written)
+    yield "raw fields", raw_fields(c(300))
+    yield "anything", anything(c(1000))
+    yield "operations that are not there", not_there()

@@ -4,16 +4,18 @@ use cea708_types::{tables::Code, DTVCCPacket, Framerate, Service};
 
 use crate::demux::{Demux, Item};
 use crate::mux::Mux;
-use crate::refusal::Refusal::{self, BadNumber, BadRun, OutShort};
+use crate::raw::{Block, Packet};
+use crate::refusal::Refusal::{self, BadNumber, BadRun, BadValue, OutShort};
 use crate::text::{hex, packet_text, pair_text, payload};
 use crate::tidy;
 
 /// What the script's operations work on.
 pub struct Machine {
-    s: Service,
-    p: DTVCCPacket,
-    r: Demux,
-    w: Mux,
+    s: Block,
+    p: Packet,
+    /// None: its counts break a limit
+    r: Option<Demux>,
+    w: Option<Mux>,
 }
 
 /// What one record prints.
@@ -32,6 +34,15 @@ pub fn copy(p: &DTVCCPacket) -> DTVCCPacket {
         q.push_service(s.clone()).expect("a copy fits");
     }
     q
+}
+
+/// What a draw gives.
+fn drawn(item: Option<Item>) -> String {
+    match item {
+        Some(Item::Pair(pair)) => pair_text(&pair),
+        Some(Item::Packet(packet)) => format!("packet {}", packet_text(&packet)),
+        None => "none".to_string(),
+    }
 }
 
 /// Refusal 6 for a service number.
@@ -78,18 +89,28 @@ fn done() -> Line {
     Line::Ok(String::new())
 }
 
+/// One that prints nothing after `ok`, and can be refused.
+fn plain(answer: Result<(), Refusal>) -> Line {
+    line(answer.map(|()| String::new()))
+}
+
+/// A machine whose counts are within the limits.
+fn within<T>(machine: &mut Option<T>) -> Result<&mut T, Refusal> {
+    machine.as_mut().ok_or(BadValue)
+}
+
 impl Machine {
     pub fn fresh() -> Self {
         Self {
-            s: Service::new(1),
-            p: DTVCCPacket::new(0),
-            r: Demux::default(),
-            w: Mux::default(),
+            s: Block::new(Service::new(1)),
+            p: Packet::new(DTVCCPacket::new(0)),
+            r: Some(Demux::default()),
+            w: Some(Mux::default()),
         }
     }
 
     fn new_service(&mut self, number: u8) -> Answer {
-        self.s = Service::new(service_number(number)?);
+        self.s = Block::new(Service::new(service_number(number)?));
         Ok(String::new())
     }
 
@@ -97,81 +118,91 @@ impl Machine {
         if sequence > 3 {
             return Err(BadNumber);
         }
-        self.p = DTVCCPacket::new(sequence);
+        self.p = Packet::new(DTVCCPacket::new(sequence));
         Ok(String::new())
     }
 
     fn read_service(&mut self, bytes: &[u8]) -> Answer {
-        self.s = Service::parse(bytes)?;
-        Ok(format!("{} {}", self.s.number(), hex(&payload(&self.s))))
+        let s = Service::parse(bytes)?;
+        let text = format!("{} {}", s.number(), hex(&payload(&s)));
+        self.s = Block::new(s);
+        Ok(text)
     }
 
-    fn read_packet(&mut self, bytes: &[u8]) -> Answer {
-        self.p = DTVCCPacket::parse(bytes)?;
-        Ok(packet_text(&self.p))
-    }
-
-    fn read_tidy(&mut self, bytes: &[u8]) -> Answer {
-        self.p = tidy::read(bytes)?;
-        Ok(packet_text(&self.p))
+    fn packet_read(&mut self, read: Result<DTVCCPacket, Refusal>) -> Answer {
+        let p = read?;
+        let text = packet_text(&p);
+        self.p = Packet::new(p);
+        Ok(text)
     }
 
     fn push_service_run(&mut self, bytes: &[u8]) -> Answer {
-        self.s.push_code(&run(bytes)?)?;
+        let mut s = self.s.value()?.clone();
+        s.push_code(&run(bytes)?)?;
+        self.s.hold(s);
         Ok(String::new())
     }
 
     fn push_service(&mut self) -> Answer {
-        self.p.push_service(self.s.clone())?;
+        let mut p = copy(self.p.value()?);
+        p.push_service(self.s.value()?.clone())?;
+        self.p.hold(p);
         Ok(String::new())
     }
 
     fn push_run(&mut self, number: u8, bytes: &[u8], single: bool) -> Answer {
+        let mut p = copy(self.p.value()?);
         let number = service_number(number)?;
         let code = run(bytes)?;
         if single {
-            self.p.push_code_into_single_service(number, code)?;
+            p.push_code_into_single_service(number, code)?;
         } else {
-            self.p.push_code(number, code)?;
+            p.push_code(number, code)?;
         }
+        self.p.hold(p);
         Ok(String::new())
     }
 
-    fn draw(&mut self) -> String {
-        match self.r.draw() {
-            Some(Item::Pair(pair)) => pair_text(&pair),
-            Some(Item::Packet(packet)) => format!("packet {}", packet_text(&packet)),
-            None => "none".to_string(),
-        }
+    fn measure_service(&self) -> Answer {
+        let s = self.s.value()?;
+        let empty = s.is_empty() as u8;
+        Ok(format!(
+            "{} {} {} {empty}",
+            s.number(),
+            s.len(),
+            s.free_space()
+        ))
+    }
+
+    fn measure_packet(&self) -> Answer {
+        let p = self.p.value()?;
+        let blocks = p.services().len();
+        Ok(format!(
+            "{} {} {} {blocks}",
+            p.sequence_no(),
+            p.len(),
+            p.free_space()
+        ))
     }
 
     fn write_service(&self, out: &mut [u8]) -> Answer {
         let mut bytes = vec![];
-        self.s.write(&mut bytes).expect("a Vec takes all");
+        self.s.value()?.write(&mut bytes).expect("a Vec takes all");
         put(out, &bytes)
     }
 
     fn write_packet(&self, out: &mut [u8]) -> Answer {
         let mut bytes = vec![];
-        self.p.write(&mut bytes).expect("a Vec takes all");
+        self.p.value()?.write(&mut bytes).expect("a Vec takes all");
         put(out, &bytes)
     }
 
-    /// Operations on blocks and packets.
+    /// Operations on the block and the packet.
     fn values(&mut self, op: u8, args: &[u8]) -> Option<Line> {
         Some(match (op, args) {
             (b'b', &[number]) => line(self.new_service(number)),
             (b'c', bytes) => line(self.push_service_run(bytes)),
-            (b'm', []) => {
-                let s = &self.s;
-                Line::Ok(format!(
-                    "{} {} {} {}",
-                    s.number(),
-                    s.len(),
-                    s.free_space(),
-                    s.is_empty() as u8
-                ))
-            }
+            (b'm', []) => line(self.measure_service()),
             (b'e', &[len]) => lent(len, |out| self.write_service(out)),
             (b'd', bytes) => line(self.read_service(bytes)),
             (b'y', bytes) => Line::Ok(hex(&Service::parse(bytes).map_or(vec![], |s| payload(&s)))),
@@ -179,62 +210,88 @@ impl Machine {
             (b'v', []) => line(self.push_service()),
             (b'a', [number, bytes @ ..]) => line(self.push_run(*number, bytes, false)),
             (b'i', [number, bytes @ ..]) => line(self.push_run(*number, bytes, true)),
-            (b'l', []) => {
-                let p = &self.p;
-                Line::Ok(format!(
-                    "{} {} {} {}",
-                    p.sequence_no(),
-                    p.len(),
-                    p.free_space(),
-                    p.services().len()
-                ))
-            }
+            (b'l', []) => line(self.measure_packet()),
             (b'o', &[len]) => lent(len, |out| self.write_packet(out)),
-            (b'p', bytes) => line(self.read_packet(bytes)),
-            (b't', bytes) => line(self.read_tidy(bytes)),
+            (b'p', bytes) => line(self.packet_read(DTVCCPacket::parse(bytes).map_err(Into::into))),
+            (b't', bytes) => line(self.packet_read(tidy::read(bytes))),
+            (b'B', &[number, len]) => {
+                self.s.set(number, len as usize);
+                done()
+            }
+            (b'K', &[sequence, count]) => {
+                self.p.set(sequence, count as usize);
+                done()
+            }
             _ => return None,
         })
     }
 
-    /// Operations on the two machines.
-    fn machines(&mut self, op: u8, args: &[u8]) -> Option<Line> {
-        match (op, args) {
-            (b'R', []) => self.r = Demux::default(),
-            (b'H', []) => self.r.handle_cea608(),
-            (b'F', []) => self.r.flush(),
-            (b'W', []) => self.w = Mux::default(),
-            (b'S', &[bits]) => self.w.switch(bits & 1 == 1, bits & 2 == 2),
-            (b'x', []) => self.w.flush(),
-            (b'f', bytes) => return Some(line(self.r.push(bytes).map(|()| String::new()))),
-            (b'n', []) => return Some(Line::Ok(self.draw())),
-            (b'q', []) => return Some(line(self.w.push_packet(&self.p).map(|()| String::new()))),
-            (b'1' | b'2', &[a, b]) => {
-                return Some(line(
-                    self.w.push_pair(op == b'1', a, b).map(|()| String::new()),
-                ))
+    /// Operations on the demultiplexer.
+    fn demux(&mut self, op: u8, args: &[u8]) -> Option<Line> {
+        let r = &mut self.r;
+        Some(match (op, args) {
+            (b'R', []) => {
+                *r = Some(Demux::default());
+                done()
             }
-            (b'w', &[n3, n2, n1, n0, d3, d2, d1, d0, len]) => {
-                let rate = Framerate::new(
-                    u32::from_be_bytes([n3, n2, n1, n0]),
-                    u32::from_be_bytes([d3, d2, d1, d0]),
+            (b'D', &[pairs, pending, waiting]) => {
+                let broken = pairs > 31 || pending > 126 || pending % 2 == 1 || waiting > 32;
+                assert!(
+                    broken,
+                    "counts that may be within the limits are not known here"
                 );
-                return Some(lent(len, |out| self.w.write(rate, out)));
+                *r = None;
+                done()
             }
-            (b'u', []) => return Some(Line::Ok(self.w.durations())),
+            (b'H', []) => plain(within(r).map(|r| r.handle_cea608())),
+            (b'F', []) => plain(within(r).map(|r| r.flush())),
+            (b'f', frame) => plain(within(r).and_then(|r| r.push(frame))),
+            (b'n', []) => line(within(r).map(|r| drawn(r.draw()))),
             _ => return None,
-        }
-        Some(done())
+        })
+    }
+
+    /// Operations on the multiplexer.
+    fn mux(&mut self, op: u8, args: &[u8]) -> Option<Line> {
+        let Self { w, p, .. } = self;
+        Some(match (op, args) {
+            (b'W', []) => {
+                *w = Some(Mux::default());
+                done()
+            }
+            (b'Q', &[packets, sent, field1, field2]) => {
+                let broken =
+                    packets > 16 || sent > 128 || sent % 2 == 1 || field1 > 64 || field2 > 64;
+                assert!(
+                    broken,
+                    "counts that may be within the limits are not known here"
+                );
+                *w = None;
+                done()
+            }
+            (b'S', &[bits]) => plain(within(w).map(|w| w.switch(bits & 1 == 1, bits & 2 == 2))),
+            (b'x', []) => plain(within(w).map(|w| w.flush())),
+            (b'q', []) => plain(within(w).and_then(|w| w.push_packet(p.value()?))),
+            (b'1' | b'2', &[a, b]) => plain(within(w).and_then(|w| w.push_pair(op == b'1', a, b))),
+            (b'w', &[n3, n2, n1, n0, d3, d2, d1, d0, len]) => {
+                let numer = u32::from_be_bytes([n3, n2, n1, n0]);
+                let denom = u32::from_be_bytes([d3, d2, d1, d0]);
+                lent(len, |out| {
+                    within(w)?.write(Framerate::new(numer, denom), out)
+                })
+            }
+            (b'u', []) => line(within(w).map(|w| w.durations())),
+            _ => return None,
+        })
     }
 
     pub fn operation(&mut self, record: &[u8]) -> Line {
         let Some((&op, args)) = record.split_first() else {
             return Line::Bad;
         };
-        if b"BKDQ".contains(&op) {
-            panic!("operation {} has no counterpart in the crate", op as char);
-        }
         self.values(op, args)
-            .or_else(|| self.machines(op, args))
+            .or_else(|| self.demux(op, args))
+            .or_else(|| self.mux(op, args))
             .unwrap_or(Line::Bad)
     }
 }

@@ -1,13 +1,14 @@
 //! `ccscript` over the Rust crate: runs the script on standard input and prints each answer on a line.
 //!
-//! Where document 01 adds a rule, the rule is applied around the crate's calls: refusals 6 to 10, the
-//! sizes, the draw, the dropping of empty packets, the part handed back, the tidy reader. The four
-//! operations that set raw fields (`B`, `K`, `D`, `Q`) have no counterpart in the crate, whose values
-//! cannot be made to break a limit: a script that holds one of them stops with an error.
+//! Where document 01 adds a rule, the rule is applied around the crate's calls: refusals 6 to 11, the
+//! sizes, the draw, the dropping of empty packets, the part handed back, the tidy reader. The crate's
+//! fields are private, so the operations that set raw fields work on places kept beside its values (`B`
+//! and `K`), or only tell that a limit is broken (`D` and `Q`).
 
 mod demux;
 mod machine;
 mod mux;
+mod raw;
 mod refusal;
 mod text;
 mod tidy;

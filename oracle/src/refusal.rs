@@ -15,6 +15,7 @@ pub enum Refusal {
     BadRate,
     OutShort(usize),
     Full,
+    BadValue,
 }
 
 impl From<ParserError> for Refusal {
@@ -52,6 +53,7 @@ impl fmt::Display for Refusal {
             Self::BadRate => write!(f, "8"),
             Self::OutShort(needed) => write!(f, "9 {needed}"),
             Self::Full => write!(f, "10"),
+            Self::BadValue => write!(f, "11"),
         }
     }
 }

@@ -1,0 +1,30 @@
+"""Runs of `ccscript` over the crate and of the port's."""
+import os, platform, shutil, subprocess
+import scripts
+
+HERE = os.path.dirname(os.path.abspath(__file__))
+ROOT = os.path.dirname(HERE)
+CRATE = [os.path.join(HERE, "target/release/ccscript")]
+PORT = [os.path.join(ROOT, "target/bin/ccscript")]
+if platform.machine() != "x86_64" and shutil.which("qemu-x86_64"):
+    PORT = ["qemu-x86_64", "-L", "/usr/x86_64-linux-gnu", *PORT]
+# Scripts are run many at a time, each behind the operations that make everything fresh.
+FRESH = [("b", 1), ("k", 0), ("R",), ("W",)]
+
+
+def lines(program, script):
+    """What a program prints for a script, and how it ends; one that breaks off differs from one that ends."""
+    run = subprocess.run(program, input=b"".join(map(scripts.encode, script)), capture_output=True)
+    return run.stdout.decode().split("\n")[:-1] + [f"exit {run.returncode}"]
+
+
+def written(several):
+    """For each of several scripts the frames that it writes by the crate."""
+    whole = [op for script in several for op in FRESH + script]
+    answers = iter(zip(whole, lines(CRATE, whole)))
+    for script in several:
+        for _ in FRESH:
+            next(answers)
+        told = [next(answers) for _ in script]
+        texts = [line.split(" ") for op, line in told if op[0] == "w" and line.startswith("ok")]
+        yield [bytes.fromhex(out)[: int(count)] for _, count, out in texts]
