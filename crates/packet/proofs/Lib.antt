@@ -1,11 +1,5 @@
-pub mod Entries
 pub mod Holds
-pub mod Walks
-pub mod Reading
-pub mod Packets
+pub mod Replies
 pub mod Measures
-pub mod Pushed
-pub mod Pushes
-pub mod Writes
 pub mod Placed
 pub mod Keeps

@@ -1,27 +1,32 @@
 -- The block at a place, by each way out. Assumes nothing.
 use mathlib.Core.Path.{_≡_, refl, sym, ap, _∙_}
-use mathlib.Core.Bool.{false}
+use mathlib.Core.Bool.{true, false}
 use mathlib.Core.List.{List, [], _∷_}
 use Prim.Native.Nat.{ℕ, zero, suc, _+_, _-_, _≤_, _<_}
 use native.Mathlib.Omega.{arith}
-use lib.ListN.{length, take, drop, getD, replicate, length-drop, drop-of-length-le}
-use lib.Seq.{sets, length-take-le, drop-drop}
+use lib.ListN.{length, take, drop, getD, length-drop, drop-of-length-le}
+use lib.Seq.{length-take-le, drop-drop}
 use Rattle.caption.specs.declared.Refusal.the-variants.{BadValue}
 use Rattle.service.specs.Service.{blank}
-use Rattle.service.proofs.Services.{laid-as}
+use Rattle.service.specs.declared.Service.{Service}
 use Rattle.packet.specs.declared.DTVCCPacket.{DTVCCPacket}
+use Rattle.packet.specs.declared.ServiceAt.{ServiceAt}
 use Rattle.packet.specs.declared.Place.the-variants.{Here, Nothing, Refused}
-use Rattle.packet.specs.Packet.{Sized, entries, entriesOf, cut, usedBy, packetOf, validDTVCC}
-use Rattle.packet.specs.Extent.{sumOf}
-use Rattle.packet.specs.Place.{Placed, blocksAt}
-use Rattle.packet.proofs.Entries.{entries-at}
-use Rattle.packet.proofs.Holds.{Places, Within, used-fits, blocks-count}
-use Rattle.packet.proofs.Measures.{sized-within}
-use Rattle.packet.proofs.Pushed.{used-sum, used-parts, cut-drop}
+use Rattle.entries.specs.Fields.{entries, cut, usedBy}
+use Rattle.entries.specs.Extent.{Sized, sumTo, blockAt}
+use Rattle.entries.proofs.Entries.{entries-at}
+use Rattle.entries.proofs.Holds.{used-fits, blocks-count}
+use Rattle.entries.proofs.Walks.{sum-few}
+use Rattle.entries.proofs.Measures.{sized-within}
+use Rattle.entries.proofs.Placed.{place-block}
+use Rattle.blocks.proofs.Pushed.{used-sum, used-parts, cut-drop}
+use Rattle.packet.specs.Packet.{fieldsOf, entriesOf, packetOf, validDTVCC}
+use Rattle.packet.specs.Place.{Placed, blocksAt, saidPlace}
+use Rattle.packet.proofs.Holds.{Places, Within}
 
-pub place-invalid : (p : DTVCCPacket) (i : ℕ) → validDTVCC p ≡ false → Placed (blocksAt i p) (record { place = Refused BadValue; service = blank })
+pub place-invalid : (p : DTVCCPacket) (i : ℕ) (r : ServiceAt) → validDTVCC p ≡ false → r .place ≡ Refused BadValue → r .service ≡ blank → Placed (blocksAt i p) r
 unfolding blocksAt
-place-invalid p i e = rw e (record { place = refl; service = refl })
+place-invalid p i r e a b = rw e (record { place = ap saidPlace a; service = b })
 
 -- the entries from a place on
 entries-drop : (i k : ℕ) (ns ss : List ℕ) → i ≤ k → drop i (entries k ns ss) ≡ entries (k - i) (drop i ns) (drop i ss)
@@ -35,36 +40,44 @@ entries-drop (suc i) (suc k) ns ss h =
     one-more : (i : ℕ) → 1 + i ≡ suc i
     one-more i = omega arith
 
-module _ (p : DTVCCPacket) (l u : ℕ) (s : Sized p l u) (places : Places p) (i : ℕ) where
+module _ (p : DTVCCPacket) (l u : ℕ) (s : Sized (fieldsOf p) l u) (places : Places p) (i : ℕ) where
   w : Within p
-  w = sized-within p l u s
+  w = sized-within (fieldsOf p) l u s
 
-  pub place-none : p .count ≤ i → Placed (blocksAt i p) (record { place = Nothing; service = blank })
+  valid : validDTVCC p ≡ true
+  unfolding validDTVCC
+  valid = s .valid
+
+  pub place-none : (r : ServiceAt) → p .count ≤ i → r .place ≡ Nothing → r .service ≡ blank → Placed (blocksAt i p) r
   unfolding blocksAt
-  place-none h =
-      let few : length (packetOf p .blocks) ≤ i = omega (arith, blocks-count p w places) in
+  place-none r h a b =
+      let few : length (packetOf p .blocks) ≤ i = omega (arith, blocks-count (fieldsOf p) w (places .payload)) in
       let z : drop i (packetOf p .blocks) ≡ [] = drop-of-length-le (packetOf p .blocks) few in
-      rw (s .valid, z) (record { place = refl; service = refl })
+      rw (valid, z) (record { place = ap saidPlace a; service = b })
 
-  module _ (there : i < p .count) (from k : ℕ) (f : from ≡ sumOf (take i (p .sizes))) (e : k ≡ getD (p .sizes) i 0) where
+  module _ (there : i < p .count) where
+    abbrev from : ℕ
+    from = sumTo i (p .sizes)
+
+    abbrev k : ℕ
+    k = getD (p .sizes) i 0
+
     before : usedBy (take i (entriesOf p)) ≡ from
-    before = used-sum i (p .count) (p .numbers) (p .sizes) (omega arith) ∙ sym f
+    before = used-sum i (p .count) (p .numbers) (p .sizes) (omega arith) ∙ sym (sum-few (p .sizes) i (omega (arith, w .count)))
 
-    rest-at : drop i (entriesOf p) ≡ record { number = getD (p .numbers) i 0; size = getD (p .sizes) i 0 } ∷ entries (p .count - (i + 1)) (drop (i + 1) (p .numbers)) (drop (i + 1) (p .sizes))
+    rest-at : drop i (entriesOf p) ≡ record { number = getD (p .numbers) i 0; size = k } ∷ entries (p .count - (i + 1)) (drop (i + 1) (p .numbers)) (drop (i + 1) (p .sizes))
     rest-at = entries-drop i (p .count) (p .numbers) (p .sizes) (omega arith) ∙ entries-at (p .count) i (p .numbers) (p .sizes) there
 
-    pub place-bytes : from + k ≤ length (p .payload)
+    bytes-there : from + k ≤ length (p .payload)
     unfolding usedBy
-    place-bytes =
-        let r : usedBy (drop i (entriesOf p)) ≡ getD (p .sizes) i 0 + usedBy (entries (p .count - (i + 1)) (drop (i + 1) (p .numbers)) (drop (i + 1) (p .sizes))) = ap usedBy rest-at in
-        omega (arith, before, used-parts i (entriesOf p), used-fits p w places)
+    bytes-there =
+        let r : usedBy (drop i (entriesOf p)) ≡ k + usedBy (entries (p .count - (i + 1)) (drop (i + 1) (p .numbers)) (drop (i + 1) (p .sizes))) = ap usedBy rest-at in
+        omega (arith, before, used-parts i (entriesOf p), used-fits (fieldsOf p) w (places .payload))
 
-    pub place-here : (n : ℕ) (bytes : List ℕ) → n ≡ getD (p .numbers) i 0 → bytes ≡ sets (replicate 31 0) 0 (take k (drop from (p .payload)))
-        → Placed (blocksAt i p) (record { place = Here; service = record { number = n; len = k; payload = bytes } })
+    pub place-here : (b : Service) → b ≡ blockAt i (p .numbers) (p .sizes) (p .payload) → Placed (blocksAt i p) (record { place = Here; service = b })
     unfolding blocksAt cut
-    place-here n bytes m b =
-        let part : List ℕ = take k (drop from (p .payload)) in
-        let size : length part ≡ k = length-take-le k (drop from (p .payload)) (rw length-drop (omega (arith, place-bytes))) in
-        let d : drop i (packetOf p .blocks) ≡ cut (record { number = getD (p .numbers) i 0; size = getD (p .sizes) i 0 } ∷ entries (p .count - (i + 1)) (drop (i + 1) (p .numbers)) (drop (i + 1) (p .sizes))) (drop from (p .payload)) =
+    place-here b e =
+        let size : length (take k (drop from (p .payload))) ≡ k = length-take-le k (drop from (p .payload)) (rw length-drop (omega (arith, bytes-there))) in
+        let d : drop i (packetOf p .blocks) ≡ cut (record { number = getD (p .numbers) i 0; size = k } ∷ entries (p .count - (i + 1)) (drop (i + 1) (p .numbers)) (drop (i + 1) (p .sizes))) (drop from (p .payload)) =
         cut-drop i (entriesOf p) (p .payload) ∙ rw (before, rest-at) in
-        rw (s .valid, d, ← e, ← m) (record { place = refl; service = laid-as n k bytes part size b })
+        rw (valid, d) (record { place = refl; service = e ∙ place-block i (p .numbers) (p .sizes) (p .payload) (omega (arith, w .count)) size })

@@ -1,4 +1,3 @@
 pub mod Packet
-pub mod Extent
 pub mod Place
-pub mod Reading
+pub mod Header

@@ -45,7 +45,8 @@ pub enum Head {
     },
 }
 
-fn lesser(a: usize, b: usize) -> usize
+// The lesser of two counts.
+pub fn lesser(a: usize, b: usize) -> usize
     ensures { λ r. ⌜ r ≡ min a b ⌝ }
 {
     if a < b {

@@ -1,5 +1,5 @@
 -- The extent tells whether a limit is broken, and the length that the room is what is left of. Assumes nothing.
-use Rattle.packet.proofs.Measures.{bad-measured, room-measured, small-lengths, length-few}
+use Rattle.packet.proofs.Measures.{bad-measured, room-measured, length-few}
 use borrow.Author.Needs.{needs}
 use Rattle.packet.proofs.DTVCCPacket.free_space.Statement.{statement}
 use Rattle.packet.proofs.DTVCCPacket.free_space.Tie as tie
@@ -7,14 +7,11 @@ use Rattle.packet.proofs.DTVCCPacket.free_space.Tie as tie
 extent-requires : tie.Need-extent-requires
 extent-requires c κs = search needs
 
-enum-known-lengths : tie.Need-enum-known-lengths
-enum-known-lengths c = search needs
+enum-known-length : tie.Need-enum-known-length
+enum-known-length c = search needs
 
-length-of-requires : tie.Need-length-of-requires
-length-of-requires c κs = search (needs, small-lengths)
-
-sub-t6 : tie.Need-sub-t6
-sub-t6 c = search (needs, length-few, small-lengths)
+sub-t5 : tie.Need-sub-t5
+sub-t5 c = search (needs, length-few)
 
 enum-told : tie.Need-enum-told
 enum-told c = search needs
@@ -30,9 +27,8 @@ free-space-spec =
     tie.close
     (tie.spec
     extent-requires
-    enum-known-lengths
-    length-of-requires
-    sub-t6
+    enum-known-length
+    sub-t5
     enum-told
     returns
     returns-2)

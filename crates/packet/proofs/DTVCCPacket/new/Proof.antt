@@ -1,6 +1,6 @@
 -- The two cases of the sequence number. Assumes nothing.
 use mathlib.Core.Path.{refl}
-use Rattle.packet.proofs.Packets.{refuses, gives}
+use Rattle.packet.proofs.Replies.{refuses, gives}
 use Rattle.packet.proofs.Measures.{new-bad, new-good}
 use borrow.Author.Needs.{needs}
 use Rattle.packet.proofs.DTVCCPacket.new.Statement.{statement}

@@ -10,8 +10,8 @@ extent-requires c κs = search needs
 enum-told : tie.Need-enum-told
 enum-told c = search needs
 
-wide-requires : tie.Need-wide-requires
-wide-requires c κs = search needs
+cast-t4 : tie.Need-cast-t4
+cast-t4 c = search needs
 
 enum-told-2 : tie.Need-enum-told-2
 enum-told-2 c = search needs
@@ -24,4 +24,4 @@ returns-2 c = search (needs, bad-measured)
 
 pub sequence-no-spec : {M : Type 1} → statement M
 sequence-no-spec =
-    tie.close (tie.spec extent-requires enum-told wide-requires enum-told-2 returns returns-2)
+    tie.close (tie.spec extent-requires enum-told cast-t4 enum-told-2 returns returns-2)

@@ -1,0 +1,4 @@
+pub mod Reading
+pub mod Readers
+pub mod Pushed
+pub mod Pushes

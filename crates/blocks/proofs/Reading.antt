@@ -1,0 +1,279 @@
+-- How the blocks of a packet are read into their places, step by step. Assumes nothing.
+use mathlib.Core.Path.{_≡_, refl, sym, ap, _∙_}
+use mathlib.Core.Bool.{Bool, true, false, cond, not, _&&_}
+use mathlib.Core.List.{List, [], _∷_, _++_, map, append-assoc, append-nil}
+use Prim.Native.Nat.{ℕ, _+_, _-_, _*_, _≤_, _<_}
+use native.Mathlib.Nat.{add-zero}
+use native.Mathlib.Omega.{arith}
+use lib.Dec.{eqb, ltb}
+use lib.ListN.{length, take, drop, getD, set, length-append, length-map, length-drop, drop-of-length-le}
+use lib.Seq.{sets, drop-drop, length-take-le}
+use borrow.Author.Tests.{eq-eqb, ne-eqb, eqb-true, eqb-false, ltb-false}
+use Rattle.caption.specs.declared.Refusal.{Refusal}
+use Rattle.caption.specs.declared.Counted.{Counted}
+use Rattle.caption.specs.declared.Counted.the-variants.{Count, Refused}
+use Rattle.caption.specs.Answers.{saidRefusal}
+use Rattle.model.specs.Said.{Outcome, gave, refused, isGiven, mapped, lengthMismatch}
+use Rattle.model.specs.Block.{Block, topNumber, blockSize, headerLength, needed, isShort, blockIn, readBlock, blockLength}
+use Rattle.model.specs.Packet.{plainMove, tidyMove, kept, blocksFrom}
+use Rattle.model.proofs.Cases.{by-test, by-cond, mapped-by}
+use Rattle.model.proofs.Blocks.{block-length, written-length}
+use Rattle.model.proofs.Walk.{blocks-next, blocks-none}
+use Rattle.model.proofs.Limits.{Moves, read-from}
+use Rattle.service.specs.declared.Head.{Head}
+use Rattle.service.specs.declared.Head.the-variants.{Whole, Short}
+use Rattle.service.specs.Head.{headOf, saidShort}
+use Rattle.service.proofs.Heads.{Headed, headed, head-short, header-least}
+use Rattle.service.proofs.Runs.{sets-append}
+use Rattle.blocks.specs.declared.Kept.{Kept}
+use Rattle.entries.specs.Fields.{numbersOf, sizesOf, payloadsOf, blockFrom}
+use Rattle.blocks.specs.Reading.{moveBy, moveFor, keptFor, Laid, behind, Stored, Room, KeepRoom}
+
+-- what is laid behind other blocks
+pub payloads-append : (bs cs : List Block) → payloadsOf (bs ++ cs) ≡ payloadsOf bs ++ payloadsOf cs
+payloads-append [] cs = refl
+payloads-append (b ∷ bs) cs = ap (λ (l : List ℕ). b .payload ++ l) (payloads-append bs cs) ∙ sym (append-assoc (b .payload) (payloadsOf bs) (payloadsOf cs))
+
+pub map-append : {A : Type 0} (f : A → ℕ) (xs ys : List A) → map f (xs ++ ys) ≡ map f xs ++ map f ys
+map-append f [] ys = refl
+map-append f (x ∷ xs) ys = ap (λ (l : List ℕ). f x ∷ l) (map-append f xs ys)
+
+-- a run of stores of a list made of blocks, in two parts
+mapped-sets : (f : Block → ℕ) (bs cs : List Block) (l : List ℕ) (i : ℕ) → sets (sets l i (map f bs)) (i + length bs) (map f cs) ≡ sets l i (map f (bs ++ cs))
+mapped-sets f bs cs l i =
+    let n : length (map f bs) ≡ length bs = length-map bs f in
+    rw (map-append f bs cs, sets-append (map f bs) (map f cs) l i, n)
+
+module _ (bs : List Block) (at : Kept) (n₀ s₀ p₀ n₁ s₁ p₁ : List ℕ) (first : Laid bs at n₀ s₀ p₀ n₁ s₁ p₁) (n₂ s₂ p₂ : List ℕ) where
+  laid-append : (cs : List Block) → Laid cs (behind bs at) n₁ s₁ p₁ n₂ s₂ p₂ → Laid (bs ++ cs) at n₀ s₀ p₀ n₂ s₂ p₂
+  laid-append cs more =
+      record {
+        numbers = more .numbers ∙ ap (λ (l : List ℕ). sets l (at .count + length bs) (numbersOf cs)) (first .numbers) ∙ mapped-sets _ bs cs n₀ (at .count);
+        sizes = more .sizes ∙ ap (λ (l : List ℕ). sets l (at .count + length bs) (sizesOf cs)) (first .sizes) ∙ mapped-sets _ bs cs s₀ (at .count);
+        payload = more .payload ∙ ap (λ (l : List ℕ). sets l (at .used + length (payloadsOf bs)) (payloadsOf cs)) (first .payload)
+            ∙ rw (payloads-append bs cs) (sym (sets-append (payloadsOf bs) (payloadsOf cs) p₀ (at .used)));
+      }
+
+  -- blocks stored, and then those of an outcome
+  stored-append : (o : Outcome (List Block)) (r : Counted) → Stored o (behind bs at) r n₁ s₁ p₁ n₂ s₂ p₂ → Stored (mapped (λ cs. bs ++ cs) o) at r n₀ s₀ p₀ n₂ s₂ p₂
+  unfolding Stored
+  stored-append (gave cs) r k =
+      let n : at .count + length bs + length cs ≡ at .count + length (bs ++ cs) = omega (arith, length-append bs cs) in
+      (k .0 ∙ ap Count n, laid-append cs (k .1))
+  stored-append (refused why) r k = k
+
+-- no bytes are left
+pub stored-none : (move : List ℕ → ℕ) (d : List ℕ) (here : ℕ) (at : Kept) (n s p : List ℕ) → length d ≤ here → Stored (blocksFrom move 0 (drop here d)) at (Count (at .count)) n s p n s p
+unfolding Stored
+stored-none move d here at n s p h =
+    rw (drop-of-length-le d h, blocks-none move) (ap Count (sym (add-zero (at .count))), record { numbers = refl; sizes = refl; payload = refl })
+
+-- bytes whose header was read
+module _ (d : List ℕ) (n st sz : ℕ) (h : Headed d n st sz) where
+  abbrev part : List ℕ
+  part = take sz (drop st d)
+
+  part-length : length part ≡ sz
+  part-length = length-take-le sz (drop st d) (rw length-drop (omega (arith, h .fits)))
+
+  there : needed d ≤ length d
+  unfolding isShort
+  there = ltb-false _ _ (h .whole)
+
+  read-is : readBlock d ≡ gave (blockIn d)
+  unfolding readBlock
+  read-is = simp (h .whole)
+
+  block-null : n ≡ 0 → blockIn d ≡ record { number = n; payload = [] }
+  unfolding blockIn
+  block-null z = simp (h .number, z)
+
+  block-named : (n ≡ 0 → ⊥) → blockIn d ≡ record { number = n; payload = part }
+  unfolding blockIn
+  block-named z = simp (h .number, ne-eqb n 0 z, h .start, h .size)
+
+  -- which blocks are kept
+  kept-is : (cs : List Block) → kept (blockIn d) cs ≡ keptFor n part ++ cs
+  unfolding keptFor
+  kept-is cs =
+      by-test (eqb n 0)
+      (λ e. rw (block-null (eqb-true _ _ e), e))
+      (λ e. rw (block-named (eqb-false _ _ e), e) (by-test (eqb (length part) 0) (λ z. rw z) (λ z. rw z)))
+
+  -- how far the readers move on
+  move-tidy : moveFor true n st sz ≡ tidyMove d
+  unfolding moveFor tidyMove
+  move-tidy = rw (h .start, h .size)
+
+  move-plain : moveFor false n st sz ≡ plainMove d
+  unfolding moveFor plainMove
+  move-plain =
+      by-test (eqb n 0)
+      (λ e. rw (e, block-null (eqb-true _ _ e)))
+      (λ e. rw (e, block-named (eqb-false _ _ e))
+      (by-test (eqb sz 0)
+      (λ z. let q : eqb (length part) 0 ≡ true = eq-eqb _ _ (part-length ∙ eqb-true _ _ z) in rw (z, q))
+      (λ z. let q : eqb (length part) 0 ≡ false = ne-eqb _ _ (λ w. eqb-false _ _ z (sym part-length ∙ w)) in
+      let l : 1 ≤ length part = omega (arith, part-length, eqb-false sz 0 z) in
+      rw (z, q) (sym (block-length (record { number = n; payload = part }) l ∙ written-length (record { number = n; payload = part }) ∙ ap (λ k. cond (ltb n 7) 1 2 + k) part-length)))))
+
+  pub move-is : (tidy : Bool) → moveFor tidy n st sz ≡ moveBy tidy d
+  move-is true = move-tidy
+  move-is false = move-plain
+
+  moves : (tidy : Bool) → Moves (moveBy tidy d) (length d) (blockLength (blockIn d))
+  moves true = read-from d there .tidy
+  moves false = read-from d there .plain
+
+-- every move goes forward
+move-least : (tidy : Bool) (d : List ℕ) → 1 ≤ moveBy tidy d
+unfolding tidyMove plainMove
+move-least true d = omega (arith, header-least (getD d 0 0))
+move-least false d =
+    by-cond (λ k. 1 ≤ k) (eqb (length (blockIn d .payload)) 0) (λ _. omega arith)
+    (λ e. let some : 1 ≤ length (blockIn d .payload) = omega (arith, eqb-false (length (blockIn d .payload)) 0 e) in
+    omega (arith, block-length (blockIn d) some, written-length (blockIn d)))
+
+-- the bytes from `here` on, where some are left
+module _ (tidy : Bool) (d : List ℕ) (here : ℕ) (left : here < length d) where
+  some-left : 1 ≤ length (drop here d)
+  some-left = rw length-drop (omega arith)
+
+  -- a header that is short
+  refused-at : (k : ℕ) → headOf (drop here d) ≡ Short k → blocksFrom (moveBy tidy) 0 (drop here d) ≡ refused (lengthMismatch k (length d - here))
+  unfolding readBlock
+  refused-at k e =
+      let s = head-short (drop here d) k e in
+      blocks-next (moveBy tidy) (drop here d) some-left (move-least tidy (drop here d)) ∙ rw (s .0, s .1, length-drop here d)
+
+  pub stored-short : (head : Head) (k : ℕ) (why : Refusal) (at : Kept) (n₀ s₀ p₀ n₁ s₁ p₁ : List ℕ) → head ≡ headOf (drop here d) → head ≡ Short k
+      → saidRefusal why ≡ saidShort head (length d - here) → Stored (blocksFrom (moveBy tidy) 0 (drop here d)) at (Refused why) n₀ s₀ p₀ n₁ s₁ p₁
+  unfolding Stored
+  stored-short head k why at n₀ s₀ p₀ n₁ s₁ p₁ e q w = rw (refused-at k (sym e ∙ q)) (why, refl, w ∙ rw q)
+
+  -- a header that is whole
+  module _ (n st sz : ℕ) (e : headOf (drop here d) ≡ Whole n st sz) where
+    abbrev body : List ℕ
+    body = take sz (drop (here + st) d)
+
+    header : Headed (drop here d) n st sz
+    header = headed (drop here d) n st sz e
+
+    body-is : take sz (drop st (drop here d)) ≡ body
+    body-is = rw (drop-drop st here d)
+
+    pub next-is : blocksFrom (moveBy tidy) 0 (drop here d) ≡ mapped (λ cs. keptFor n body ++ cs) (blocksFrom (moveBy tidy) 0 (drop (here + moveFor tidy n st sz) d))
+    next-is =
+        blocks-next (moveBy tidy) (drop here d) some-left (move-least tidy (drop here d))
+        ∙ rw (read-is (drop here d) n st sz header, ← move-is (drop here d) n st sz header tidy, drop-drop (moveFor tidy n st sz) here d)
+        (mapped-by (λ cs. kept-is (drop here d) n st sz header cs ∙ rw body-is) (blocksFrom (moveBy tidy) 0 (drop (here + moveFor tidy n st sz) d)))
+
+    pub stored-next : (m : ℕ) (at next : Kept) (r : Counted) (n₀ s₀ p₀ n₁ s₁ p₁ n₂ s₂ p₂ : List ℕ) → m ≡ moveFor tidy n st sz → next ≡ behind (keptFor n body) at → Laid (keptFor n body) at n₀ s₀ p₀ n₁ s₁ p₁
+        → Stored (blocksFrom (moveBy tidy) 0 (drop (here + m) d)) next r n₁ s₁ p₁ n₂ s₂ p₂ → Stored (blocksFrom (moveBy tidy) 0 (drop here d)) at r n₀ s₀ p₀ n₂ s₂ p₂
+    stored-next m at next r n₀ s₀ p₀ n₁ s₁ p₁ n₂ s₂ p₂ em en l k =
+        let k′ : Stored (blocksFrom (moveBy tidy) 0 (drop (here + moveFor tidy n st sz) d)) (behind (keptFor n body) at) r n₁ s₁ p₁ n₂ s₂ p₂ = rw (← em, ← en) k in
+        rw next-is (stored-append (keptFor n body) at n₀ s₀ p₀ n₁ s₁ p₁ l n₂ s₂ p₂ (blocksFrom (moveBy tidy) 0 (drop (here + moveFor tidy n st sz) d)) r k′)
+
+    -- the room that is there
+    move-bounds : Moves (moveFor tidy n st sz) (length d - here) (blockLength (blockIn (drop here d)))
+    move-bounds = rw (move-is (drop here d) n st sz header tidy, ← length-drop here d) (moves (drop here d) n st sz header tidy)
+
+    body-length : length body ≡ sz
+    body-length = ap length (sym body-is) ∙ part-length (drop here d) n st sz header
+
+    fits-here : st + sz ≤ length d - here
+    fits-here = rw (← length-drop here d) (header .fits)
+
+    pub keep-room : (at : Kept) → Room at here (length d) → KeepRoom at (here + st) sz (length d)
+    keep-room at room =
+        record {
+          there = omega (arith, fits-here);
+          small = header .small;
+          block = omega (arith, fits-here, header .some, room .blocks, room .short);
+          bytes = omega (arith, fits-here, header .some, room .bytes, room .short);
+        }
+
+    -- a block that is kept moves by more than its payload
+    move-covers : (n ≡ 0 → ⊥) → (sz ≡ 0 → ⊥) → 1 + sz ≤ moveFor tidy n st sz
+    unfolding moveFor
+    move-covers a b =
+        by-cond (λ k. 1 + sz ≤ k) tidy (λ _. omega (arith, header .some))
+        (λ _. simp (ne-eqb n 0 a, ne-eqb sz 0 b) (by-cond (λ k. 1 + sz ≤ k + sz) (ltb n 7) (λ _. omega arith) (λ _. omega arith)))
+
+    -- and the room behind it
+    room-kept : (at : Kept) → Room at here (length d) → (bs : List Block) → (length bs + length (payloadsOf bs) ≤ moveFor tidy n st sz) → (2 * length bs ≤ moveFor tidy n st sz) → Room (behind bs at) (here + moveFor tidy n st sz) (length d)
+    room-kept at room bs h k =
+        record { within = omega (arith, move-bounds .most); short = room .short; blocks = omega (arith, room .blocks); bytes = omega (arith, room .bytes) }
+
+    pub room-next : (m : ℕ) (at next : Kept) → m ≡ moveFor tidy n st sz → next ≡ behind (keptFor n body) at → Room at here (length d) → Room next (here + m) (length d)
+    unfolding keptFor
+    room-next m at next em en room =
+        rw (em, en)
+        (by-cond (λ (bs : List Block). Room (behind bs at) (here + moveFor tidy n st sz) (length d)) (eqb n 0) (λ _. none)
+        (λ a. by-cond (λ (bs : List Block). Room (behind bs at) (here + moveFor tidy n st sz) (length d)) (eqb (length body) 0) (λ _. none)
+        (λ b. let c : 1 + sz ≤ moveFor tidy n st sz = move-covers (eqb-false _ _ a) (λ z. eqb-false _ _ b (body-length ∙ z)) in
+        let l : length (body ++ []) ≡ sz = ap length (append-nil body) ∙ body-length in
+        let s : 1 ≤ sz = omega (arith, body-length, eqb-false (length body) 0 b) in
+        room-kept at room (record { number = n; payload = body } ∷ []) (omega arith) (omega arith))))
+      where
+        none : Room (behind [] at) (here + moveFor tidy n st sz) (length d)
+        none = room-kept at room [] (omega arith) (omega arith)
+
+-- what a header that was read leaves room for
+pub head-room : (d : List ℕ) (head : Head) (n st sz : ℕ) → head ≡ headOf d → head ≡ Whole n st sz → (st ≤ 2) × (sz ≤ 31)
+unfolding headerLength
+head-room d head n st sz e q =
+    let h = headed d n st sz (sym e ∙ q) in
+    (rw (← h .start) (by-cond (λ k. k ≤ 2) (eqb (topNumber (getD d 0 0)) 7 && not (eqb (blockSize (getD d 0 0)) 0)) (λ _. omega arith) (λ _. omega arith)), h .small)
+
+-- the next place is within the bytes, and further on
+pub move-within : (tidy : Bool) (d : List ℕ) (here : ℕ) (head : Head) (n st sz m : ℕ) → here < length d → head ≡ headOf (drop here d) → head ≡ Whole n st sz → m ≡ moveFor tidy n st sz
+    → (here + m ≤ length d) × (1 ≤ m)
+move-within tidy d here head n st sz m left e q em = let b = move-bounds tidy d here left n st sz (sym e ∙ q) in rw em (omega (arith, b .most), b .least)
+
+-- whether blocks read, told by the reader that stores nothing
+pub given-mapped : {A B : Type 0} (f : A → B) (o : Outcome A) → isGiven (mapped f o) ≡ isGiven o
+given-mapped f (gave x) = refl
+given-mapped f (refused why) = refl
+
+module _ (d : List ℕ) (here : ℕ) where
+  pub reads-none : length d ≤ here → true ≡ isGiven (blocksFrom plainMove 0 (drop here d))
+  reads-none h = rw (drop-of-length-le d h, blocks-none plainMove)
+
+  pub reads-short : (head : Head) (k : ℕ) → here < length d → head ≡ headOf (drop here d) → head ≡ Short k → false ≡ isGiven (blocksFrom plainMove 0 (drop here d))
+  reads-short head k left e q = sym (ap isGiven (refused-at false d here left k (sym e ∙ q)))
+
+  pub reads-next : (head : Head) (n st sz m : ℕ) (r : Bool) → here < length d → head ≡ headOf (drop here d) → head ≡ Whole n st sz → m ≡ moveFor false n st sz
+      → r ≡ isGiven (blocksFrom plainMove 0 (drop (here + m) d)) → r ≡ isGiven (blocksFrom plainMove 0 (drop here d))
+  reads-next head n st sz m r left e q em k =
+      let w : headOf (drop here d) ≡ Whole n st sz = sym e ∙ q in
+      k ∙ ap (λ j. isGiven (blocksFrom plainMove 0 (drop (here + j) d))) em ∙ sym (ap isGiven (next-is false d here left n st sz w) ∙ given-mapped _ (blocksFrom plainMove 0 (drop (here + moveFor false n st sz) d)))
+
+-- one block kept, or none, by each way out
+module _ (number : ℕ) (part : List ℕ) (at : Kept) (n s p : List ℕ) where
+  abbrev KeptAs : Kept → List ℕ → List ℕ → List ℕ → Type 0
+  KeptAs r n₁ s₁ p₁ = (r ≡ behind (keptFor number part) at) × Laid (keptFor number part) at n s p n₁ s₁ p₁
+
+  pub keep-null : number ≡ 0 → KeptAs at n s p
+  unfolding keptFor
+  keep-null z = rw (eq-eqb number 0 z) (rw (add-zero, add-zero), record { numbers = refl; sizes = refl; payload = refl })
+
+  pub keep-empty : (number ≡ 0 → ⊥) → length part ≡ 0 → KeptAs at n s p
+  unfolding keptFor
+  keep-empty m z = rw (ne-eqb number 0 m, eq-eqb (length part) 0 z) (rw (add-zero, add-zero), record { numbers = refl; sizes = refl; payload = refl })
+
+  pub keep-some : (size : ℕ) (n₁ s₁ p₁ : List ℕ) → (number ≡ 0 → ⊥) → (size ≡ 0 → ⊥) → length part ≡ size → Laid (blockFrom number part ∷ []) at n s p n₁ s₁ p₁
+      → KeptAs (record { count = at .count + 1; used = at .used + size }) n₁ s₁ p₁
+  unfolding keptFor
+  keep-some size n₁ s₁ p₁ m z l e =
+      let q : eqb (length part) 0 ≡ false = ne-eqb (length part) 0 (λ w. z (sym l ∙ w)) in
+      rw (ne-eqb number 0 m, q) (rw (append-nil part, l), e)
+
+-- a block laid in its place
+pub entry-laid : (number k : ℕ) (run : List ℕ) (at : Kept) (n s p p₁ : List ℕ) → k ≡ length run → p₁ ≡ sets p (at .used) run
+    → Laid (blockFrom number run ∷ []) at n s p (set n (at .count) number) (set s (at .count) k) p₁
+entry-laid number k run at n s p p₁ e q = record { numbers = refl; sizes = rw e; payload = q ∙ rw (append-nil run) }
+
+-- the length of a part that is there
+pub part-of : (d : List ℕ) (from size : ℕ) → from + size ≤ length d → length (take size (drop from d)) ≡ size
+part-of d from size h = length-take-le size (drop from d) (rw length-drop (omega arith))

@@ -1,0 +1,66 @@
+-- What is answered beside a packet, by what was stored in its places. Assumes nothing.
+use mathlib.Core.Path.{_≡_, refl, sym, ap, _∙_}
+use mathlib.Core.Bool.{Bool}
+use mathlib.Core.List.{List, [], _∷_}
+use Prim.Native.Nat.{ℕ}
+use native.Mathlib.Omega.{arith}
+use lib.ListN.{length, getD, replicate}
+use Rattle.caption.specs.declared.Refusal.{Refusal}
+use Rattle.caption.specs.declared.Counted.{Counted}
+use Rattle.caption.specs.declared.Counted.the-variants.{Count, Refused}
+use Rattle.caption.specs.Answers.{saidRefusal, saidAnswer}
+use Rattle.model.specs.Said.{Said, Outcome, gave, refused, says, after, mapped, accepted}
+use Rattle.model.specs.Packet.{Packet, sequenceIn}
+use Rattle.service.specs.declared.Service.{Service}
+use Rattle.entries.specs.Fields.{Fields}
+use Rattle.entries.specs.Fields as places
+use Rattle.blocks.specs.Reading.{Read}
+use Rattle.blocks.specs.Pushing.{Stores, Pushes}
+use Rattle.blocks.specs.Pushing as blocks
+use Rattle.packet.specs.declared.DTVCCPacket.{DTVCCPacket}
+use Rattle.packet.specs.declared.PacketAnswer.{PacketAnswer}
+use Rattle.packet.specs.Packet.{Answers, fieldsOf, packetWith, over, laid, answerOf, pushedRun, pushedBlock}
+use Rattle.packet.proofs.Holds.{Places}
+
+-- an answer that refuses, and one that gives
+pub refuses : (o : Outcome DTVCCPacket) (beside : DTVCCPacket) (why : Said) (r : PacketAnswer) → o ≡ refused why → saidAnswer (r .answer) ≡ why → r .packet ≡ beside → Answers o beside r
+refuses o beside why r e a s = record { answer = a ∙ ap says (sym e); packet = s ∙ ap (after beside) (sym e) }
+
+pub gives : (o : Outcome DTVCCPacket) (beside given : DTVCCPacket) (r : PacketAnswer) → o ≡ gave given → saidAnswer (r .answer) ≡ accepted [] → r .packet ≡ given → Answers o beside r
+gives o beside given r e a s = record { answer = a ∙ ap says (sym e); packet = s ∙ ap (after beside) (sym e) }
+
+-- a packet that was read: its blocks are in their places, over zeros
+module _ (r : Counted) (n s p : List ℕ) where
+  abbrev Filled : Outcome Packet → Type 0
+  Filled o = Read o r (replicate 63 0) (replicate 63 0) (replicate 127 0) n s p
+
+  pub read-gave : (o : Outcome Packet) (q k : ℕ) → ((x : Packet) → o ≡ gave x → x .sequence ≡ q) → Filled o → r ≡ Count k
+      → mapped laid o ≡ gave (record { «seq_no» = q; count = k; numbers = n; sizes = s; payload = p })
+  unfolding Read over places.over
+  read-gave (gave x) q k first (e, l) z = let c : k ≡ length (x .blocks) = cc in rw (c, l .numbers, l .sizes, l .payload, ← first x refl)
+  read-gave (refused why) q k first (e, x, m, a, b, c) z = let z : _≡_ {A = ℕ} 0 1 = cc in absurd (omega arith)
+
+  pub read-refused : (o : Outcome Packet) (why : Refusal) → Filled o → r ≡ Refused why → mapped laid o ≡ refused (saidRefusal why)
+  unfolding Read
+  read-refused (refused x) why (e, q, m, a, b, c) z = let y : e ≡ why = cc in ap refused (sym m ∙ ap saidRefusal y)
+  read-refused (gave x) why (e, l) z = let z : _≡_ {A = ℕ} 0 1 = cc in absurd (omega arith)
+
+-- what a push left
+module _ (p : DTVCCPacket) (places : Places p) (r : Counted) (n s d : List ℕ) (a : PacketAnswer) (is : a ≡ answerOf p r n s d) where
+  stored : (o : Outcome Fields) → Stores o (fieldsOf p) r n s d → Answers (mapped packetWith o) p a
+  unfolding Stores
+  stored (gave g) (e, q) = rw (is, e) (record { answer = refl; packet = ap packetWith (sym q) })
+  stored (refused why) (e, q, m, x, y, z) = rw (is, q) (record { answer = m; packet = refl })
+
+  pub run-stored : (needsRoom : Bool) (number : ℕ) (run : List ℕ) → Pushes (blocks.pushedRun needsRoom number run) (fieldsOf p) r n s d → Answers (pushedRun needsRoom number run p) p a
+  unfolding pushedRun
+  run-stored needsRoom number run k = stored (blocks.pushedRun needsRoom number run (fieldsOf p)) (k places)
+
+  pub block-stored : (b : Service) → Pushes (blocks.pushedBlock b) (fieldsOf p) r n s d → Answers (pushedBlock b p) p a
+  unfolding pushedBlock
+  block-stored b k = stored (blocks.pushedBlock b (fieldsOf p)) (k places)
+
+-- no first byte
+pub none-first : (d : List ℕ) → length d ≡ 0 → 0 ≡ sequenceIn (getD d 0 0)
+none-first [] e = refl
+none-first (x ∷ d) e = absurd (omega arith)
