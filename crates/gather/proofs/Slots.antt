@@ -11,7 +11,7 @@ use Rattle.model.specs.Packet.{packetSize, reads}
 use Rattle.model.proofs.Cases.{both}
 use Rattle.slots.specs.declared.Slot.{Slot}
 use Rattle.triples.specs.Walk.{seenFrom}
-use Rattle.gather.specs.Ring.{slotFine, slotsFine, ringFrom, noSlot, ringFine}
+use Rattle.gather.specs.Ring.{slotFine, slotsFine, ringFrom, noSlot, ringFine, oldestOf}
 use Rattle.gather.specs.Gather.{pendingFine, Ring, Left, gathered, pendingHeld, readyFor, gatheredBy}
 
 module _ (s : Slot) where
@@ -86,6 +86,11 @@ module _ (f n : ℕ) (l : List Slot) where
         let z : n - 0 ≡ n = omega arith in
         let w : f + 0 ≡ f = omega arith in
         rw (z, w, le-leb f 31 (omega arith), le-leb n 32 h)
+
+  -- the slot at the place, and the answer for the ring
+  pub front-is : (b : Bool) (s : Slot) → b ≡ ringFine f n l → s ≡ getD l (f % 32) noSlot → record { good = b; slot = s } ≡ oldestOf f n l
+  unfolding oldestOf
+  front-is b s e q = rw (e, q)
 
 -- no slots
 pub ring-empty : (f : ℕ) (l : List Slot) → leb f 31 ≡ ringFine f 0 l

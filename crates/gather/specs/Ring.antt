@@ -7,6 +7,7 @@ use lib.Dec.{leb}
 use Rattle.model.specs.Packet.{Packet, reads}
 use Rattle.model.specs.Demux.{closed}
 use Rattle.slots.specs.declared.Slot.{Slot}
+use Rattle.gather.specs.declared.Front.{Front}
 
 -- what stands past the end of an array of slots
 abbrev pub noSlot : Slot
@@ -29,6 +30,10 @@ slotsFine (s ∷ l) = slotFine s && slotsFine l
 -- "32 waiting packets": n slots from place f on
 unfoldable pub ringFine : ℕ → ℕ → List Slot → Bool
 ringFine f n l = leb f 31 && (leb n 32 && slotsFine (ringFrom f n l))
+
+-- the slot at a place, going round, and whether the ring from there on is within its limits
+unfoldable pub oldestOf : ℕ → ℕ → List Slot → Front
+oldestOf f n l = record { good = ringFine f n l; slot = getD l (f % 32) noSlot }
 
 -- the packets that slots hold
 unfoldable pub packetsIn : List Slot → List Packet

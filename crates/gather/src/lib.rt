@@ -7,7 +7,7 @@ ghost use lib.Dec.{eqb};
 ghost use Rattle.model.specs.Frame.{seen, tri};
 ghost use Rattle.model.specs.Packet.{reads};
 ghost use Rattle.triples.specs.Walk.{seenFrom};
-ghost use Rattle.gather.specs.Ring.{slotFine, ringFine};
+ghost use Rattle.gather.specs.Ring.{slotFine, oldestOf};
 ghost use Rattle.gather.specs.Gather.{pendingFine, Sized, heldBy, putTwo, put, pendingHeld, closesBy, takenBy, gathered, readyFor, gatheredBy};
 use slots::Slot;
 
@@ -27,6 +27,12 @@ pub struct Gathered {
     pub pending: usize,
     pub waiting: usize,
     pub slots: [Slot; 32],
+}
+
+// A slot of the ring, and whether the ring is within its limits.
+pub struct Front {
+    pub good: bool,
+    pub slot: Slot,
 }
 
 // Two bytes more of a packet, while any are wanted.
@@ -175,15 +181,17 @@ fn slot_good(slot: Slot) -> bool
     run_reads(&bytes, len)
 }
 
-// Whether each of `n` slots from `first` on, going round, reads as a packet; there are at most 32.
-pub fn slots_good(slots: [Slot; 32], first: usize, n: usize) -> bool
-    ensures { λ r. ⌜ r ≡ ringFine first n slots ⌝ }
+// The slot at `first`, going round, and whether each of `n` slots from there on reads as a packet; there are at most 32. One call for both:
+// an array of slots that is handed on is copied.
+pub fn oldest(slots: [Slot; 32], first: usize, n: usize) -> Front
+    ensures { λ r. ⌜ r ≡ oldestOf first n slots ⌝ }
 {
+    let slot = slots[first % 32];
     if MOST_WAITING <= first {
-        return false;
+        return Front { good: false, slot };
     }
     if MOST_WAITING < n {
-        return false;
+        return Front { good: false, slot };
     }
     let mut i = 0;
     while i < n {
@@ -191,10 +199,10 @@ pub fn slots_good(slots: [Slot; 32], first: usize, n: usize) -> bool
         if slot_good(s) {
             i += 1;
         } else {
-            return false;
+            return Front { good: false, slot };
         }
     }
-    true
+    Front { good: true, slot }
 }
 
 // Whether the pending bytes are none, or a part of a packet.

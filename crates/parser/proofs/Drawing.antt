@@ -168,8 +168,25 @@ module _ (p : CCDataParser) where
     unfolding drawn drawnBy
     taken-draws t q = rw (q, tested-valid p c b counted tested, counted) (drawn-draws s)
 
-    -- what a taker asks
-    pub takes : b ≡ true → Takes c (p .waiting)
-    takes t =
-        let v = fine-facts (countsOf p) (p .pairs) (p .pending) (p .waiting) (sym (tested-valid p c b counted tested) ∙ t) in
-        rw counted (record { pairs = v .few; first = v .ring .first; slot = λ n. slot-short _ (reading p v s n .0) })
+    -- the slot that has waited longest
+    module _ (k : Slot) (first : (c .waiting ≡ 0 → ⊥) → k ≡ getD (p .waiting) (c .first % 32) noSlot) where
+      -- the facts of a state within the limits
+      facts : b ≡ true → Fine (countsOf p) (p .pairs) (p .pending) (p .waiting)
+      facts t = fine-facts (countsOf p) (p .pairs) (p .pending) (p .waiting) (sym (tested-valid p c b counted tested) ∙ t)
+
+      -- it stands at the first place
+      pub oldest-first : b ≡ true → (c .waiting ≡ 0 → ⊥) → k ≡ getD (p .waiting) (c .first) noSlot
+      oldest-first t n =
+          let h : p .«waiting_first» ≤ 31 = facts t .ring .first in
+          let z : p .«waiting_first» % 32 ≡ p .«waiting_first» = omega arith in
+          rw counted (rw (counted, z) at (first n))
+
+      -- what a taker asks
+      pub takes : b ≡ true → Takes c k
+      takes t =
+          let v = facts t in
+          record {
+            pairs = rw counted (v .few);
+            first = rw counted (v .ring .first);
+            slot = λ n. rw (oldest-first t n, counted) (slot-short _ (reading p v s (rw counted at n) .0));
+          }

@@ -109,10 +109,10 @@ module _ (c : Counts) (l : List ℕ) where
   took-pair x k p e q w = rw (e, q, w)
 
   -- a packet
-  pub took-packet : (slots : List Slot) (p : DTVCCPacket) → p ≡ slotPacket (getD slots (c .first) noSlot)
+  pub took-packet : (slots : List Slot) (s : Slot) (p : DTVCCPacket) → s ≡ getD slots (c .first) noSlot → p ≡ slotPacket s
       → record { item = Packet; packet = p; pairs = c .pairs; places = l; first = (c .first + 1) % 32; waiting = c .waiting - 1 } ≡ takePacket c l slots
   unfolding takePacket
-  took-packet slots p e = rw e
+  took-packet slots s p q e = rw (e, q)
 
 module _ (b : Bool) (c : Counts) (l : List ℕ) (slots : List Slot) (r : Took) where
   -- a state outside the limits

@@ -2,7 +2,7 @@
 use mathlib.Core.Path.{_≡_, sym}
 use mathlib.Core.List.{List}
 use mathlib.Core.Bool.{Bool, true, false, _&&_}
-use Prim.Native.Nat.{ℕ, suc, _+_, _-_, _*_, _≤_, _<_}
+use Prim.Native.Nat.{ℕ, suc, _+_, _-_, _*_, _%_, _≤_, _<_}
 use native.Mathlib.Omega.{arith}
 use lib.ListN.{getD, drop}
 use lib.Seq.{getD-drop, drop-drop}
@@ -11,7 +11,8 @@ use borrow.Author.Tests.{lt-leb, le-leb, leb-true}
 use Rattle.model.proofs.Cases.{both}
 use Rattle.slots.specs.declared.Slot.{Slot}
 use Rattle.gather.specs.Gather.{pendingFine}
-use Rattle.gather.specs.Ring.{ringFine}
+use Rattle.gather.specs.Ring.{noSlot, ringFine, oldestOf}
+use Rattle.gather.specs.declared.Front.{Front}
 use Rattle.gather.proofs.Slots.{RingFine, ring-facts, facts-ring, ring-empty}
 use Rattle.parser.specs.Valid.{fieldsFine, listFine, fine}
 use Rattle.parser.specs.declared.Counts.{Counts}
@@ -53,6 +54,23 @@ module _ (a : Bool) (l : List ℕ) (n i : ℕ) (e : a ≡ fieldsFine (n - i) (dr
     pub fields-bad : 1 < getD l (3 * i) 0 → false ≡ a
     fields-bad k = sym (rw (lt-leb _ _ k) at fields-here)
 
+-- the ring, by the slot that has waited longest
+module _ (f n : ℕ) (slots : List Slot) where
+  -- of an empty ring only the place is tested
+  pub front-none : n ≡ 0 → leb f 31 ≡ ringFine f n slots
+  front-none z = rw z (ring-empty f slots)
+
+  module _ (r : Front) (e : r ≡ oldestOf f n slots) where
+    -- the ring
+    pub front-good : r .good ≡ ringFine f n slots
+    unfolding oldestOf
+    front-good = rw e
+
+    -- the slot
+    pub front-slot : r .slot ≡ getD slots (f % 32) noSlot
+    unfolding oldestOf
+    front-slot = rw e
+
 -- the whole
 module _ (c : Counts) (pairs pending : List ℕ) (slots : List Slot) (b : Bool) (listed : b ≡ listFine (c .pairs) pairs) where
   -- the list is not
@@ -65,11 +83,6 @@ module _ (c : Counts) (pairs pending : List ℕ) (slots : List Slot) (b : Bool) 
     pub bad-pending : e ≡ false → false ≡ fine c pairs pending slots
     unfolding fine
     bad-pending v = rw (← listed, t, ← waits, v)
-
-    -- an empty ring only has its place tested
-    pub fine-empty : e ≡ true → c .waiting ≡ 0 → leb (c .first) 31 ≡ fine c pairs pending slots
-    unfolding fine
-    fine-empty v z = rw (← listed, t, ← waits, v, z) (ring-empty (c .first) slots)
 
     -- the slots decide
     pub fine-slots : (r : Bool) → e ≡ true → r ≡ ringFine (c .first) (c .waiting) slots → r ≡ fine c pairs pending slots

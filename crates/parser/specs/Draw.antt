@@ -73,11 +73,11 @@ takeItem valid c l slots =
     (cond (eqb (c .pairs) 0) (cond (eqb (c .waiting) 0) (takeNone Nothing c l) (takePacket c l slots)) (takePair c l))
     (takeNone (Refused refusal.BadValue) c l)
 
--- what a state within the limits gives to a taker
-pub record Takes (c : Counts) (slots : List Slot) : Type 0 where
+-- what a state within the limits, with the slot that has waited longest, gives to a taker
+pub record Takes (c : Counts) (s : Slot) : Type 0 where
   pub pairs : c .pairs ≤ 31
   pub first : c .first ≤ 31
-  pub slot : (c .waiting ≡ 0 → ⊥) → getD slots (c .first) noSlot .len ≤ 128
+  pub slot : (c .waiting ≡ 0 → ⊥) → s .len ≤ 128
 
 -- the state by what was taken
 unfoldable pub drawnBy : CCDataParser → Took → Drawn

@@ -1,12 +1,13 @@
 // The demultiplexer: frames of `cc_data` in, caption pairs and packets out.
 ghost use mathlib.Core.Path.{_≡_};
 ghost use mathlib.Core.Bool.{true};
-ghost use Prim.Native.Nat.{_≤_};
+ghost use mathlib.Core.List.{List};
+ghost use Prim.Native.Nat.{_%_, _≤_};
 ghost use lib.ListN.{length, getD, take};
 ghost use Rattle.caption.specs.Answers.{saidCounted};
 ghost use Rattle.model.specs.Said.{measured};
 ghost use Rattle.packet.specs.Packet.{blank};
-ghost use Rattle.gather.specs.Ring.{noSlot};
+ghost use Rattle.gather.specs.Ring.{noSlot, ringFine};
 ghost use Rattle.parser.specs.Valid.{listFine, countsOf, fine, valid};
 ghost use Rattle.parser.specs.Fresh.{fresh};
 ghost use Rattle.parser.specs.Means.{means, Answers, saidPush, saidCall, afterCall, turnedOn};
@@ -17,6 +18,7 @@ use caption::Answer;
 use caption::Cea608;
 use caption::Counted;
 use caption::Refusal;
+use gather::Front;
 use packet::DTVCCPacket;
 use slots::Slot;
 
@@ -100,9 +102,23 @@ fn list_good(pairs: &[u8; 93], n: usize) -> bool
     true
 }
 
-// Whether a state is within the limits.
-fn good<'a>(c: Counts, pairs: &'a [u8; 93], pending: &'a [u8; 128], slots: [Slot; 32]) -> bool
-    ensures { λ r. ⌜ r ≡ fine c (now (pairs .entry)) (now (pending .entry)) slots ⌝ }
+// The slot that has waited longest, and whether the ring is within its limits. Of an empty ring only the place is looked at: no slot is copied.
+fn oldest(c: Counts, slots: [Slot; 32]) -> Front
+    ensures { λ r. ⌜ r .good ≡ ringFine (c .first) (c .waiting) slots ⌝ }
+    ensures { λ r. ⌜ ((c .waiting ≡ 0 → ⊥) → r .slot ≡ getD slots (c .first % 32) noSlot) ⌝ }
+{
+    if c.waiting == 0 {
+        let bytes = [0u8; 128];
+        let slot = Slot { len: 0, bytes };
+        let good = c.first <= 31;
+        return Front { good, slot };
+    }
+    gather::oldest(slots, c.first, c.waiting)
+}
+
+// Whether a state is within the limits, `ring` telling it of the waiting slots.
+fn good<'a>(c: Counts, pairs: &'a [u8; 93], pending: &'a [u8; 128], ring: bool) -> bool
+    ensures { λ r. ⌜ ((slots : List Slot) → ring ≡ ringFine (c .first) (c .waiting) slots → r ≡ fine c (now (pairs .entry)) (now (pending .entry)) slots) ⌝ }
 {
     if !list_good(pairs, c.pairs) {
         return false;
@@ -110,10 +126,7 @@ fn good<'a>(c: Counts, pairs: &'a [u8; 93], pending: &'a [u8; 128], slots: [Slot
     if !gather::pending_good(pending, c.pending) {
         return false;
     }
-    if c.waiting == 0 {
-        return c.first <= 31;
-    }
-    gather::slots_good(slots, c.first, c.waiting)
+    ring
 }
 
 // No packet.
@@ -194,15 +207,14 @@ fn take_pair(c: Counts, pairs: [u8; 93]) -> Took
     }
 }
 
-// Takes the packet that has waited longest.
-fn take_packet(c: Counts, pairs: [u8; 93], slots: [Slot; 32]) -> Took
+// Takes the packet that has waited longest, given its slot.
+fn take_packet(c: Counts, pairs: [u8; 93], slot: Slot) -> Took
     requires { ⌜ (c .waiting ≡ 0 → ⊥) ⌝ }
     requires { ⌜ c .first ≤ 31 ⌝ }
-    requires { ⌜ getD slots (c .first) noSlot .len ≤ 128 ⌝ }
-    ensures { λ r. ⌜ r ≡ takePacket c pairs slots ⌝ }
+    requires { ⌜ slot .len ≤ 128 ⌝ }
+    ensures { λ r. ⌜ ((slots : List Slot) → slot ≡ getD slots (c .first) noSlot → r ≡ takePacket c pairs slots) ⌝ }
 {
     let at = c.first;
-    let slot = slots[at];
     let packet = slot_packet(slot);
     Took {
         item: Item::Packet,
@@ -229,17 +241,17 @@ fn take_none(item: Item, c: Counts, pairs: [u8; 93]) -> Took
     }
 }
 
-// Takes the next item, if the state is within the limits and there is one.
-fn take_item(valid: bool, c: Counts, pairs: [u8; 93], slots: [Slot; 32]) -> Took
-    requires { ⌜ (valid ≡ true → Takes c slots) ⌝ }
-    ensures { λ r. ⌜ r ≡ takeItem valid c pairs slots ⌝ }
+// Takes the next item, if the state is within the limits and there is one, given the slot that has waited longest.
+fn take_item(valid: bool, c: Counts, pairs: [u8; 93], slot: Slot) -> Took
+    requires { ⌜ (valid ≡ true → Takes c slot) ⌝ }
+    ensures { λ r. ⌜ ((slots : List Slot) → (valid ≡ true → (c .waiting ≡ 0 → ⊥) → slot ≡ getD slots (c .first) noSlot) → r ≡ takeItem valid c pairs slots) ⌝ }
 {
     if valid {
         if c.pairs != 0 {
             return take_pair(c, pairs);
         }
         if c.waiting != 0 {
-            return take_packet(c, pairs, slots);
+            return take_packet(c, pairs, slot);
         }
         return take_none(Item::Nothing, c, pairs);
     }
@@ -298,7 +310,8 @@ impl CCDataParser {
         let pending = self.pending;
         let slots = self.waiting;
         let c = self.counts();
-        good(c, &pairs, &pending, slots)
+        let o = oldest(c, slots);
+        good(c, &pairs, &pending, o.good)
     }
 
     // Turns 608 on: the pairs of frames are listed from now on, and the list is empty.
@@ -359,8 +372,10 @@ impl CCDataParser {
         let pending = self.pending;
         let waiting = self.waiting;
         let c = self.counts();
-        let ok = good(c, &pairs, &pending, waiting);
-        let r = take_item(ok, c, pairs, waiting);
+        let o = oldest(c, waiting);
+        let ok = good(c, &pairs, &pending, o.good);
+        let slot = o.slot;
+        let r = take_item(ok, c, pairs, slot);
         let item = r.item;
         let packet = r.packet;
         let places = r.places;
@@ -388,7 +403,8 @@ impl CCDataParser {
         let mut pending = self.pending;
         let slots = self.waiting;
         let c = self.counts();
-        if good(c, &pairs, &pending, slots) {
+        let o = oldest(c, slots);
+        if good(c, &pairs, &pending, o.good) {
             let plan = triples::plan_of(frame);
             let n = triples::list_by(plan.lists, c.on, &mut pairs, frame);
             let g = gather::gather_by(

@@ -8,25 +8,27 @@ take-pair-requires : tie.Need-take-pair-requires
 take-pair-requires c κs = (c .if2 .taken, c .before .before .before .pre (c .before .before .if1 .taken) .pairs)
 
 returns : tie.Need-returns
-returns c = search (needs, take-first)
+returns c slots q = search (needs, take-first)
 
 take-packet-requires : tie.Need-take-packet-requires
 take-packet-requires c κs = let t = c .before .before .before .before .before .pre (c .before .before .before .before .if1 .taken) in (c .if3 .taken, (t .first, t .slot (c .if3 .taken)))
 
 returns-2 : tie.Need-returns-2
-returns-2 c = search (needs, take-next)
+returns-2 c slots q =
+    let ok = c .before .before .before .before .before .if1 .taken in
+    take-next _ _ _ _ _ ok (c .before .before .before .if2 .left) (c .before .if3 .taken) (c .take-packet .ensures slots (q ok (c .before .if3 .taken)))
 
 take-none-requires : tie.Need-take-none-requires
 take-none-requires c κs = search needs
 
 returns-3 : tie.Need-returns-3
-returns-3 c = search (needs, take-none)
+returns-3 c slots q = search (needs, take-none)
 
 take-none-requires-2 : tie.Need-take-none-requires-2
 take-none-requires-2 c κs = search needs
 
 returns-4 : tie.Need-returns-4
-returns-4 c = search (needs, take-bad)
+returns-4 c slots q = search (needs, take-bad)
 
 pub take-item-spec : {M : Type 1} → statement M
 take-item-spec =

@@ -1,5 +1,5 @@
 -- `parser::CCDataParser::draw` meets its contract: what is taken gives the exact result, and `Drawing` says what it means. Assumes nothing.
-use Rattle.parser.proofs.Drawing.{takes, taken-draws}
+use Rattle.parser.proofs.Drawing.{takes, oldest-first, taken-draws}
 use Rattle.parser.proofs.Calls.{length-mapped}
 use Rattle.parser.specs.Means.{Shaped}
 use borrow.Author.Needs.{needs}
@@ -9,12 +9,15 @@ use Rattle.parser.proofs.CCDataParser.draw.Reads as reads
 use Rattle.parser.proofs.CCDataParser.draw.Lts as lts
 use Rattle.parser.proofs.CCDataParser.counts.Reads as counts-reads
 use Rattle.parser.proofs.good.Reads as good-reads
+use Rattle.parser.proofs.oldest.Reads as oldest-reads
 use Rattle.parser.proofs.take_item.Reads as take-item-reads
 
 -- the arrays have their lengths
 shaped : (s : lts.Start (
   counts-reads.Asked,
   counts-reads.Learnt,
+  oldest-reads.Asked,
+  oldest-reads.Learnt,
   good-reads.Asked,
   good-reads.Learnt,
   take-item-reads.Asked,
@@ -25,14 +28,25 @@ shaped s = record { pairs = search needs; pending = search needs; waiting = sear
 counts-requires : tie.Need-counts-requires
 counts-requires c κs = search needs
 
+oldest-requires : tie.Need-oldest-requires
+oldest-requires c κs = search needs
+
 good-requires : tie.Need-good-requires
 good-requires c κs = search needs
 
 take-item-requires : tie.Need-take-item-requires
-take-item-requires c κs = takes _ _ (c .before .before .before .counts .ensures) _ (c .good2 .ensures) (shaped (c .before .before .before .before .before .before .before))
+take-item-requires c κs =
+    let o = c .before .before .before .before .oldest .ensures in
+    takes _ _ (c .before .before .before .before .before .counts .ensures) _ (c .before .good2 .ensures _ (o .0)) (shaped (c .before .before .before .before .before .before .before .before .before)) _ (o .1)
 
 returns : tie.Need-returns
-returns c = taken-draws _ _ (c .before .before .before .before .before .before .counts .ensures) _ (c .before .before .before .good2 .ensures) (shaped (c .before .before .before .before .before .before .before .before .before .before)) _ (c .before .before .take-item .ensures)
+returns c =
+    let o = c .before .before .before .before .before .before .before .oldest .ensures in
+    let n = c .before .before .before .before .before .before .before .before .counts .ensures in
+    let g = c .before .before .before .before .good2 .ensures _ (o .0) in
+    let s = shaped (c .before .before .before .before .before .before .before .before .before .before .before .before) in
+    taken-draws _ _ n _ g s _ (c .before .before .take-item .ensures _ (oldest-first _ _ n _ g s _ (o .1)))
 
 pub draw-spec : {M : Type 1} → statement M
-draw-spec = tie.close (tie.spec counts-requires good-requires take-item-requires returns)
+draw-spec =
+    tie.close (tie.spec counts-requires oldest-requires good-requires take-item-requires returns)

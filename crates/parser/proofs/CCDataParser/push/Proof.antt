@@ -11,6 +11,7 @@ use Rattle.gather.proofs.gather_by.Reads as gather-by-reads
 use Rattle.parser.proofs.CCDataParser.counts.Reads as counts-reads
 use Rattle.parser.proofs.CCDataParser.refused.Reads as refused-reads
 use Rattle.parser.proofs.good.Reads as good-reads
+use Rattle.parser.proofs.oldest.Reads as oldest-reads
 use Rattle.triples.proofs.list_by.Reads as list-by-reads
 use Rattle.triples.proofs.plan_of.Reads as plan-of-reads
 
@@ -18,6 +19,8 @@ use Rattle.triples.proofs.plan_of.Reads as plan-of-reads
 shaped : (s : lts.Start (
   counts-reads.Asked,
   counts-reads.Learnt,
+  oldest-reads.Asked,
+  oldest-reads.Learnt,
   good-reads.Asked,
   good-reads.Learnt,
   plan-of-reads.Asked,
@@ -33,6 +36,9 @@ shaped s = record { pairs = search needs; pending = search needs; waiting = sear
 
 counts-requires : tie.Need-counts-requires
 counts-requires c κs = search needs
+
+oldest-requires : tie.Need-oldest-requires
+oldest-requires c κs = search needs
 
 good-requires : tie.Need-good-requires
 good-requires c κs = search needs
@@ -50,22 +56,23 @@ refused-requires : tie.Need-refused-requires
 refused-requires c κs = search needs
 
 returns : tie.Need-returns
-returns c = pushed-answers _ _ _ (shaped (c .before .before .before .before .before .before .before .before .before .before .before .before .before .before .before .before .before)) (push-full _ _ _ (c .before .before .before .before .before .before .before .before .before .before .before .before .counts .ensures) _ (c .before .before .before .before .before .before .before .before .before .good2 .ensures) (c .before .before .before .before .before .before .before .before .if1 .taken) _ (c .before .before .before .before .before .before .before .plan-of .ensures) _ _ (c .before .before .before .before .before .list-by .ensures) _ _ (c .before .before .before .gather-by .ensures) _ (c .before .if2 .taken) (c .refused .ensures))
+returns c = pushed-answers _ _ _ (shaped (c .before .before .before .before .before .before .before .before .before .before .before .before .before .before .before .before .before .before)) (push-full _ _ _ (c .before .before .before .before .before .before .before .before .before .before .before .before .before .counts .ensures) _ (c .before .before .before .before .before .before .before .before .before .good2 .ensures _ (c .before .before .before .before .before .before .before .before .before .before .before .before .oldest .ensures .0)) (c .before .before .before .before .before .before .before .before .if1 .taken) _ (c .before .before .before .before .before .before .before .plan-of .ensures) _ _ (c .before .before .before .before .before .list-by .ensures) _ _ (c .before .before .before .gather-by .ensures) _ (c .before .if2 .taken) (c .refused .ensures))
 
 returns-2 : tie.Need-returns-2
-returns-2 c = pushed-answers _ _ _ (shaped (c .before .before .before .before .before .before .before .before .before .before .before .before .before .before .before .before .before)) (push-done _ _ _ (c .before .before .before .before .before .before .before .before .before .before .before .before .counts .ensures) _ (c .before .before .before .before .before .before .before .before .before .good2 .ensures) (c .before .before .before .before .before .before .before .before .if1 .taken) _ (c .before .before .before .before .before .before .before .plan-of .ensures) _ _ (c .before .before .before .before .before .list-by .ensures) _ _ (c .before .before .before .gather-by .ensures) (c .before .if2 .left))
+returns-2 c = pushed-answers _ _ _ (shaped (c .before .before .before .before .before .before .before .before .before .before .before .before .before .before .before .before .before .before)) (push-done _ _ _ (c .before .before .before .before .before .before .before .before .before .before .before .before .before .counts .ensures) _ (c .before .before .before .before .before .before .before .before .before .good2 .ensures _ (c .before .before .before .before .before .before .before .before .before .before .before .before .oldest .ensures .0)) (c .before .before .before .before .before .before .before .before .if1 .taken) _ (c .before .before .before .before .before .before .before .plan-of .ensures) _ _ (c .before .before .before .before .before .list-by .ensures) _ _ (c .before .before .before .gather-by .ensures) (c .before .if2 .left))
 
 refused-requires-2 : tie.Need-refused-requires-2
 refused-requires-2 c κs = search needs
 
 returns-3 : tie.Need-returns-3
-returns-3 c = pushed-answers _ _ _ (shaped (c .before .before .before .before .before .before .before .before .before .before)) (push-bad _ _ _ (c .before .before .before .before .before .counts .ensures) _ (c .before .before .good2 .ensures) _ (c .before .if1 .left) (c .refused2 .ensures))
+returns-3 c = pushed-answers _ _ _ (shaped (c .before .before .before .before .before .before .before .before .before .before .before)) (push-bad _ _ _ (c .before .before .before .before .before .before .counts .ensures) _ (c .before .before .good2 .ensures _ (c .before .before .before .before .before .oldest .ensures .0)) _ (c .before .if1 .left) (c .refused2 .ensures))
 
 pub push-spec : {M : Type 1} → statement M
 push-spec =
     tie.close
     (tie.spec
     counts-requires
+    oldest-requires
     good-requires
     plan-of-requires
     list-by-requires
