@@ -16,8 +16,8 @@ const READINGS: usize = 1000000;
 // The most bytes of a packet: more are frames.
 const MOST_PACKET: usize = 128;
 
-// No frame leaves more to draw than 31 pairs and 32 packets.
-const MOST_ITEMS: usize = 64;
+// No frame leaves more to draw than 31 pairs and 32 packets, and once nothing is drawn.
+const MOST_DRAWS: usize = 64000001;
 
 // The items drawn, the sum over their blocks, and the demultiplexer.
 struct Totals {
@@ -64,13 +64,17 @@ fn with_blocks(packet: DTVCCPacket, before: u64) -> u64 {
     sum
 }
 
-// The totals with everything that waits.
-fn with_items(t: Totals) -> Totals {
-    let mut parser = t.parser;
-    let mut items = t.items;
-    let mut sum = t.sum;
+// The totals of every frame: items are drawn until none is left, and then the next frame is read. One loop over one demultiplexer: a
+// demultiplexer that a function takes and gives back is copied.
+fn read_frames(frames: &[u8], before: Totals) -> Totals
+    requires { ⌜ length (now frames) ≡ 95000 ⌝ }
+{
+    let mut parser = before.parser;
+    let mut items = before.items;
+    let mut sum = before.sum;
+    let mut i: usize = 0;
     let mut n: usize = 0;
-    while n < MOST_ITEMS {
+    while n < MOST_DRAWS {
         n += 1;
         let drawn = parser.draw();
         parser = drawn.parser;
@@ -85,7 +89,14 @@ fn with_items(t: Totals) -> Totals {
                 sum = with_blocks(packet, sum);
             }
             Item::Nothing => {
-                return Totals { items, sum, parser };
+                if READINGS <= i {
+                    return Totals { items, sum, parser };
+                }
+                let at = i % 1000 * 95;
+                let end = at + 95;
+                let pushed = parser.push(&frames[at..end]);
+                parser = pushed.parser;
+                i += 1;
             }
             Item::Refused(_) => {
                 return Totals { items, sum, parser };
@@ -93,28 +104,6 @@ fn with_items(t: Totals) -> Totals {
         }
     }
     Totals { items, sum, parser }
-}
-
-// The totals of every frame.
-fn read_frames(frames: &[u8], before: Totals) -> Totals
-    requires { ⌜ length (now frames) ≡ 95000 ⌝ }
-{
-    let mut t = before;
-    let mut i: usize = 0;
-    while i < READINGS {
-        let at = i % 1000 * 95;
-        let end = at + 95;
-        let old = t.parser;
-        let pushed = old.push(&frames[at..end]);
-        let parser = pushed.parser;
-        t = with_items(Totals {
-            items: t.items,
-            sum: t.sum,
-            parser,
-        });
-        i += 1;
-    }
-    t
 }
 
 // The header with another sequence number, so that no two readings in a row are of the same bytes.
