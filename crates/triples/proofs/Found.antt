@@ -21,6 +21,7 @@ use Rattle.triples.specs.Plan.{plan, planFound}
 use Rattle.triples.specs.declared.Scan.{Scan}
 use Rattle.triples.specs.declared.Scan.the-variants.{Only608, Ended, Carries, Late}
 use Rattle.triples.specs.declared.Plan.{Plan}
+use Rattle.triples.proofs.Scans.{late-stays}
 
 -- the plan by what the search has come to
 abbrev pub planScanned : Scan → Plan
@@ -31,9 +32,7 @@ planScanned Only608 = plan Accepted true false
 
 -- a late triple stays found
 late-found : (at : ℕ) (b : Bool) (i : ℕ) (ts : List Seen) → planScanned (over scanTurn (Late at) i ts) ≡ planFound (some at) b
-unfolding over scanTurn
-late-found at b i [] = refl
-late-found at b i (t ∷ ts) = late-found at b (i + 1) ts
+late-found at b i ts = ap planScanned (late-stays at i ts)
 
 -- once there was a valid 708 triple
 carries-found : (i : ℕ) (ts : List Seen) → planScanned (over scanTurn Carries i ts) ≡ planFound (lateAfter i ts) true

@@ -1,5 +1,6 @@
 -- The search for a late 608 triple and for a valid 708 triple. Assumes nothing.
 use mathlib.Core.List.{List}
+use mathlib.Core.Bool.{Bool, cond}
 use Prim.Native.Nat.{ℕ, _*_}
 use Rattle.model.specs.Frame.{Seen, first, second, start, more, void608, void708}
 use Rattle.triples.specs.Walk.{over, seenFrom}
@@ -34,6 +35,10 @@ scanAt (Late i) at t = Late i
 -- "at 3 times its index"
 unfoldable pub scanTurn : Scan → ℕ → Seen → Scan
 scanTurn s i t = scanAt s (3 * i) t
+
+-- past the 608 part, with a valid 708 triple or none yet
+abbrev pub found : Bool → Scan
+found carries = cond carries Carries Ended
 
 -- the search over a frame
 abbrev pub scanned : List ℕ → Scan

@@ -1,13 +1,13 @@
 // What the triples of a frame say of its 608 part: its header, the late 608 triple, the valid 708 triple, and the pairs.
 ghost use mathlib.Core.Path.{_≡_};
 ghost use mathlib.Core.List.{_∷_, List};
-ghost use Prim.Native.Nat.{ℕ, _+_, _%_, _≤_, _<_};
+ghost use Prim.Native.Nat.{_+_, _*_, _%_, _≤_, _<_};
 ghost use lib.ListN.{length};
 ghost use Rattle.model.specs.Frame.{Seen, seen, tri};
-ghost use Rattle.triples.specs.Walk.{seenFrom};
-ghost use Rattle.triples.specs.Scan.{scanFirst, scanAfter, scanAt, scanned};
+ghost use Rattle.triples.specs.Walk.{over, seenFrom};
+ghost use Rattle.triples.specs.Scan.{found, scanTurn, scanned};
 ghost use Rattle.triples.specs.Pairs.{listing, listedBy};
-ghost use mathlib.Core.Bool.{_&&_};
+ghost use mathlib.Core.Bool.{false, _&&_};
 ghost use Rattle.triples.specs.Plan.{headOf, planWalked, planOf};
 use caption::Answer;
 use caption::Refusal;
@@ -66,60 +66,43 @@ fn header(frame: &[u8]) -> Head
     Head::Mismatch(3 * k + 1, n)
 }
 
-// A triple of the 608 part, by its first byte.
-fn first_turn(c: u8) -> Scan
-    ensures { λ r. ⌜ ((x y : ℕ) → r ≡ scanFirst (seen (tri c x y))) ⌝ }
+// The search after the 608 part, from the triple at `from` on.
+fn scan_after(frame: &[u8], from: usize) -> Scan
+    requires { ⌜ 3 * from ≤ length (now frame) + 2 ⌝ }
+    ensures { λ r. ⌜ r ≡ over scanTurn (found false) from (seenFrom from (now (frame .entry))) ⌝ }
 {
-    let v = c % 8;
-    if v < 2 {
-        return Scan::Only608;
+    let mut carries = false;
+    let mut i = from;
+    while 3 * i + 4 < frame.len() {
+        let v = frame[3 * i + 2] % 8;
+        if v < 4 {
+            i += 1;
+        } else {
+            if v < 6 {
+                return Scan::Late(3 * i);
+            }
+            carries = true;
+            i += 1;
+        }
     }
-    if v < 4 {
-        return Scan::Ended;
+    if carries {
+        return Scan::Carries;
     }
-    if v < 6 {
-        return Scan::Only608;
-    }
-    Scan::Carries
-}
-
-// A triple after the 608 part.
-fn after_turn(s: Scan, at: usize, c: u8) -> Scan
-    ensures { λ r. ⌜ ((x y : ℕ) → r ≡ scanAfter s at (seen (tri c x y))) ⌝ }
-{
-    let v = c % 8;
-    if v < 4 {
-        return s;
-    }
-    if v < 6 {
-        return Scan::Late(at);
-    }
-    Scan::Carries
-}
-
-// One triple of the search.
-fn scan_turn(s: Scan, at: usize, c: u8) -> Scan
-    ensures { λ r. ⌜ ((x y : ℕ) → r ≡ scanAt s at (seen (tri c x y))) ⌝ }
-{
-    match s {
-        Scan::Only608 => first_turn(c),
-        Scan::Ended => after_turn(Scan::Ended, at, c),
-        Scan::Carries => after_turn(Scan::Carries, at, c),
-        Scan::Late(i) => Scan::Late(i),
-    }
+    Scan::Ended
 }
 
 // The search over a frame.
 fn scan_frame(frame: &[u8]) -> Scan
     ensures { λ r. ⌜ r ≡ scanned (now (frame .entry)) ⌝ }
 {
-    let mut s = Scan::Only608;
     let mut i = 0;
     while 3 * i + 4 < frame.len() {
-        s = scan_turn(s, 3 * i, frame[3 * i + 2]);
+        if frame[3 * i + 2] % 4 >= 2 {
+            return scan_after(frame, i);
+        }
         i += 1;
     }
-    s
+    Scan::Only608
 }
 
 // Lays the pair of a triple of the 608 part, if it is valid, behind the n that are there; gives how many there are then.
