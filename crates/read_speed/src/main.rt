@@ -44,24 +44,38 @@ fn worth(number: u8, first: u8, size: u8) -> u64 {
     number as u64 + first as u64 + size as u64
 }
 
-// The sum with every block of the packet.
-fn with_blocks(packet: DTVCCPacket, before: u64) -> u64 {
+// The sum with every block of a packet.
+fn with_blocks(
+    count: usize,
+    numbers: &[u8; 63],
+    sizes: &[u8; 63],
+    payload: &[u8; 127],
+    before: u64,
+) -> u64 {
     let mut sum = before;
     let mut i: usize = 0;
     let mut at: usize = 0;
     while i < 63 {
-        if packet.count <= i {
+        if count <= i {
             return sum;
         }
         if 127 <= at {
             return sum;
         }
-        let size = packet.sizes[i];
-        sum = mix(sum, worth(packet.numbers[i], packet.payload[at], size));
+        let size = sizes[i];
+        sum = mix(sum, worth(numbers[i], payload[at], size));
         at += wide(size);
         i += 1;
     }
     sum
+}
+
+// The sum with a packet.
+fn with_packet(packet: DTVCCPacket, before: u64) -> u64 {
+    let numbers = packet.numbers;
+    let sizes = packet.sizes;
+    let payload = packet.payload;
+    with_blocks(packet.count, &numbers, &sizes, &payload, before)
 }
 
 // The totals of every frame: items are drawn until none is left, and then the next frame is read. One loop over one demultiplexer: a
@@ -86,7 +100,7 @@ fn read_frames(frames: &[u8], before: Totals) -> Totals
             Item::Packet => {
                 let packet = drawn.packet;
                 items = std::num::wrapping_add_u64(items, 1);
-                sum = with_blocks(packet, sum);
+                sum = with_packet(packet, sum);
             }
             Item::Nothing => {
                 if READINGS <= i {
@@ -121,7 +135,7 @@ fn read_packets(data: &mut [u8; 95000], n: usize) -> u64
         data[0] = turned(data[0], i);
         let whole = &data[..];
         let answer = DTVCCPacket::parse(&whole[0..n]);
-        sum = with_blocks(answer.packet, sum);
+        sum = with_packet(answer.packet, sum);
         i += 1;
     }
     sum

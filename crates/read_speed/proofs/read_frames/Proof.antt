@@ -39,8 +39,8 @@ enum-told-2 c = search needs
 wrapping-add-u64-requires-2 : tie.Need-wrapping-add-u64-requires-2 Inv-loop μ-loop
 wrapping-add-u64-requires-2 c κs = search needs
 
-with-blocks-requires : tie.Need-with-blocks-requires Inv-loop μ-loop
-with-blocks-requires c κs = search needs
+with-packet-requires : tie.Need-with-packet-requires Inv-loop μ-loop
+with-packet-requires c κs = search needs
 
 loop-less-2 : tie.Need-loop-less-2 Inv-loop μ-loop
 loop-less-2 c = search needs
@@ -105,7 +105,7 @@ read-frames-spec =
     loop-again
     enum-told-2
     wrapping-add-u64-requires-2
-    with-blocks-requires
+    with-packet-requires
     loop-less-2
     loop-again-2
     enum-told-3

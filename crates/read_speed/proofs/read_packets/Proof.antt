@@ -34,8 +34,8 @@ part-parse-end c = search needs
 parse-requires : tie.Need-parse-requires Inv-loop μ-loop
 parse-requires c κs = search needs
 
-with-blocks-requires : tie.Need-with-blocks-requires Inv-loop μ-loop
-with-blocks-requires c κs = search needs
+with-packet-requires : tie.Need-with-packet-requires Inv-loop μ-loop
+with-packet-requires c κs = search needs
 
 add-i : tie.Need-add-i Inv-loop μ-loop
 add-i c = search needs
@@ -63,7 +63,7 @@ read-packets-spec =
     part-parse-start
     part-parse-end
     parse-requires
-    with-blocks-requires
+    with-packet-requires
     add-i
     loop-less
     loop-again

@@ -5,10 +5,10 @@ use Rattle.read_speed.proofs.with_blocks.Statement.{statement}
 use Rattle.read_speed.proofs.with_blocks.Tie as tie
 
 abbrev Inv-loop : tie.InvT-loop
-Inv-loop before packet sum₀ i₀ at₀ sum i at = i ≤ 63
+Inv-loop count numbers sizes payload before sum₀ i₀ at₀ sum i at = i ≤ 63
 
 abbrev μ-loop : tie.MeasureT-loop
-μ-loop before packet sum₀ i₀ at₀ sum i at = 63 - i
+μ-loop count numbers sizes payload before sum₀ i₀ at₀ sum i at = 63 - i
 
 loop-holds : tie.Need-loop-holds Inv-loop μ-loop
 loop-holds c = search needs
