@@ -1,5 +1,4 @@
 -- The demultiplexer's functions. Assumes nothing.
-use mathlib.Core.Path.{_≡_}
 use contract.Lifetimes.{Lfts}
 use Rattle.model.specs.Said.{Said}
 use Rattle.caption.proofs.Answers.{saidCounted-injective}

@@ -1,5 +1,5 @@
 -- What an answer of the multiplexer says of a state within its limits, and what the switches do. Assumes nothing.
-use mathlib.Core.Path.{_≡_, refl, sym, _∙_}
+use mathlib.Core.Path.{_≡_, refl, sym}
 use mathlib.Core.Bool.{Bool}
 use mathlib.Core.List.{[]}
 use native.Mathlib.Omega.{arith}
@@ -11,12 +11,13 @@ use Rattle.caption.specs.declared.Refusal.{Refusal}
 use Rattle.caption.specs.declared.Answer.the-variants as answer
 use Rattle.writer.specs.Writer.{validWriter}
 use Rattle.writer.specs.Calls.{Answers, withPadding}
-use Rattle.writer.proofs.Laws.{means-padding, valid-padding}
+use Rattle.writer.proofs.Laws.{means-padding}
+use Rattle.writer.proofs.Kept.{Sound, padding-sound}
 use Rattle.writer.specs.declared.CCDataWriter.{CCDataWriter}
 use Rattle.writer.specs.declared.WriterAnswer.{WriterAnswer}
 use Rattle.theorems.specs.Items.{Items, noItems}
 use Rattle.theorems.specs.Writing.{ifAccepted}
-use Rattle.theorems.proofs.Following.{Sound, Moved, stays, moves}
+use Rattle.theorems.proofs.Following.{Moved, stays, moves}
 
 -- an answer, by what the call comes to
 module _ {o : Outcome CCDataWriter} {w : CCDataWriter} {r : WriterAnswer} (a : Answers o w r) where
@@ -47,5 +48,5 @@ pads-moves w r x y s a =
       rates = λ cs t. t;
       writes = λ cs. omega arith;
       quiet = λ e cs t. t;
-      sound = record { valid = valid-padding w x y ∙ s .valid; shaped = record { packets = s .shaped .packets; first = s .shaped .first; second = s .shaped .second } };
+      sound = padding-sound w s x y;
     }))

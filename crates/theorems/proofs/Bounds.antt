@@ -1,8 +1,8 @@
 -- How soon what is queued leaves, for any sequence of calls that the contracts allow. Assumes nothing.
 use mathlib.Core.Path.{_≡_, refl, sym, ap, _∙_}
 use mathlib.Core.Bool.{true, false≢true}
-use mathlib.Core.List.{List, [], _∷_, _++_}
-use Prim.Native.Nat.{ℕ, _+_, _-_, _*_, _/_, _≤_}
+use mathlib.Core.List.{List, [], _∷_}
+use Prim.Native.Nat.{ℕ, _*_, _≤_}
 use native.Mathlib.Omega.{arith}
 use lib.ListN.{length, take, drop, length-map}
 use lib.Seq.{length-take-le}
@@ -10,11 +10,10 @@ use contract.Lifetimes.{Lfts}
 use denote.Ref.{now}
 use Rattle.model.specs.Said.{Outcome, gave, refused, isGiven, saysWith}
 use Rattle.model.specs.Frame as model
-use Rattle.model.specs.Frame.{mostFrame, Triple, frameBytes, triplesIn}
+use Rattle.model.specs.Frame.{mostFrame, frameBytes, triplesIn}
 use Rattle.model.specs.Rate.{Budgets, budgets}
-use Rattle.model.specs.Mux.{Mux, freshMux, writeFrame}
+use Rattle.model.specs.Mux.{freshMux, writeFrame}
 use Rattle.model.specs.Run as runs
-use Rattle.model.specs.Run.{run}
 use Rattle.model.proofs.Frames.{unflat}
 use Rattle.journey.specs.Bounds as journey
 use Rattle.journey.specs.Bounds.{Field, one, two, Left}
@@ -28,11 +27,11 @@ use Rattle.caption.specs.declared.Counted.the-variants as counted
 use Rattle.caption.specs.declared.Framerate.{Framerate}
 use Rattle.turns.specs.Queue.{queueOf}
 use Rattle.turns.proofs.Queues.{queue-length}
-use Rattle.slots.specs.Slot.{slotPacket, writtenBytes, writtenLength}
+use Rattle.slots.specs.Slot.{slotPacket}
 use Rattle.writer.specs.Writer.{means}
 use Rattle.writer.specs.Calls.{frameLength, written}
-use Rattle.writer.proofs.Valid.{valid-ok}
 use Rattle.writer.proofs.Triples.{left-length}
+use Rattle.writer.proofs.Kept.{Sound, sound-ok}
 use Rattle.writer.proofs.Laws.{means-after, write-given}
 use Rattle.writer.specs.declared.CCDataWriter.{CCDataWriter}
 use Rattle.writer.specs.declared.WriterCount.{WriterCount}
@@ -40,7 +39,7 @@ use Rattle.theorems.specs.Items.{Items, noItems}
 use Rattle.theorems.specs.Allowed.{Lent, NewWriter, Write}
 use Rattle.theorems.specs.Writing.{Calls, Padded, Drained}
 use Rattle.theorems.specs.Bounds.{queueAt, unsentOf, SendsFour}
-use Rattle.theorems.proofs.Following.{Sound, Follows}
+use Rattle.theorems.proofs.Following.{Follows}
 use Rattle.theorems.proofs.Frames.{Writes, no-frame, one-frame, wrote, write-does}
 use Rattle.theorems.proofs.Sequences.{follows, from-fresh}
 
@@ -59,7 +58,7 @@ queue-means two w = refl
 drained-back : (w : CCDataWriter) → Sound w → runs.Drained (means w) → Drained w
 unfolding means
 drained-back w s d =
-    let ok = valid-ok w (s .shaped) (s .valid) in
+    let ok = sound-ok w s in
     let h = ok .held in
     let n : length (means w .packets) ≡ w .«packet_count» =
     length-map (take (w .«packet_count») (w .packets)) slotPacket ∙ length-take-le (w .«packet_count») (w .packets) (omega (arith, ok .queued .few, ok .queued .places)) in
@@ -128,7 +127,7 @@ module _ {w₀ w : CCDataWriter} {fs₀ : List (List ℕ)} {is₀ : Items} (new 
   pub writes-drain : {w′ : CCDataWriter} {fs : List (List ℕ)} → Calls w fs noItems w′
       → 2 * w .field1 .count ≤ length fs → 2 * w .field2 .count ≤ length fs → unsentOf w ≤ 4 * length fs → Drained w′
   writes-drain {w′} c k₁ k₂ u =
-      let ok = valid-ok w (reached .sound .shaped) (reached .sound .valid) in
+      let ok = sound-ok w (reached .sound) in
       let k = follows c (reached .sound) in
       let n₁ = ap length (queue-means one w) ∙ queue-length (w .field1) (ok .first) in
       let n₂ = ap length (queue-means two w) ∙ queue-length (w .field2) (ok .second) in

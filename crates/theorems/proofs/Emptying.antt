@@ -20,7 +20,6 @@ use Rattle.packet.specs.Packet.{packetOf, laid, blank}
 use Rattle.packet.specs.declared.DTVCCPacket.{DTVCCPacket}
 use Rattle.packet.proofs.Holds.{over-holds}
 use Rattle.parser.specs.Means.{means}
-use Rattle.parser.specs.Draw.{drawn}
 use Rattle.parser.specs.Items.{Draws, saidItem, itemValues, packetOfItem}
 use Rattle.parser.proofs.Kept.{Sound, drawn-sound, means-drawn}
 use Rattle.parser.proofs.Items.{saidItem-injective}
@@ -28,7 +27,7 @@ use Rattle.parser.specs.declared.CCDataParser.{CCDataParser}
 use Rattle.parser.specs.declared.Drawn.{Drawn}
 use Rattle.parser.specs.declared.Item.{Item}
 use Rattle.parser.specs.declared.Item.the-variants as item
-use Rattle.theorems.specs.Items.{Items, noItems, andThen, onePacket, onePair}
+use Rattle.theorems.specs.Items.{Items, andThen, onePair}
 use Rattle.theorems.specs.Allowed.{Draw}
 use Rattle.theorems.specs.Reading.{Empties, nothing-left, draw, drawnItem, refusedDraw}
 

@@ -1,14 +1,14 @@
 -- Frames fed to a demultiplexer that is emptied after each: where the model refuses none, none is refused, and what is given is what the model
 -- gives. Assumes nothing.
-use mathlib.Core.Path.{_≡_, refl, sym, ap, _∙_}
+use mathlib.Core.Path.{_≡_, refl, ap, _∙_}
 use mathlib.Core.Bool.{true}
 use mathlib.Core.List.{List, [], _∷_, _++_}
-use Prim.Native.Nat.{ℕ, _≤_}
+use Prim.Native.Nat.{ℕ}
 use native.Mathlib.Omega.{arith}
 use lib.ListN.{length, replicate}
 use denote.Ref.{now}
-use Rattle.model.specs.Said.{Said, accepted}
-use Rattle.model.specs.Packet.{Packet, validPacket, allPackets}
+use Rattle.model.specs.Said.{accepted}
+use Rattle.model.specs.Packet.{Packet, allPackets}
 use Rattle.model.specs.Frame.{Cea608, field1, field2}
 use Rattle.model.specs.Demux.{Demux, takeFrame, validDemux}
 use Rattle.model.specs.Run.{Read, readFrames, emptied, ofField1, ofField2, others}
@@ -22,10 +22,9 @@ use Rattle.parser.specs.Push.{pushed}
 use Rattle.parser.proofs.Kept.{Sound, pushed-sound, means-pushed}
 use Rattle.parser.specs.declared.CCDataParser.{CCDataParser}
 use Rattle.parser.specs.declared.ParserAnswer.{ParserAnswer}
-use Rattle.theorems.specs.Items.{Items, noItems, andThen}
-use Rattle.theorems.specs.Allowed.{Push}
-use Rattle.theorems.specs.Reading.{Feeds, no-frame, feed, refusedFrame}
-use Rattle.theorems.proofs.Emptying.{itemsIn, Emptied, empties-from}
+use Rattle.theorems.specs.Items.{Items, andThen}
+use Rattle.theorems.specs.Reading.{Feeds, no-frame, feed}
+use Rattle.theorems.proofs.Emptying.{itemsIn, empties-from}
 
 -- the items that the model reads
 abbrev pub itemsRead : Read → Items

@@ -1,9 +1,7 @@
 -- What a sequence of real calls is in the model: calls of the model with the same frames and the same items. Assumes nothing.
 use mathlib.Core.Path.{_≡_, refl, sym, ap, _∙_}
-use mathlib.Core.Bool.{true}
 use mathlib.Core.List.{List, [], _∷_, _++_}
 use Prim.Native.Nat.{ℕ, _+_}
-use native.Mathlib.Omega.{arith}
 use lib.ListN.{length, length-append}
 use Rattle.model.specs.Packet.{Packet}
 use Rattle.model.specs.Frame.{Pair}
@@ -11,15 +9,10 @@ use Rattle.model.specs.Mux.{Mux}
 use Rattle.model.specs.Run.{Call, Run, call, run, AllowedCall, Allowed, others}
 use Rattle.journey.specs.Bounds.{writesIn, AtRates, NoPush}
 use Rattle.journey.proofs.Turns.{others-append}
-use Rattle.writer.specs.Writer.{means, validWriter}
-use Rattle.writer.proofs.Valid.{Shaped}
+use Rattle.writer.specs.Writer.{means}
+use Rattle.writer.proofs.Kept.{Sound}
 use Rattle.writer.specs.declared.CCDataWriter.{CCDataWriter}
 use Rattle.theorems.specs.Items.{Items, noItems, andThen}
-
--- a state within its limits, its arrays of their lengths
-pub record Sound (w : CCDataWriter) : Type 0 where
-  pub valid : validWriter w ≡ true
-  pub shaped : Shaped w
 
 -- One call is one of the model, with the frames fs and the items is, if `pad` holds for its being allowed. It takes part in calls that follow
 -- by what it adds to what is known of them.

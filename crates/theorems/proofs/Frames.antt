@@ -1,18 +1,18 @@
 -- A write that is accepted is a frame of the model, at the budgets of its rate, and any other changes nothing. Assumes nothing.
-use mathlib.Core.Path.{_≡_, refl, sym, ap, _∙_}
-use mathlib.Core.Bool.{Bool, true, false, cond, _||_}
+use mathlib.Core.Path.{_≡_, refl, sym, ap}
+use mathlib.Core.Bool.{true, false, _||_}
 use mathlib.Core.List.{List, [], _∷_, _++_}
-use Prim.Native.Nat.{ℕ, _+_}
+use Prim.Native.Nat.{ℕ}
 use native.Mathlib.Omega.{arith}
 use lib.Dec.{eqb, ltb}
 use lib.ListN.{length, take, drop}
 use lib.Seq.{take-at}
 use contract.Lifetimes.{Lfts}
 use denote.Ref.{now}
-use Rattle.model.specs.Said.{Said, Outcome, gave, refused, after, mapped, saysWith, putInto, badRate}
+use Rattle.model.specs.Said.{gave, refused, after, mapped, saysWith, putInto, badRate}
 use Rattle.model.specs.Frame.{frameBytes}
 use Rattle.model.specs.Rate.{Budgets, budgets, pairsAt, triplesAt, mostTriples}
-use Rattle.model.specs.Mux.{Written, writeFrame, writeAt}
+use Rattle.model.specs.Mux.{writeFrame, writeAt}
 use Rattle.model.specs.Run.{writes, call, others, Accepted}
 use Rattle.model.proofs.Cases.{by-test}
 use Rattle.model.proofs.Rates.{accepted-rate}
@@ -22,18 +22,17 @@ use Rattle.caption.specs.declared.Refusal.{Refusal}
 use Rattle.caption.specs.declared.Refusal.the-variants.{BadRate, OutShort}
 use Rattle.caption.specs.declared.Counted.the-variants as counted
 use Rattle.caption.specs.declared.Framerate.{Framerate}
-use Rattle.writer.specs.Writer.{means, Ok, afterFrame}
+use Rattle.writer.specs.Writer.{means, afterFrame}
 use Rattle.writer.specs.Calls.{budgetsAt, frameLength, written}
-use Rattle.writer.proofs.Valid.{valid-ok}
-use Rattle.writer.proofs.Means.{ok-frame}
 use Rattle.writer.proofs.Calls.{budgets-at}
-use Rattle.writer.proofs.Laws.{means-after, valid-after}
+use Rattle.writer.proofs.Laws.{means-after}
+use Rattle.writer.proofs.Kept.{Sound, after-sound}
 use Rattle.writer.specs.declared.CCDataWriter.{CCDataWriter}
 use Rattle.writer.specs.declared.WriterCount.{WriterCount}
-use Rattle.theorems.specs.Items.{Items, noItems}
+use Rattle.theorems.specs.Items.{noItems}
 use Rattle.theorems.specs.Allowed.{Lent, Write}
 use Rattle.theorems.specs.Writing.{frameIn, PaddingAt}
-use Rattle.theorems.proofs.Following.{Sound, Step, Moved, stays, moves}
+use Rattle.theorems.proofs.Following.{Moved, stays, moves}
 
 -- a rate is refused with 8, or it has budgets
 budgets-by : {P : Type 0} (n d : ℕ) → (budgets n d ≡ refused badRate → P) → ((b : Budgets) → budgets n d ≡ gave b → P) → P
@@ -101,12 +100,6 @@ module _ (w : CCDataWriter) (rate : Framerate) (out end : List ℕ) (r : WriterC
 pub write-does : (κs : Lfts 1) (w : CCDataWriter) (rate : Framerate) (out end : Lent) (r : WriterCount) → Sound w → Write κs w rate out end r → Writes w (now end) r
 write-does κs w rate out end r s a = writes-by w rate (now out) (now end) r s (wrote κs w rate out end r a)
 
--- a frame leaves a state within its limits
-next-sound : (w : CCDataWriter) (b : Budgets) → Sound w → Sound (afterFrame b w)
-next-sound w b s =
-    let ok = ok-frame w (valid-ok w (s .shaped) (s .valid)) b in
-    record { valid = valid-after w (s .shaped) (s .valid) b; shaped = record { packets = ok .queued .places; first = ok .first .flat; second = ok .second .flat } }
-
 -- so a write is one of the model, or changes nothing
 pub write-moves : (w : CCDataWriter) (end : List ℕ) (r : WriterCount) → Sound w → Writes w end r → Moved w (frameIn (r .answer) end) noItems (r .writer) (PaddingAt (r .answer) w)
 unfolding call others means
@@ -123,5 +116,5 @@ write-moves w end r s (one-frame b accepted counts first next) =
       rates = λ cs t. (accepted, t);
       writes = λ cs. omega arith;
       quiet = λ e cs t. t;
-      sound = next-sound w b s;
+      sound = after-sound w s b;
     }))

@@ -1,10 +1,10 @@
 -- A packet that is pushed is a push of the model, or changes nothing. Assumes nothing.
 use mathlib.Core.Path.{_≡_, refl, sym, ap}
-use mathlib.Core.Bool.{true, false, not, _&&_}
+use mathlib.Core.Bool.{true, false, _&&_}
 use mathlib.Core.List.{[], _∷_, _++_}
 use native.Mathlib.Omega.{arith}
 use lib.Dec.{eqb, leb}
-use lib.ListN.{length, length-set}
+use lib.ListN.{length}
 use Rattle.model.specs.Said.{Outcome, gave, mapped, checked}
 use Rattle.model.specs.Packet.{Packet}
 use Rattle.model.specs.Mux.{Mux, withPackets, pushPacket, queued, mostPackets}
@@ -17,13 +17,14 @@ use Rattle.packet.proofs.Holds.{within-facts, held-valid}
 use Rattle.packet.specs.declared.DTVCCPacket.{DTVCCPacket}
 use Rattle.writer.specs.Writer.{means, validWriter}
 use Rattle.writer.specs.Calls.{Answers, pushedPacket}
-use Rattle.writer.proofs.Packed.{means-packet, valid-packet}
+use Rattle.writer.proofs.Packed.{means-packet}
+use Rattle.writer.proofs.Kept.{Sound, packet-sound}
 use Rattle.writer.specs.declared.CCDataWriter.{CCDataWriter}
 use Rattle.writer.specs.declared.WriterAnswer.{WriterAnswer}
 use Rattle.theorems.specs.Items.{Items, noItems, onePacket, ifNonempty}
 use Rattle.theorems.specs.Allowed.{PushPacket}
 use Rattle.theorems.specs.Writing.{Typed, ifAccepted}
-use Rattle.theorems.proofs.Following.{Sound, Moved, stays, moves}
+use Rattle.theorems.proofs.Following.{Moved, stays, moves}
 use Rattle.theorems.proofs.Answered.{given, stays-denied}
 
 -- a packet is an item
@@ -67,16 +68,6 @@ module _ (w : CCDataWriter) (d : DTVCCPacket) (r : WriterAnswer) (s : Sound w) (
           unfolding pushPacket queued
           put = rw (some, room)
 
-          -- the arrays keep their lengths
-          stored-sound : Sound (pushedPacket p w)
-          unfolding pushedPacket
-          stored-sound =
-              let h = s .shaped in
-              record {
-                valid = gives-at (λ (m : Mux). validWriter (pushedPacket p w) ≡ true) (pushPacket p (means w)) put (valid-packet w h (s .valid) p held);
-                shaped = rw some (record { packets = simp length-set (h .packets); first = h .first; second = h .second });
-              }
-
           -- the packet is stored
           moves-stored : Moved w [] item (r .writer) (Unit {0})
           unfolding call others
@@ -93,7 +84,7 @@ module _ (w : CCDataWriter) (d : DTVCCPacket) (r : WriterAnswer) (s : Sound w) (
                 rates = λ cs t. t;
                 writes = λ cs. omega arith;
                 quiet = λ e cs t. absurd (packet-some p e);
-                sound = stored-sound;
+                sound = gives-at (λ (m : Mux). Sound (pushedPacket p w)) (pushPacket p (means w)) put (packet-sound w s p held);
               }))
 
     -- in all

@@ -6,7 +6,7 @@ use native.Mathlib.Omega.{arith}
 use lib.Dec.{leb, ltb}
 use lib.ListN.{length}
 use Rattle.model.specs.Said.{gave, refused, after, mapped, checked, full}
-use Rattle.model.specs.Frame.{pair, Cea608, field1, field2}
+use Rattle.model.specs.Frame.{Cea608, field1, field2}
 use Rattle.model.specs.Mux.{Mux, isNull, withQueues, pushPair, pushCea608, queued, mostQueued}
 use Rattle.model.specs.Run.{pushes608, writes, call, others}
 use Rattle.model.proofs.Cases.{by-test}
@@ -15,17 +15,16 @@ use Rattle.caption.specs.declared.Refusal.the-variants.{Full}
 use Rattle.caption.specs.declared.Cea608 as caption
 use Rattle.caption.specs.declared.Cea608.the-variants.{Field1, Field2}
 use Rattle.turns.specs.Queue.{pushedPair}
-use Rattle.turns.proofs.Queues.{sized-pushed}
-use Rattle.writer.specs.Writer.{means, validWriter, Ok}
+use Rattle.writer.specs.Writer.{means, validWriter}
 use Rattle.writer.specs.Calls.{Answers, pushedTo}
-use Rattle.writer.proofs.Valid.{Shaped, valid-ok}
-use Rattle.writer.proofs.Laws.{means-pushed, valid-pushed}
+use Rattle.writer.proofs.Laws.{means-pushed}
+use Rattle.writer.proofs.Kept.{Sound, pushed-sound}
 use Rattle.writer.specs.declared.CCDataWriter.{CCDataWriter}
 use Rattle.writer.specs.declared.WriterAnswer.{WriterAnswer}
 use Rattle.theorems.specs.Items.{Items, noItems, onePair}
 use Rattle.theorems.specs.Allowed.{PushCea608}
 use Rattle.theorems.specs.Writing.{ifAccepted}
-use Rattle.theorems.proofs.Following.{Sound, Moved, stays, moves}
+use Rattle.theorems.proofs.Following.{Moved, stays, moves}
 use Rattle.theorems.proofs.Answered.{given, stays-denied}
 
 -- whether a pair is 0x80,0x80
@@ -65,20 +64,11 @@ pair-call (field2 x) s = (refl, (refl, refl))
 
 -- a pair
 module _ (w : CCDataWriter) (s : Sound w) where
-  -- the limits as facts
-  ok : Ok w
-  ok = valid-ok w (s .shaped) (s .valid)
-
   -- the pair 0x80,0x80 changes nothing
   padding-same : (x : caption.Cea608) → isPadding (cea608Of x) ≡ true → pushedTo x w ≡ w
   unfolding pushedPair
   padding-same (Field1 a b) e = by-test (ltb (w .field1 .count) mostQueued) (λ f. rw (e, f)) (λ f. rw f)
   padding-same (Field2 a b) e = by-test (ltb (w .field2 .count) mostQueued) (λ f. rw (e, f)) (λ f. rw f)
-
-  -- the arrays keep their lengths
-  pushed-shaped : (x : caption.Cea608) → Shaped (pushedTo x w)
-  pushed-shaped (Field1 a b) = record { packets = s .shaped .packets; first = sized-pushed (w .field1) a b (ok .first) .flat; second = s .shaped .second }
-  pushed-shaped (Field2 a b) = record { packets = s .shaped .packets; first = s .shaped .first; second = sized-pushed (w .field2) a b (ok .second) .flat }
 
   -- by what the push does
   pair-by : (x : caption.Cea608) (r : WriterAnswer) → Answers (checked (validWriter w) (mapped (λ _. pushedTo x w) (pushCea608 (cea608Of x) (means w)))) w r
@@ -99,7 +89,7 @@ module _ (w : CCDataWriter) (s : Sound w) where
         rates = λ cs t. t;
         writes = λ cs. omega arith;
         quiet = λ e cs t. absurd (n e);
-        sound = record { valid = valid-pushed w (s .shaped) (s .valid) x; shaped = pushed-shaped x };
+        sound = pushed-sound w s x;
       }))
 
   -- by its contract

@@ -1,26 +1,22 @@
 -- Every sequence of calls that the contracts allow is a sequence of calls of the model. Assumes nothing.
-use mathlib.Core.Path.{_≡_, refl, ap, _∙_}
+use mathlib.Core.Path.{_≡_, ap, _∙_}
 use mathlib.Core.List.{List, _++_}
 use Prim.Native.Nat.{ℕ}
 use denote.Ref.{now}
 use Rattle.model.specs.Mux.{freshMux}
 use Rattle.writer.specs.Writer.{means}
 use Rattle.writer.specs.Calls.{fresh}
-use Rattle.writer.proofs.Laws.{valid-fresh, means-fresh}
+use Rattle.writer.proofs.Laws.{means-fresh}
+use Rattle.writer.proofs.Kept.{Sound, fresh-sound}
 use Rattle.writer.specs.declared.CCDataWriter.{CCDataWriter}
 use Rattle.theorems.specs.Items.{Items, andThen}
 use Rattle.theorems.specs.Allowed.{NewWriter}
 use Rattle.theorems.specs.Writing.{Calls, no-call, push-packet, push-cea608, set-cea608-padding, set-padding, write, Padded}
-use Rattle.theorems.proofs.Following.{Sound, Follows, Moved, moved-sound, follows-none, follow, repad}
+use Rattle.theorems.proofs.Following.{Follows, Moved, moved-sound, follows-none, follow, repad}
 use Rattle.theorems.proofs.Answered.{pads-moves}
 use Rattle.theorems.proofs.Packets.{packet-moves}
 use Rattle.theorems.proofs.Pairs.{pair-moves}
 use Rattle.theorems.proofs.Frames.{write-does, write-moves}
-
--- a fresh state is within its limits
-pub fresh-sound : (w : CCDataWriter) → NewWriter w → Sound w
-unfolding fresh
-fresh-sound w a = let e : w ≡ fresh = a in rw e (record { valid = valid-fresh; shaped = record { packets = refl; first = refl; second = refl } })
 
 -- a call that asks nothing of the padding, and then those that follow
 then : {w w₁ w₂ : CCDataWriter} {fs₁ fs₂ : List (List ℕ)} {is₁ is₂ : Items} {pad : Type 0}
@@ -38,4 +34,4 @@ follows {w} (write κs rate out end r a c) s = let m = write-moves w (now end) r
 
 -- from a fresh one
 pub from-fresh : {w₀ w : CCDataWriter} {fs : List (List ℕ)} {is : Items} → NewWriter w₀ → (c : Calls w₀ fs is w) → Follows freshMux fs is w (Padded c)
-from-fresh {w₀} new c = let e : w₀ ≡ fresh = new in rw (ap means e ∙ means-fresh) at (follows c (fresh-sound w₀ new))
+from-fresh {w₀} new c = let e : w₀ ≡ fresh = new in rw (ap means e ∙ means-fresh) at (follows c (rw e fresh-sound))

@@ -25,9 +25,8 @@ use Rattle.theorems.specs.Allowed.{NewWriter, NewParser, HandleCea608}
 use Rattle.theorems.specs.Writing.{Calls, Padded}
 use Rattle.theorems.specs.Reading.{Feeds}
 use Rattle.theorems.specs.Trip.{SoFar}
-use Rattle.theorems.proofs.Following.{Follows}
 use Rattle.theorems.proofs.Sequences.{from-fresh}
-use Rattle.theorems.proofs.Feeding.{itemsRead, Fed}
+use Rattle.theorems.proofs.Feeding.{itemsRead}
 use Rattle.theorems.proofs.Trip.{given-fed}
 
 -- bytes close as one packet or none

@@ -1,27 +1,22 @@
 -- Demand 3 about the functions themselves: whatever code meets their contracts, what is pushed is drawn. Assumes nothing.
-use mathlib.Core.Path.{_≡_, refl, sym, ap, _∙_}
-use mathlib.Core.Bool.{true}
+use mathlib.Core.Path.{_≡_, ap, _∙_}
 use mathlib.Core.List.{List, []}
-use Prim.Native.Nat.{ℕ, _*_, _≤_}
+use Prim.Native.Nat.{ℕ}
 use native.Mathlib.Omega.{arith}
 use lib.ListN.{length, replicate}
 use Rattle.model.specs.Said as said
-use Rattle.model.specs.Demux.{freshDemux, turn608On, validDemux}
-use Rattle.model.specs.Mux.{Mux, freshMux}
+use Rattle.model.specs.Demux.{freshDemux, turn608On}
 use Rattle.model.specs.Run as model
-use Rattle.model.specs.Run.{run, Read, readFrames}
+use Rattle.model.specs.Run.{Read, readFrames}
 use Rattle.model.proofs.DemuxStates.{fresh-demux, on-valid}
 use Rattle.journey.proofs.Trip as journey
 use Rattle.caption.specs.declared.Refusal.{Refusal}
 use Rattle.caption.specs.declared.Answer.the-variants.{Accepted}
 use Rattle.caption.proofs.Answers.{saidAnswer-injective}
 use Rattle.turns.specs.Queue.{queueOf, pairsOf}
-use Rattle.slots.specs.Slot.{writtenBytes, writtenLength}
-use Rattle.writer.specs.Slots.{leftFrom}
+use Rattle.slots.specs.Slot.{writtenBytes}
 use Rattle.writer.specs.Writer.{means}
-use Rattle.writer.specs.Calls.{fresh}
-use Rattle.writer.proofs.Valid.{valid-ok}
-use Rattle.writer.proofs.Laws.{means-fresh}
+use Rattle.writer.proofs.Kept.{Sound, sound-ok}
 use Rattle.writer.proofs.Triples.{left-end}
 use Rattle.writer.specs.declared.CCDataWriter.{CCDataWriter}
 use Rattle.parser.specs.Means as parser
@@ -34,7 +29,7 @@ use Rattle.theorems.specs.Allowed.{NewWriter, NewParser, HandleCea608}
 use Rattle.theorems.specs.Writing.{Calls, Padded, Drained}
 use Rattle.theorems.specs.Reading.{Feeds}
 use Rattle.theorems.specs.Trip.{RoundTrip}
-use Rattle.theorems.proofs.Following.{Sound, items-same}
+use Rattle.theorems.proofs.Following.{items-same}
 use Rattle.theorems.proofs.Sequences.{from-fresh}
 use Rattle.theorems.proofs.Feeding.{itemsRead, Fed, feeds}
 
@@ -42,7 +37,7 @@ use Rattle.theorems.proofs.Feeding.{itemsRead, Fed, feeds}
 pub drained : (w : CCDataWriter) → Sound w → Drained w → model.Drained (means w)
 unfolding means queueOf pairsOf
 drained w s d =
-    let h = valid-ok w (s .shaped) (s .valid) .held in
+    let h = sound-ok w s .held in
     record {
       no-packet = rw (d .no-packet);
       no-triple = left-end (w .sent) (writtenBytes (w .sending)) (omega (arith, h .whole, d .no-byte));
