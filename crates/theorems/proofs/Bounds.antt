@@ -83,7 +83,7 @@ four-by w end r s n e f (one-frame b accepted counts first next) =
     })
 
 -- what is given is something
-given-by : {A P : Type 0} (o : Outcome A) → isGiven o ≡ true → ((x : A) → o ≡ gave x → P) → P
+pub given-by : {A P : Type 0} (o : Outcome A) → isGiven o ≡ true → ((x : A) → o ≡ gave x → P) → P
 given-by (gave x) e f = f x refl
 given-by (refused why) e f = absurd (false≢true e)
 

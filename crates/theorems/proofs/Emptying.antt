@@ -36,7 +36,7 @@ abbrev pub itemsIn : List Cea608 → List Packet → Items
 itemsIn pairs waiting = record { packets = waiting; pairs1 = others (ofField1 pairs); pairs2 = others (ofField2 pairs) }
 
 -- the pair as it is drawn
-abbrev drawnPair : Cea608 → caption.Cea608
+abbrev pub drawnPair : Cea608 → caption.Cea608
 drawnPair (field1 (pair a b)) = Field1 a b
 drawnPair (field2 (pair a b)) = Field2 a b
 
@@ -46,27 +46,27 @@ pair-drawn (field1 (pair a b)) = refl
 pair-drawn (field2 (pair a b)) = refl
 
 -- the item as it is drawn
-abbrev itemFor : model.Item → Item
+abbrev pub itemFor : model.Item → Item
 itemFor (aPair x) = item.Pair (drawnPair x)
 itemFor (aPacket p) = item.Packet
 itemFor noItem = item.Nothing
 
 -- it says what the item says
-item-says : (i : model.Item) → saidItem (itemFor i) ≡ accepted (itemValues i)
+pub item-says : (i : model.Item) → saidItem (itemFor i) ≡ accepted (itemValues i)
 item-says (aPair (field1 (pair a b))) = refl
 item-says (aPair (field2 (pair a b))) = refl
 item-says (aPacket p) = refl
 item-says noItem = refl
 
 -- what the contract of a draw says of a state within the limits: the item is what the model draws, and so is what is left
-record Drew (i : model.Item) (next : Demux) (r : Drawn) : Type 0 where
-  item : r .item ≡ itemFor i
-  packet : r .packet ≡ packetOfItem i
-  sound : Sound (r .parser)
-  means : means (r .parser) ≡ next
+pub record Drew (i : model.Item) (next : Demux) (r : Drawn) : Type 0 where
+  pub item : r .item ≡ itemFor i
+  pub packet : r .packet ≡ packetOfItem i
+  pub sound : Sound (r .parser)
+  pub means : means (r .parser) ≡ next
 
 -- from the contract
-drew : (p : CCDataParser) (r : Drawn) (d : Demux) → Sound p → means p ≡ d → Draw p r → Drew (model.draw d .item) (model.draw d .next) r
+pub drew : (p : CCDataParser) (r : Drawn) (d : Demux) → Sound p → means p ≡ d → Draw p r → Drew (model.draw d .item) (model.draw d .next) r
 drew p r d s e a =
     let c : Draws p r = a in
     record {
@@ -100,11 +100,11 @@ laid-holds : (q : Packet) → validPacket q ≡ true → packetOf (laid q) ≡ q
 laid-holds q v = over-holds blank (record { numbers = refl; sizes = refl; payload = refl }) q (valid-facts q v)
 
 -- a packet is something
-packet-some : item.Packet ≡ item.Nothing → ⊥
+pub packet-some : item.Packet ≡ item.Nothing → ⊥
 packet-some e = false≢true (cc)
 
 -- and so is a pair
-pair-some : (x : caption.Cea608) → item.Pair x ≡ item.Nothing → ⊥
+pub pair-some : (x : caption.Cea608) → item.Pair x ≡ item.Nothing → ⊥
 pair-some x e = false≢true (cc)
 
 module _ (on : Bool) (pending : List ℕ) where

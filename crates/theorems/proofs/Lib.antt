@@ -11,3 +11,5 @@ pub mod Distinct
 pub mod Bounds
 pub mod SoFar
 pub mod Types
+pub mod Feedable
+pub mod Drainable
