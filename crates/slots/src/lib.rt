@@ -1,7 +1,7 @@
 // A slot: the bytes that a packet is written in, and the test whether they are that.
 ghost use mathlib.Core.Path.{_≡_};
 ghost use Prim.Native.Nat.{_+_, _≤_};
-ghost use lib.ListN.{getD, take, drop};
+ghost use lib.ListN.{length, getD, take, drop};
 ghost use Rattle.slots.specs.Slot.{blockSpan, wholeBlocks, writtenSlot};
 
 // The fewest bytes of a packet that is not empty.
@@ -38,7 +38,7 @@ impl Slot {
                 return false;
             }
         }
-        blocks_whole(bytes, len)
+        blocks_whole(&bytes, len)
     }
 }
 
@@ -50,13 +50,13 @@ fn wide(b: u8) -> usize
 }
 
 // Whether the bytes from the second to the last of `len` are written blocks, one after another.
-fn blocks_whole(bytes: [u8; 128], len: usize) -> bool
-    requires { ⌜ (1 ≤ len) × (len ≤ 128) ⌝ }
-    ensures { λ r. ⌜ r ≡ wholeBlocks 0 (drop 1 (take len bytes)) ⌝ }
+fn blocks_whole(bytes: &[u8; 128], len: usize) -> bool
+    requires { ⌜ (1 ≤ len) × (len ≤ 128) × (length (now bytes) ≡ 128) ⌝ }
+    ensures { λ r. ⌜ r ≡ wholeBlocks 0 (drop 1 (take len (now (bytes .entry)))) ⌝ }
 {
     let mut at: usize = 1;
     while at < len {
-        let second = byte_at(&bytes, at + 1, len);
+        let second = byte_at(bytes, at + 1, len);
         let span = block_span(bytes[at], second);
         if span == 0 {
             return false;

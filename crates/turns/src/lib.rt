@@ -37,11 +37,12 @@ pub struct QueuePush {
 
 impl PairQueue {
     // Pushes a pair: 0x80,0x80 is accepted and dropped, even on a full queue.
-    pub fn push(self, a: u8, b: u8) -> QueuePush
+    pub fn push(mut self, a: u8, b: u8) -> QueuePush
         ensures { λ r. ⌜ saidAnswer (r .answer) ≡ says (checked (leb (self .count) mostQueued) (pushPair (pair a b) (queueOf self))) ⌝ }
         ensures { λ r. ⌜ r .queue ≡ pushedPair self a b ⌝ }
     {
-        if MOST_QUEUED < self.count {
+        let n = self.count;
+        if MOST_QUEUED < n {
             return QueuePush {
                 answer: Answer::Refused(Refusal::BadValue),
                 queue: self,
@@ -53,30 +54,19 @@ impl PairQueue {
                 queue: self,
             };
         }
-        if self.count == MOST_QUEUED {
+        if n == MOST_QUEUED {
             return QueuePush {
                 answer: Answer::Refused(Refusal::Full),
                 queue: self,
             };
         }
-        let queue = self.stored(a, b);
+        self.bytes[2 * n] = a;
+        self.bytes[2 * n + 1] = b;
+        self.count = n + 1;
         QueuePush {
             answer: Answer::Accepted,
-            queue,
+            queue: self,
         }
-    }
-
-    // The pair in the first free place.
-    fn stored(self, a: u8, b: u8) -> PairQueue
-        requires { ⌜ self .count < mostQueued ⌝ }
-        ensures { λ r. ⌜ r ≡ pushed self a b ⌝ }
-    {
-        let n = self.count;
-        let mut q = self;
-        q.bytes[2 * n] = a;
-        q.bytes[2 * n + 1] = b;
-        q.count = n + 1;
-        q
     }
 
     // The first pair leaves, and the others move down by one place.

@@ -23,12 +23,12 @@ use Rattle.turns.specs.declared.Turns.{Turns}
 use Rattle.slots.specs.Slot.{slotPacket, writtenBytes}
 use Rattle.writer.specs.Slots.{packetsOf, leftFrom}
 use Rattle.writer.specs.Sending.{stands, sentFrom}
-use Rattle.writer.specs.Writer.{means, Ok, joined, leftBy, afterFrame, laid, built, turnsOf, triplesIn, padded, filled, startOf, turnsOn, Room}
+use Rattle.writer.specs.Writer.{means, Ok, madeOf, joined, leftBy, afterFrame, laid, Builds, turnsOf, triplesIn, padded, filled, startOf, turnsOn, Room}
 use Rattle.writer.proofs.Sends.{send-fewer}
 use Rattle.writer.proofs.Fills.{send-few, sent-next, sent-slot}
 use Rattle.writer.specs.declared.Sending.{Sending}
 use Rattle.writer.specs.declared.CCDataWriter.{CCDataWriter}
-use Rattle.writer.specs.declared.Built.{Built}
+use Rattle.writer.specs.declared.Made.{Made}
 
 -- the turns that the model takes
 pub leaves : (n : ℕ) (s : Mux) → Leaves n (s .queue1) (s .queue2) (turned n s)
@@ -157,13 +157,23 @@ module _ (w : CCDataWriter) (b : Budgets) (ok : Ok w) (within : b .pairs ≤ b .
         sent-slot (w .packets) (w .«packet_count») (startOf w frame) (count - triplesIn frame) refl (ok .queued) (ok .held),
       )
 
-  -- frame and state are what the model says
-  pub built-are : (t : Turns) (s : Sending) → t ≡ taken (turnsOn w (headed count)) turns → s ≡ filled (w .packets) (w .«packet_count») (startOf w (t .frame)) count (w .«output_padding»)
-      → _≡_ {A = Built} (record { frame = s .frame; writer = joined w t s }) (built b w)
-  unfolding filled stands built afterFrame means writeFrame framed padding
-  built-are t s e g =
-      let k : w .«packet_count» - (w .«packet_count» - length (sends .packets)) ≡ length (sends .packets) = omega (arith, fewer) in
-      rw (g, e, sends-are, whole (appended frame (flat (sends .out))) refl, k)
+  -- the turns and the packet triples that were found
+  module _ (t : Turns) (s : Sending) (e : t ≡ taken (turnsOn w (headed count)) turns) (g : s ≡ filled (w .packets) (w .«packet_count») (startOf w (t .frame)) count (w .«output_padding»)) where
+    -- the frame is the model's
+    frame-are : s .frame ≡ laid (writeFrame b (means w) .frame)
+    unfolding filled stands means writeFrame framed padding
+    frame-are = rw (g, e, sends-are, whole (appended frame (flat (sends .out))) refl)
+
+    -- the state is what the model leaves
+    writer-are : joined w (madeOf t s) ≡ afterFrame b w
+    unfolding filled stands afterFrame means writeFrame framed padding
+    writer-are =
+        let k : w .«packet_count» - (w .«packet_count» - length (sends .packets)) ≡ length (sends .packets) = omega (arith, fewer) in
+        rw (g, e, sends-are, k)
+
+    -- frame and state are what the model says
+    pub built-are : Builds b w (madeOf t s)
+    built-are = record { answer = refl; frame = frame-are; writer = writer-are; few = next-few s (rw e at g) .0 }
 
   -- what the calls of a build give, one after another
   pub record Steps (n c : ℕ) (h : Frame) (t : Turns) : Type 0 where
@@ -206,6 +216,5 @@ module _ (w : CCDataWriter) (b : Budgets) (ok : Ok w) (within : b .pairs ≤ b .
     next-is r e = next-few r (rw (taken-is, count-found) at e)
 
     -- all calls together
-    pub built-is : (r : Sending) (x : CCDataWriter) → r ≡ filled (w .packets) (w .«packet_count») (startOf w (t .frame)) c (w .«output_padding») → x ≡ joined w t r
-        → _≡_ {A = Built} (record { frame = r .frame; writer = x }) (built b w)
-    built-is r x e z = rw z (built-are t r taken-is (rw count-found at e))
+    pub built-is : (r : Sending) (m : Made) → r ≡ filled (w .packets) (w .«packet_count») (startOf w (t .frame)) c (w .«output_padding») → m ≡ madeOf t r → Builds b w m
+    built-is r m e z = rw z (built-are t r taken-is (rw count-found at e))

@@ -6,7 +6,7 @@ use Prim.Native.Nat.{ℕ, zero, suc, _+_, _-_, _*_, _≤_, _<_}
 use native.Mathlib.Omega.{arith}
 use borrow.Author.Tests.{lt-ltb, le-ltb, le-leb}
 use lib.Dec.{eqb, leb, ltb}
-use lib.ListN.{length, take, drop, replicate, length-append, length-take, length-replicate}
+use lib.ListN.{length, take, drop, replicate, take-append-drop, length-append, length-take, length-replicate}
 use lib.Seq.{sets, sets-eq, take-at}
 use Rattle.model.specs.Said.{Said, Outcome, gave, refused, accepted, says, saysWith, after, checked, measured, mapped, putInto, badValue, badRate, outShort}
 use Rattle.model.specs.Frame as model
@@ -30,19 +30,21 @@ use Rattle.caption.specs.declared.Budgets as caption
 use Rattle.caption.specs.declared.Budgets.the-variants.{Of, BadRate}
 use Rattle.frames.specs.Frame.{headed, appended, emitted}
 use Rattle.frames.proofs.Stores.{emitted-whole}
-use Rattle.turns.specs.Queue.{queueOf, pushedPair}
+use Rattle.turns.specs.Queue.{queueOf, slid, pushedPair}
 use Rattle.turns.proofs.Queues.{Sized, queue-length, push-cases}
 use Rattle.frames.specs.declared.Frame.{Frame}
 use Rattle.turns.specs.declared.PairQueue.{PairQueue}
 use Rattle.slots.specs.Slot.{writtenBytes}
+use Rattle.slots.specs.declared.Slot.{Slot}
+use Rattle.caption.specs.declared.Counted.{Counted}
 use Rattle.writer.specs.Slots.{packetsOf, leftFrom}
-use Rattle.writer.specs.Writer.{means, validWriter, Ok, laid, built, afterFrame}
-use Rattle.writer.specs.Calls.{Answers, withFields, pushedTo, budgetsAt, frameLength, written}
+use Rattle.writer.specs.Writer.{means, validWriter, Ok, laid, unmadeOf, joined, Builds, afterFrame}
+use Rattle.writer.specs.Calls.{Answers, withFields, pushedTo, budgetsAt, frameLength, written, Wrote, Makes}
 use Rattle.writer.proofs.Fills.{send-few}
 use Rattle.writer.proofs.Builds.{leaves, count-most, count-least}
 use Rattle.writer.specs.declared.CCDataWriter.{CCDataWriter}
 use Rattle.writer.specs.declared.WriterAnswer.{WriterAnswer}
-use Rattle.writer.specs.declared.Built.{Built}
+use Rattle.writer.specs.declared.Made.{Made}
 
 -- a state outside its limits, and one within them
 module _ (w : CCDataWriter) {v : Bool} (e : v ≡ validWriter w) where
@@ -151,15 +153,8 @@ budgets-at n d b = by (eqb n 0 || (eqb (pairsAt n d) 0 || ltb mostTriples (tripl
 
 -- writing a frame
 module _ (w : CCDataWriter) (rate : Framerate) (out : List ℕ) {v : Bool} (e : v ≡ validWriter w) where
-  -- what is said, the state and the output
-  abbrev Wrote : Said → CCDataWriter → List ℕ → Type 0
-  Wrote said x o =
-      (said ≡ saysWith (λ _. frameLength rate w ∷ []) (written rate out w))
-      × ((x ≡ after w (mapped (λ _. afterFrame (budgetsAt rate) w) (written rate out w)))
-      × (o ≡ after out (mapped (λ x. x .out) (written rate out w))))
-
   -- on a refusal all stays as it was
-  wrote-refused : (why : Said) → written rate out w ≡ refused why → Wrote why w out
+  wrote-refused : (why : Said) → written rate out w ≡ refused why → Wrote rate out w why w out
   wrote-refused why z = rw z (refl, (refl, refl))
 
   module _ (t : v ≡ true) where
@@ -168,7 +163,7 @@ module _ (w : CCDataWriter) (rate : Framerate) (out : List ℕ) {v : Bool} (e : 
     valid = sym e ∙ t
 
     -- "BadRate"
-    pub wrote-rate : (r : caption.Budgets) → saidBudgets r ≡ saysWith pairsThenTriples (budgets (rate .numer) (rate .denom)) → r ≡ BadRate → Wrote badRate w out
+    pub wrote-rate : (r : caption.Budgets) → saidBudgets r ≡ saysWith pairsThenTriples (budgets (rate .numer) (rate .denom)) → r ≡ BadRate → Wrote rate out w badRate w out
     unfolding written writeAt
     wrote-rate r m z =
         let b : budgets (rate .numer) (rate .denom) ≡ refused badRate = sym (rw z at (budgets-meant (rate .numer) (rate .denom) r m)) in
@@ -191,24 +186,14 @@ module _ (w : CCDataWriter) (rate : Framerate) (out : List ℕ) {v : Bool} (e : 
       pub sane : (p ≤ n) × (n ≤ 31)
       sane = let s = accepted-sane (rate .numer) (rate .denom) given in (omega (arith, s .apart), s .few-triples)
 
-      module _ (f : Built) (made : f ≡ built b w) where
-        -- the frame that was built
-        frame-is : f .frame ≡ laid (writeFrame b (means w) .frame)
-        unfolding built
-        frame-is = ap (λ (x : Built). x .frame) made
-
-        -- the state that was built
-        writer-is : f .writer ≡ afterFrame b w
-        unfolding built
-        writer-is = ap (λ (x : Built). x .writer) made
-
+      module _ (f : Made) (made : Builds b w f) where
         -- the bytes of the frame
         abbrev bytes : List ℕ
         bytes = frameBytes (writeFrame b (means w) .frame)
 
         -- their number
         length-is : f .frame .len ≡ length bytes
-        length-is = rw frame-is (laid-length (writeFrame b (means w) .frame))
+        length-is = rw (made .frame) (laid-length (writeFrame b (means w) .frame))
 
         -- at most 95
         pub frame-few : f .frame .len ≤ 95
@@ -216,7 +201,7 @@ module _ (w : CCDataWriter) (rate : Framerate) (out : List ℕ) {v : Bool} (e : 
             omega (arith, length-is, frame-length (writeFrame b (means w) .frame), few-triples b (means w) (sane .0), count-most b (means w) (sane .0), sane)
 
         -- "OutShort"
-        pub wrote-short : length out < f .frame .len → Wrote (outShort (f .frame .len)) w out
+        pub wrote-short : length out < f .frame .len → Wrote rate out w (outShort (f .frame .len)) w out
         unfolding written writeAt putInto
         wrote-short h =
             rw length-is (wrote-refused (outShort (length bytes)) (rw (valid, given, lt-ltb (length out) (length bytes) (omega (arith, length-is)))))
@@ -227,14 +212,37 @@ module _ (w : CCDataWriter) (rate : Framerate) (out : List ℕ) {v : Bool} (e : 
         wrote h = rw (valid, given, le-ltb (length out) (length bytes) (omega (arith, length-is)))
 
         -- the frame is in the output
-        pub wrote-done : f .frame .len ≤ length out → (o : List ℕ) → o ≡ emitted (f .frame) out → Wrote (accepted (f .frame .len ∷ [])) (f .writer) o
+        pub wrote-done : f .frame .len ≤ length out → Wrote rate out w (saidCounted (f .answer)) (joined w f) (emitted (f .frame) out)
         unfolding frameLength
-        wrote-done h o q =
+        wrote-done h =
             let k : length (writeFrame b (means w) .frame .triples) ≤ 31 = omega (arith, few-triples b (means w) (sane .0), count-most b (means w) (sane .0), sane) in
-            let d : take (f .frame .len) (f .frame .bytes) ≡ bytes = rw frame-is (laid-bytes (writeFrame b (means w) .frame) k) in
-            rw (wrote h, writer-is, length-is, ← at) (refl, (refl, q ∙ sym (emitted-whole (f .frame) out frame-few h) ∙ rw (d, length-is)))
+            let d : take (f .frame .len) (f .frame .bytes) ≡ bytes = rw (made .frame) (laid-bytes (writeFrame b (means w) .frame) k) in
+            let o : emitted (f .frame) out ≡ bytes ++ drop (length bytes) out = sym (emitted-whole (f .frame) out frame-few h) ∙ rw (d, length-is) in
+            rw (wrote h, made .answer, made .writer, o, length-is, ← at) (refl, (refl, refl))
 
   -- "11 comes first"
-  pub wrote-value : v ≡ false → Wrote badValue w out
+  pub wrote-value : v ≡ false → Wrote rate out w badValue w out
   unfolding written
   wrote-value f = let z : validWriter w ≡ false = sym e ∙ f in wrote-refused badValue (rw z)
+
+-- no packet has left
+pub unslid : (n : ℕ) (l : List Slot) → slid 0 n l ≡ l
+unfolding slid
+unslid n l = take-append-drop n l
+
+-- nothing is put in
+unemitted : (out : List ℕ) → emitted (record { bytes = replicate 95 0; len = 0 }) out ≡ out
+unfolding emitted
+unemitted out = rw (le-leb 0 (length out) (omega arith))
+
+-- where no frame is written the state and the output stay as they were
+pub unmade-makes : (w : CCDataWriter) (rate : Framerate) (room : ℕ) (m : Made) (a : Counted) → m ≡ unmadeOf w a → ((out : List ℕ) → length out ≡ room → Wrote rate out w (saidCounted a) w out) → Makes rate room w m
+unmade-makes w rate room m a e h =
+    let z : w .«packet_count» - 0 ≡ w .«packet_count» = omega arith in
+    rw e (
+    record {
+      few = omega arith;
+      places = λ k. absurd (omega arith);
+      wrote = λ out l. rw (z, unslid (w .«packet_count») (w .packets), unemitted out) (h out l);
+    }
+    )

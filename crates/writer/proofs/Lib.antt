@@ -6,6 +6,7 @@ pub mod Ends
 pub mod Means
 pub mod Valid
 pub mod Calls
+pub mod Moves
 pub mod Packs
 pub mod Laws
 pub mod Packed

@@ -1,6 +1,6 @@
 -- A packet that is pushed: one law for each way out, and what its slot is in the model. Assumes nothing.
 use mathlib.Core.Path.{_≡_, refl, sym, ap, _∙_}
-use mathlib.Core.Bool.{Bool, true, false, cond, not, _&&_}
+use mathlib.Core.Bool.{Bool, true, false, cond, not, _&&_, false≢true}
 use mathlib.Core.List.{List, [], _∷_, _++_, map}
 use Prim.Native.Nat.{ℕ, zero, suc, _+_, _-_, _*_, _/_, _%_, _≤_, _<_}
 use native.Mathlib.Numerals.{add-one}
@@ -18,6 +18,7 @@ use Rattle.caption.specs.Answers.{saidRefusal, saidCounted}
 use Rattle.caption.proofs.Answers.{saidCounted-injective}
 use Rattle.caption.specs.declared.Counted.{Counted}
 use Rattle.caption.specs.declared.Counted.the-variants as counted
+use Rattle.caption.specs.declared.Answer.{Answer}
 use Rattle.caption.specs.declared.Answer.the-variants as answer
 use Rattle.caption.specs.declared.Refusal.{Refusal}
 use Rattle.caption.specs.declared.Refusal.the-variants.{BadValue, Full}
@@ -29,8 +30,9 @@ use Rattle.slots.specs.Slot.{writtenLength, writtenBytes, slotPacket}
 use Rattle.slots.specs.declared.Slot.{Slot}
 use Rattle.writer.specs.Slots.{packetsOf}
 use Rattle.writer.specs.Writer.{means, validWriter, Ok}
-use Rattle.writer.specs.Calls.{Answers, slotOf, withPackets, pushedPacket}
+use Rattle.writer.specs.Calls.{Answers, slotOf, withPackets, pushedPacket, packetOutcome, Stores}
 use Rattle.writer.specs.declared.CCDataWriter.{CCDataWriter}
+use Rattle.writer.specs.declared.Placed.{Placed}
 
 -- what a length that was asked for tells
 pub counted-given : (v : Bool) (r : Counted) (n m : ℕ) → saidCounted r ≡ measured v m → r ≡ counted.Count n → (v ≡ true) × (n ≡ m)
@@ -114,3 +116,13 @@ written-bytes d p v n r out w len l =
     let k : ltb 128 (length (writtenPacket (packetOf d))) ≡ false = le-ltb 128 (length (writtenPacket (packetOf d))) (h .most) in
     let b : out ≡ writtenPacket (packetOf d) ++ drop (length (writtenPacket (packetOf d))) (replicate 128 0) = w .output ∙ rw (v, k) in
     rw (l, b)
+
+-- a packet that gets no slot
+pub unplaced-stores : (w : CCDataWriter) (d : DTVCCPacket) (r : Placed) (a : Answer) → (r .answer ≡ a) × (r .stored ≡ false)
+    → Answers (packetOutcome d w) w (record { answer = a; writer = w }) → Stores d w r
+unplaced-stores w d r a (e, f) h =
+    record {
+      room = λ t. absurd (false≢true (sym f ∙ t));
+      kept = λ _. rw e h;
+      stored = λ t. absurd (false≢true (sym f ∙ t));
+    }

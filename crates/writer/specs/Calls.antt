@@ -1,26 +1,32 @@
 -- What the calls of the multiplexer answer, and the states that they leave. Document 01, "Writing frames" and "What comes back".
 -- Assumes nothing.
 use mathlib.Core.Path.{_≡_}
-use mathlib.Core.Bool.{Bool, true, false, cond}
+use mathlib.Core.Bool.{Bool, true, false, cond, _&&_}
 use mathlib.Core.List.{List, [], _∷_, _++_}
-use Prim.Native.Nat.{ℕ, _+_}
+use Prim.Native.Nat.{ℕ, _+_, _≤_, _<_}
 use lib.Dec.{eqb}
 use lib.ListN.{length, drop, set, replicate}
-use Rattle.model.specs.Said.{Said, Outcome, accepted, says, after, checked}
+use Rattle.model.specs.Said.{Said, Outcome, accepted, says, saysWith, after, checked, mapped}
 use Rattle.model.specs.Packet.{Packet, packetLength, writtenPacket}
 use Rattle.model.specs.Frame.{frameBytes}
 use Rattle.model.specs.Rate.{Budgets, pairsAt, triplesAt}
-use Rattle.model.specs.Mux.{Written, writeFrame, writeAt}
-use Rattle.caption.specs.Answers.{saidRefusal, saidAnswer}
+use Rattle.model.specs.Mux.{Written, writeFrame, writeAt, pushPacket, pushCea608}
+use Rattle.caption.specs.Answers.{saidRefusal, saidAnswer, saidCounted}
+use Rattle.caption.specs.Pairs.{cea608Of}
 use Rattle.caption.specs.declared.Framerate.{Framerate}
 use Rattle.caption.specs.declared.Cea608.{Cea608}
 use Rattle.caption.specs.declared.Cea608.the-variants.{Field1, Field2}
+use Rattle.packet.specs.Packet.{packetOf, validDTVCC}
+use Rattle.packet.specs.declared.DTVCCPacket.{DTVCCPacket}
+use Rattle.frames.specs.Frame.{emitted}
 use Rattle.turns.specs.Queue.{pushedPair}
 use Rattle.turns.specs.declared.PairQueue.{PairQueue}
-use Rattle.writer.specs.Writer.{means, validWriter}
+use Rattle.writer.specs.Writer.{means, validWriter, afterFrame, joined}
 use Rattle.slots.specs.declared.Slot.{Slot}
 use Rattle.writer.specs.declared.CCDataWriter.{CCDataWriter}
 use Rattle.writer.specs.declared.WriterAnswer.{WriterAnswer}
+use Rattle.writer.specs.declared.Made.{Made}
+use Rattle.writer.specs.declared.Placed.{Placed}
 use Rattle.writer.specs.declared.Micros.{Micros}
 use Rattle.writer.specs.declared.Micros.the-variants.{Of, Refused}
 
@@ -115,6 +121,20 @@ abbrev pub pushedTo : Cea608 → CCDataWriter → CCDataWriter
 pushedTo (Field1 a b) w = withFields (pushedPair (w .field1) a b) (w .field2) w
 pushedTo (Field2 a b) w = withFields (w .field1) (pushedPair (w .field2) a b) w
 
+-- what pushing a pair comes to
+abbrev pub pairOutcome : Cea608 → CCDataWriter → Outcome CCDataWriter
+pairOutcome c w = checked (validWriter w) (mapped (λ _. pushedTo c w) (pushCea608 (cea608Of c) (means w)))
+
+-- what pushing a packet comes to
+abbrev pub packetOutcome : DTVCCPacket → CCDataWriter → Outcome CCDataWriter
+packetOutcome d w = checked (validWriter w && validDTVCC d) (mapped (λ _. pushedPacket (packetOf d) w) (pushPacket (packetOf d) (means w)))
+
+-- the slot that a pushed packet gets, where it is stored
+pub record Stores (d : DTVCCPacket) (w : CCDataWriter) (r : Placed) : Type 0 where
+  pub room : r .stored ≡ true → w .«packet_count» < 16
+  pub kept : r .stored ≡ false → Answers (packetOutcome d w) w (record { answer = r .answer; writer = w })
+  pub stored : r .stored ≡ true → Answers (packetOutcome d w) w (record { answer = r .answer; writer = withPackets (w .«packet_count» + 1) (set (w .packets) (w .«packet_count») (r .slot)) w })
+
 -- "Flush drops the queues and the packet being sent; the padding switches stay."
 abbrev pub flushed : CCDataWriter → CCDataWriter
 flushed w =
@@ -141,3 +161,16 @@ frameLength r w = length (frameBytes (writeFrame (budgetsAt r) (means w) .frame)
 -- a frame written to a lent output: 11, then 8, then 9
 unfoldable pub written : Framerate → List ℕ → CCDataWriter → Outcome Written
 written r out w = checked (validWriter w) (writeAt (r .numer) (r .denom) out (means w))
+
+-- what a write says, the state and the output after it
+abbrev pub Wrote : Framerate → List ℕ → CCDataWriter → Said → CCDataWriter → List ℕ → Type 0
+Wrote r out w said x o =
+    (said ≡ saysWith (λ _. frameLength r w ∷ []) (written r out w))
+    × ((x ≡ after w (mapped (λ _. afterFrame (budgetsAt r) w) (written r out w)))
+    × (o ≡ after out (mapped (λ x. x .out) (written r out w))))
+
+-- what is made of a state is what a write to so many bytes leaves
+pub record Makes (r : Framerate) (room : ℕ) (w : CCDataWriter) (m : Made) : Type 0 where
+  pub few : m .next ≤ w .«packet_count»
+  pub places : 0 < m .next → w .«packet_count» ≤ 16
+  pub wrote : (out : List ℕ) → length out ≡ room → Wrote r out w (saidCounted (m .answer)) (joined w m) (emitted (m .frame) out)

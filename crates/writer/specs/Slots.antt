@@ -24,6 +24,14 @@ unfoldable pub allWritten : List Slot → Bool
 allWritten [] = true
 allWritten (s ∷ ss) = writtenSlot s && allWritten ss
 
+-- a slot is such a form, if it is taken
+abbrev pub writtenIf : Bool → Slot → Bool
+writtenIf taken s = cond taken (writtenSlot s) true
+
+-- an even number of a packet's bytes has left, and no more than there are
+unfoldable pub sendsWhole : ℕ → ℕ → Bool
+sendsWhole len sent = leb len 128 && (eqb (sent % 2) 0 && leb sent (len + len % 2))
+
 -- a slot that can be the packet being sent, of which `sent` bytes have left; nothing is being sent where its length is 0
 unfoldable pub validSending : Slot → ℕ → Bool
 validSending s sent = (eqb (s .len) 0 || writtenSlot s) && (eqb (sent % 2) 0 && leb sent (writtenLength s))

@@ -4,11 +4,13 @@ use mathlib.Core.Bool.{Bool, cond, not, _&&_}
 use mathlib.Core.List.{List, [], _∷_, _++_}
 use Prim.Native.Nat.{ℕ, _+_, _-_, _*_, _/_, _%_, _≤_, min, max}
 use lib.Dec.{leb}
-use lib.ListN.{length, take, drop}
+use lib.ListN.{length, take, drop, replicate}
 use Rattle.model.specs.Frame as model
 use Rattle.model.specs.Frame.{flat}
 use Rattle.model.specs.Rate.{Budgets}
 use Rattle.model.specs.Mux.{Mux, mostPackets, mostQueued, writeFrame}
+use Rattle.caption.specs.declared.Counted.{Counted}
+use Rattle.caption.specs.declared.Counted.the-variants.{Count}
 use Rattle.turns.specs.Queue.{queueOf, slid, downTo}
 use Rattle.frames.specs.Frame.{headed, appended, fillers}
 use Rattle.turns.proofs.Queues.{Sized}
@@ -20,7 +22,7 @@ use Rattle.writer.specs.Sending.{begun, sentFrom, restedSlot, restedSent
 use Rattle.slots.specs.declared.Slot.{Slot}
 use Rattle.writer.specs.declared.Sending.{Sending}
 use Rattle.writer.specs.declared.CCDataWriter.{CCDataWriter}
-use Rattle.writer.specs.declared.Built.{Built}
+use Rattle.writer.specs.declared.Made.{Made}
 
 -- the multiplexer that a state is
 unfoldable pub means : CCDataWriter → Mux
@@ -50,19 +52,47 @@ pub record Ok (w : CCDataWriter) : Type 0 where
   pub first : Sized (w .field1)
   pub second : Sized (w .field2)
 
--- the state once the turns and the packet triples of a frame have left
-abbrev pub joined : CCDataWriter → Turns → Sending → CCDataWriter
-joined w t s =
+-- the frame and what is left, once the turns and the packet triples of it have left
+abbrev pub madeOf : Turns → Sending → Made
+madeOf t s =
     record {
-      «output_cea608_padding» = w .«output_cea608_padding»;
-      «output_padding» = w .«output_padding»;
-      «packet_count» = w .«packet_count» - s .next;
-      packets = slid (s .next) (w .«packet_count» - s .next) (w .packets);
-      sending = restedSlot (s .slot) (s .sent);
-      sent = restedSent (s .slot) (s .sent);
+      answer = Count (s .frame .len);
+      frame = s .frame;
       field1 = t .field1;
       field2 = t .field2;
       «field2_next» = t .«field2_next»;
+      slot = restedSlot (s .slot) (s .sent);
+      sent = restedSent (s .slot) (s .sent);
+      next = s .next;
+    }
+
+-- where no frame is written all is left
+abbrev pub unmadeOf : CCDataWriter → Counted → Made
+unmadeOf w answer =
+    record {
+      answer = answer;
+      frame = record { bytes = replicate 95 0; len = 0 };
+      field1 = w .field1;
+      field2 = w .field2;
+      «field2_next» = w .«field2_next»;
+      slot = w .sending;
+      sent = w .sent;
+      next = 0;
+    }
+
+-- the state with what a frame leaves of it: the packets begun have left the queue
+abbrev pub joined : CCDataWriter → Made → CCDataWriter
+joined w m =
+    record {
+      «output_cea608_padding» = w .«output_cea608_padding»;
+      «output_padding» = w .«output_padding»;
+      «packet_count» = w .«packet_count» - m .next;
+      packets = slid (m .next) (w .«packet_count» - m .next) (w .packets);
+      sending = m .slot;
+      sent = m .sent;
+      field1 = m .field1;
+      field2 = m .field2;
+      «field2_next» = m .«field2_next»;
     }
 
 -- what the model leaves, in the arrays: so many packets and pairs are left, and so many triples of the last packet begun
@@ -91,9 +121,12 @@ afterFrame b w = leftBy w (writeFrame b (means w) .next)
 abbrev pub laid : model.Frame → Frame
 laid f = appended (headed (f .count)) (flat (f .triples))
 
--- the frame, and the state after it
-unfoldable pub built : Budgets → CCDataWriter → Built
-built b w = record { frame = laid (writeFrame b (means w) .frame); writer = afterFrame b w }
+-- a frame that is made is the model's, and leaves what the model leaves
+pub record Builds (b : Budgets) (w : CCDataWriter) (m : Made) : Type 0 where
+  pub answer : m .answer ≡ Count (m .frame .len)
+  pub frame : m .frame ≡ laid (writeFrame b (means w) .frame)
+  pub writer : joined w m ≡ afterFrame b w
+  pub few : m .next ≤ w .«packet_count»
 
 -- "the lesser of pairs and max(queue 1, 2·queue 2)"
 abbrev pub turnsOf : Bool → ℕ → ℕ → ℕ → ℕ

@@ -15,6 +15,7 @@ ghost use mathlib.Core.Path.{_≡_};
 ghost use mathlib.Core.Bool.{cond, _&&_};
 ghost use mathlib.Core.List.{[], _∷_, _++_};
 ghost use Prim.Native.Nat.{ℕ, _+_, _-_, _*_, _/_, _%_, _≤_, _<_, min, max};
+ghost use lib.Dec.{ltb};
 ghost use lib.ListN.{length, getD, take, drop};
 ghost use lib.Seq.{sets};
 ghost use Rattle.model.specs.Said.{gave, saysWith, measured, checked, mapped, after};
@@ -24,16 +25,19 @@ ghost use Rattle.packet.specs.Packet.{packetOf, validDTVCC};
 ghost use Rattle.model.specs.Duration.{pairsDuration, bytesDuration, lengthsOf, field1Duration, field2Duration, packetDuration};
 ghost use Rattle.caption.specs.Answers.{saidAnswer, saidCounted, saidTruth};
 ghost use Rattle.caption.specs.Pairs.{cea608Of};
-ghost use Rattle.writer.specs.Calls.{Answers, saidMicros, fresh, withPadding, flushed, pushedPacket, pushedTo, budgetsAt, written, frameLength};
+ghost use Rattle.writer.specs.Calls.{Answers, saidMicros, fresh, withPadding, withFields, flushed, pushedPacket, pushedTo, pairOutcome, Stores, budgetsAt, written, frameLength, Makes};
 ghost use mathlib.Core.Bool.{true, false};
 ghost use Rattle.turns.specs.Queue.{slid};
 ghost use Rattle.slots.specs.Slot.{writtenBytes};
-ghost use Rattle.writer.specs.Slots.{allWritten, validSending, packetsOf, leftFrom, Queued, Held};
-ghost use Rattle.writer.specs.Writer.{means, Ok, validWriter, afterFrame, joined, built, turnsOf, padded, filled, Room};
+ghost use Rattle.writer.specs.Slots.{allWritten, writtenIf, sendsWhole, packetsOf, leftFrom, Queued, Held};
+ghost use Rattle.writer.specs.Writer.{means, Ok, validWriter, afterFrame, madeOf, unmadeOf, Builds, turnsOf, padded, filled, Room};
 ghost use Rattle.writer.specs.Sending.{sentFrom, finished, restedSlot, restedSent};
 
 // The packets that wait, beside the one being sent.
 const MOST_PACKETS: usize = 16;
+
+// The bytes of the longest packet.
+const MOST_PACKET: usize = 128;
 
 // The pairs that wait, of each field.
 const MOST_QUEUED: usize = 64;
@@ -70,10 +74,31 @@ pub enum Micros {
     Refused(Refusal),
 }
 
-// A frame, and the state after it.
-pub struct Built {
+// What writing a frame answers, the frame, and what it leaves of the state: each field's queue, whose turn is next, the packet being sent and
+// how many of its bytes have left; `next` packets of the queue were begun.
+pub struct Made {
+    pub answer: Counted,
     pub frame: Frame,
-    pub writer: CCDataWriter,
+    pub field1: PairQueue,
+    pub field2: PairQueue,
+    pub field2_next: bool,
+    pub slot: Slot,
+    pub sent: usize,
+    pub next: usize,
+}
+
+// What pushing a pair answers, and the queues after it.
+pub struct Pushed {
+    pub answer: Answer,
+    pub field1: PairQueue,
+    pub field2: PairQueue,
+}
+
+// What pushing a packet answers, and whether it is stored, in which slot.
+pub struct Placed {
+    pub answer: Answer,
+    pub stored: bool,
+    pub slot: Slot,
 }
 
 // Where sending stands: the packet being sent and how many of its bytes have left, how many packets of the queue were begun, and the frame.
@@ -238,21 +263,21 @@ fn fill(packets: [Slot; 16], queued: usize, start: Sending, count: usize, paddin
 }
 
 impl CCDataWriter {
-    // The frame at budgets of `pairs` and `triples`, and the state after it.
-    fn build(self, pairs: usize, triples: usize) -> Built
+    // The frame at budgets of `pairs` and `triples`, and what it leaves.
+    fn build(self, pairs: usize, triples: usize) -> Made
         requires { ⌜ Ok self ⌝ }
         requires { ⌜ (pairs ≤ triples) × (triples ≤ 31) ⌝ }
-        ensures { λ r. ⌜ r ≡ built (record { pairs = pairs; triples = triples }) self ⌝ }
+        ensures { λ r. ⌜ Builds (record { pairs = pairs; triples = triples }) self r ⌝ }
     {
         let pad = self.output_cea608_padding;
         let padding = self.output_padding;
         let queued = self.packet_count;
-        let packets = self.packets;
+        let slots = self.packets;
         let slot = self.sending;
         let field1 = self.field1;
         let field2 = self.field2;
         let turns = turns_of(pad, pairs, field1.count, field2.count);
-        let count = count_of(padding, triples, turns, packets, queued, slot, self.sent);
+        let count = count_of(padding, triples, turns, slots, queued, slot, self.sent);
         let empty = Frame::start(count);
         let start = Turns {
             field1,
@@ -262,6 +287,7 @@ impl CCDataWriter {
         };
         let t = start.take(pad, turns);
         let frame = t.frame;
+        let packets = self.packets;
         let s = fill(
             packets,
             queued,
@@ -274,71 +300,152 @@ impl CCDataWriter {
             count,
             padding,
         );
-        let frame = s.frame;
-        let writer = self.join(t, s);
-        Built { frame, writer }
+        made_of(t, s)
     }
 
-    // The state once the turns and the packet triples of a frame have left.
-    fn join(self, t: Turns, s: Sending) -> CCDataWriter
-        requires { ⌜ (s .next ≤ self .«packet_count») × (self .«packet_count» ≤ 16) ⌝ }
-        requires { ⌜ s .slot .len ≤ 128 ⌝ }
-        ensures { λ r. ⌜ r ≡ joined self t s ⌝ }
+    // What is made where no frame is written.
+    fn unmade(self, answer: Counted) -> Made
+        ensures { λ r. ⌜ r ≡ unmadeOf self answer ⌝ }
     {
-        let slots = self.packets;
-        let packets = advance(slots, self.packet_count, s.next);
-        let field1 = t.field1;
-        let field2 = t.field2;
-        let mut sending = s.slot;
-        let mut sent = s.sent;
-        if sending.len + sending.len % 2 <= sent {
-            sending.len = 0;
-            sent = 0;
-        }
-        CCDataWriter {
-            output_cea608_padding: self.output_cea608_padding,
-            output_padding: self.output_padding,
-            packet_count: self.packet_count - s.next,
-            packets,
-            sending,
-            sent,
+        let slot = self.sending;
+        let field1 = self.field1;
+        let field2 = self.field2;
+        Made {
+            answer,
+            frame: Frame {
+                bytes: [0; 95],
+                len: 0,
+            },
             field1,
             field2,
-            field2_next: t.field2_next,
+            field2_next: self.field2_next,
+            slot,
+            sent: self.sent,
+            next: 0,
         }
+    }
+
+    // The frame at a rate, for an output of `room` bytes, and what it leaves.
+    fn make(self, valid: bool, rate: Framerate, room: usize) -> Made
+        requires { ⌜ valid ≡ validWriter self ⌝ }
+        ensures { λ r. ⌜ Makes rate room self r ⌝ }
+    {
+        if valid {
+            let budgets = rate.budgets();
+            let Budgets::Of { pairs, triples } = budgets else {
+                return self.unmade(Counted::Refused(Refusal::BadRate));
+            };
+            let made = self.build(pairs, triples);
+            let frame = made.frame;
+            let needed = frame.len;
+            if room < needed {
+                return self.unmade(Counted::Refused(Refusal::OutShort { needed }));
+            }
+            return made;
+        }
+        self.unmade(Counted::Refused(Refusal::BadValue))
     }
 }
 
-// Whether the slots of the queue are written packets.
-fn all_written(packets: [Slot; 16], count: usize) -> bool
-    requires { ⌜ count ≤ 16 ⌝ }
-    ensures { λ r. ⌜ r ≡ allWritten (take count packets) ⌝ }
+// The frame after its turns and its packet triples, and what they leave: a packet that has left whole is no longer being sent.
+fn made_of(t: Turns, s: Sending) -> Made
+    requires { ⌜ s .slot .len ≤ 128 ⌝ }
+    ensures { λ r. ⌜ r ≡ madeOf t s ⌝ }
 {
-    let mut i: usize = 0;
-    while i < count {
-        let slot = packets[i];
-        if slot.is_written() {
-            i += 1;
-        } else {
-            return false;
-        }
+    let frame = s.frame;
+    let field1 = t.field1;
+    let field2 = t.field2;
+    let mut slot = s.slot;
+    let mut sent = s.sent;
+    if slot.len + slot.len % 2 <= sent {
+        slot.len = 0;
+        sent = 0;
+    }
+    Made {
+        answer: Counted::Count(frame.len),
+        frame,
+        field1,
+        field2,
+        field2_next: t.field2_next,
+        slot,
+        sent,
+        next: s.next,
+    }
+}
+
+// Where no packet is stored.
+fn unplaced(answer: Answer) -> Placed
+    ensures { λ r. ⌜ (r .answer ≡ answer) × (r .stored ≡ false) ⌝ }
+{
+    Placed {
+        answer,
+        stored: false,
+        slot: Slot {
+            len: 0,
+            bytes: [0; 128],
+        },
+    }
+}
+
+// Whether `sent` bytes can have left of a packet of `len`: an even number, and no more than there are.
+fn sends_whole(len: usize, sent: usize) -> bool
+    ensures { λ r. ⌜ r ≡ sendsWhole len sent ⌝ }
+{
+    if MOST_PACKET < len {
+        return false;
+    }
+    if sent % 2 == 0 {
+        return sent <= len + len % 2;
+    }
+    false
+}
+
+// Whether a slot is a written packet, if it is taken.
+fn written_if(taken: bool, slot: Slot) -> bool
+    ensures { λ r. ⌜ r ≡ writtenIf taken slot ⌝ }
+{
+    if taken {
+        return slot.is_written();
     }
     true
 }
 
-// Whether a slot can be the packet being sent, of which `sent` bytes have left.
-fn is_sending(slot: Slot, sent: usize) -> bool
-    ensures { λ r. ⌜ r ≡ validSending slot sent ⌝ }
+// Whether a slot, if it is taken, and the slots of the queue are written packets. Four at a time: a slot at a constant place is read where it
+// stands, and the queue is copied only where it is longer.
+fn row_written(taken: bool, slot: Slot, packets: [Slot; 16], count: usize) -> bool
+    requires { ⌜ count ≤ 16 ⌝ }
+    ensures { λ r. ⌜ r ≡ (writtenIf taken slot && allWritten (take count packets)) ⌝ }
 {
-    if slot.len == 0 {
-        return sent == 0;
-    }
-    if slot.is_written() {
-        if sent % 2 == 0 {
-            return sent <= slot.len + slot.len % 2;
+    if 4 < count {
+        let rest = advance(packets, count, 4);
+        if !row_written(taken, slot, rest, count - 4) {
+            return false;
         }
     }
-    false
+    let a = packets[0];
+    let b = packets[1];
+    let c = packets[2];
+    let d = packets[3];
+    four_written(taken, slot, count, a, b, c, d)
+}
+
+// The same of a slot and the first four of the queue.
+fn four_written(taken: bool, slot: Slot, count: usize, a: Slot, b: Slot, c: Slot, d: Slot) -> bool
+    ensures { λ r. ⌜ r ≡ (writtenIf taken slot && (writtenIf (ltb 0 count) a && (writtenIf (ltb 1 count) b && (writtenIf (ltb 2 count) c && writtenIf (ltb 3 count) d)))) ⌝ }
+{
+    if !written_if(taken, slot) {
+        return false;
+    }
+    if !written_if(0 < count, a) {
+        return false;
+    }
+    if !written_if(1 < count, b) {
+        return false;
+    }
+    if !written_if(2 < count, c) {
+        return false;
+    }
+    written_if(3 < count, d)
 }
 
 impl CCDataWriter {
@@ -358,9 +465,9 @@ impl CCDataWriter {
         if MOST_QUEUED < field2.count {
             return false;
         }
-        if is_sending(slot, self.sent) {
+        if sends_whole(slot.len, self.sent) {
             let packets = self.packets;
-            return all_written(packets, self.packet_count);
+            return row_written(0 < slot.len, slot, packets, self.packet_count);
         }
         false
     }
@@ -446,45 +553,128 @@ impl CCDataWriter {
         Truth::Refused(Refusal::BadValue)
     }
 
+    // The slot that a packet is written into, where it is stored.
+    fn place(self, valid: bool, packet: DTVCCPacket) -> Placed
+        requires { ⌜ valid ≡ validWriter self ⌝ }
+        ensures { λ r. ⌜ Stores packet self r ⌝ }
+    {
+        if valid {
+            let length = packet.len();
+            let Counted::Count(len) = length else {
+                return unplaced(Answer::Refused(Refusal::BadValue));
+            };
+            if len == 0 {
+                return unplaced(Answer::Accepted);
+            }
+            if self.packet_count == MOST_PACKETS {
+                return unplaced(Answer::Refused(Refusal::Full));
+            }
+            let mut bytes = [0u8; 128];
+            packet.write(&mut bytes);
+            return Placed {
+                answer: Answer::Accepted,
+                stored: true,
+                slot: Slot { len, bytes },
+            };
+        }
+        unplaced(Answer::Refused(Refusal::BadValue))
+    }
+
     // Pushes a packet: it is written into the first free slot. An empty one is accepted, even when full, and not stored.
     pub fn push_packet(self, packet: DTVCCPacket) -> WriterAnswer
         ensures { λ r. ⌜ Answers (checked (validWriter self && validDTVCC packet) (mapped (λ _. pushedPacket (packetOf packet) self) (pushPacket (packetOf packet) (means self)))) self r ⌝ }
     {
-        if self.is_valid() {
-            let length = packet.len();
-            let Counted::Count(len) = length else {
-                return WriterAnswer {
-                    answer: Answer::Refused(Refusal::BadValue),
-                    writer: self,
-                };
-            };
-            if len == 0 {
-                return WriterAnswer {
-                    answer: Answer::Accepted,
-                    writer: self,
-                };
-            }
-            let count = self.packet_count;
-            if count == MOST_PACKETS {
-                return WriterAnswer {
-                    answer: Answer::Refused(Refusal::Full),
-                    writer: self,
-                };
-            }
-            let mut bytes = [0u8; 128];
-            packet.write(&mut bytes);
-            let slot = Slot { len, bytes };
-            let mut writer = self;
-            writer.packets[count] = slot;
-            writer.packet_count = count + 1;
-            return WriterAnswer {
-                answer: Answer::Accepted,
-                writer,
-            };
+        let mut packets = self.packets;
+        let mut count = self.packet_count;
+        let valid = self.is_valid();
+        let placed = self.place(valid, packet);
+        let answer = placed.answer;
+        let slot = placed.slot;
+        if placed.stored {
+            packets[count] = slot;
+            count += 1;
         }
+        let sending = self.sending;
+        let field1 = self.field1;
+        let field2 = self.field2;
         WriterAnswer {
+            answer,
+            writer: CCDataWriter {
+                output_cea608_padding: self.output_cea608_padding,
+                output_padding: self.output_padding,
+                packet_count: count,
+                packets,
+                sending,
+                sent: self.sent,
+                field1,
+                field2,
+                field2_next: self.field2_next,
+            },
+        }
+    }
+
+    // The queues after a pair, which goes to its field's.
+    fn queue_pair(self, valid: bool, cea608: Cea608) -> Pushed
+        requires { ⌜ valid ≡ validWriter self ⌝ }
+        ensures { λ r. ⌜ Answers (pairOutcome cea608 self) self (record { answer = r .answer; writer = withFields (r .field1) (r .field2) self }) ⌝ }
+    {
+        let field1 = self.field1;
+        let field2 = self.field2;
+        if valid {
+            match cea608 {
+                Cea608::Field1(a, b) => {
+                    let pushed = field1.push(a, b);
+                    let answer = pushed.answer;
+                    let queue = pushed.queue;
+                    return Pushed {
+                        answer,
+                        field1: queue,
+                        field2,
+                    };
+                }
+                Cea608::Field2(a, b) => {
+                    let pushed = field2.push(a, b);
+                    let answer = pushed.answer;
+                    let queue = pushed.queue;
+                    return Pushed {
+                        answer,
+                        field1,
+                        field2: queue,
+                    };
+                }
+            }
+        }
+        Pushed {
             answer: Answer::Refused(Refusal::BadValue),
-            writer: self,
+            field1,
+            field2,
+        }
+    }
+
+    // The state after a pair.
+    fn push_pair(self, valid: bool, cea608: Cea608) -> WriterAnswer
+        requires { ⌜ valid ≡ validWriter self ⌝ }
+        ensures { λ r. ⌜ Answers (pairOutcome cea608 self) self r ⌝ }
+    {
+        let pushed = self.queue_pair(valid, cea608);
+        let answer = pushed.answer;
+        let field1 = pushed.field1;
+        let field2 = pushed.field2;
+        let packets = self.packets;
+        let sending = self.sending;
+        WriterAnswer {
+            answer,
+            writer: CCDataWriter {
+                output_cea608_padding: self.output_cea608_padding,
+                output_padding: self.output_padding,
+                packet_count: self.packet_count,
+                packets,
+                sending,
+                sent: self.sent,
+                field1,
+                field2,
+                field2_next: self.field2_next,
+            },
         }
     }
 
@@ -492,32 +682,8 @@ impl CCDataWriter {
     pub fn push_cea608(self, cea608: Cea608) -> WriterAnswer
         ensures { λ r. ⌜ Answers (checked (validWriter self) (mapped (λ _. pushedTo cea608 self) (pushCea608 (cea608Of cea608) (means self)))) self r ⌝ }
     {
-        if self.is_valid() {
-            match cea608 {
-                Cea608::Field1(a, b) => {
-                    let queue = self.field1;
-                    let pushed = queue.push(a, b);
-                    let answer = pushed.answer;
-                    let field1 = pushed.queue;
-                    let mut writer = self;
-                    writer.field1 = field1;
-                    return WriterAnswer { answer, writer };
-                }
-                Cea608::Field2(a, b) => {
-                    let queue = self.field2;
-                    let pushed = queue.push(a, b);
-                    let answer = pushed.answer;
-                    let field2 = pushed.queue;
-                    let mut writer = self;
-                    writer.field2 = field2;
-                    return WriterAnswer { answer, writer };
-                }
-            }
-        }
-        WriterAnswer {
-            answer: Answer::Refused(Refusal::BadValue),
-            writer: self,
-        }
+        let valid = self.is_valid();
+        self.push_pair(valid, cea608)
     }
 
     // Drops what is queued, and the packet being sent.
@@ -589,33 +755,35 @@ impl CCDataWriter {
         ensures { λ r. ⌜ r .writer ≡ after self (mapped (λ _. afterFrame (budgetsAt rate) self) (written rate (now (out .entry)) self)) ⌝ }
         ensures { λ r. ⌜ now (out .exit) ≡ after (now (out .entry)) (mapped (λ x. x .out) (written rate (now (out .entry)) self)) ⌝ }
     {
-        if self.is_valid() {
-            let budgets = rate.budgets();
-            let Budgets::Of { pairs, triples } = budgets else {
-                return WriterCount {
-                    answer: Counted::Refused(Refusal::BadRate),
-                    writer: self,
-                };
-            };
-            let built = self.build(pairs, triples);
-            let frame = built.frame;
-            let needed = frame.len;
-            if out.len() < needed {
-                return WriterCount {
-                    answer: Counted::Refused(Refusal::OutShort { needed }),
-                    writer: self,
-                };
-            }
-            frame.emit(out);
-            let writer = built.writer;
-            return WriterCount {
-                answer: Counted::Count(needed),
-                writer,
-            };
+        let mut packets = self.packets;
+        let valid = self.is_valid();
+        let made = self.make(valid, rate, out.len());
+        let frame = made.frame;
+        frame.emit(out);
+        let next = made.next;
+        let count = self.packet_count - next;
+        let mut i: usize = if next == 0 { count } else { 0 };
+        while i < count {
+            packets[i] = packets[i + next];
+            i += 1;
         }
+        let answer = made.answer;
+        let sending = made.slot;
+        let field1 = made.field1;
+        let field2 = made.field2;
         WriterCount {
-            answer: Counted::Refused(Refusal::BadValue),
-            writer: self,
+            answer,
+            writer: CCDataWriter {
+                output_cea608_padding: self.output_cea608_padding,
+                output_padding: self.output_padding,
+                packet_count: count,
+                packets,
+                sending,
+                sent: made.sent,
+                field1,
+                field2,
+                field2_next: made.field2_next,
+            },
         }
     }
 }

@@ -43,10 +43,10 @@ blocks-whole-requires : tie.Need-blocks-whole-requires
 blocks-whole-requires c κs = search needs
 
 returns-5 : tie.Need-returns-5
-returns-5 c = let s = c .before .before .before .before .before .before .before in
-    let w = c .before .before .before .wide .ensures in
-    by-blocks (s .args .self) (c .before .before .before .before .before .if1 .left) (c .before .before .before .before .if2 .left) (rw (w .0) at (c .before .before .if3 .left)) (omega (arith, w .0, w .1)) (search (needs, s .good))
-    (⊎-elim (λ v. zero-fill (s .args .self) (v .1 .left)) (λ v. even-fill (s .args .self) (v .left)) (c .before .if4 .came)) (c .blocks-whole .ensures)
+returns-5 c = let s = c .before .before .before .before .before .before .before .before in
+    let w = c .before .before .before .before .wide .ensures in
+    by-blocks (s .args .self) (c .before .before .before .before .before .before .if1 .left) (c .before .before .before .before .before .if2 .left) (rw (w .0) at (c .before .before .before .if3 .left)) (omega (arith, w .0, w .1)) (search (needs, s .good))
+    (⊎-elim (λ v. zero-fill (s .args .self) (v .1 .left)) (λ v. even-fill (s .args .self) (v .left)) (c .before .before .if4 .came)) (c .blocks-whole .ensures)
 
 pub is-written-spec : {M : Type 1} → statement M
 is-written-spec =

@@ -1,81 +1,93 @@
--- `writer::CCDataWriter::write` meets its contract: one law of `Calls` for each way out. Assumes nothing.
-use mathlib.Core.Path.{_≡_, refl, sym, _∙_}
+-- `writer::CCDataWriter::write` meets its contract: what is made of the state is put together, and the slots left move down. Assumes nothing.
+use mathlib.Core.Logic.{⊎-elim}
+use mathlib.Core.Path.{_≡_, refl, _∙_}
+use Prim.Native.Nat.{_-_, _<_}
 use native.Mathlib.Omega.{arith}
 use lib.ListN.{length}
-use Rattle.writer.specs.Writer.{Ok}
-use Rattle.writer.proofs.Sends.{length-mapped}
-use Rattle.writer.proofs.Valid.{Shaped, valid-ok}
-use Rattle.writer.proofs.Calls.{wrote-value, wrote-rate, wrote-short, wrote-done, sane}
 use borrow.Author.Needs.{needs}
+use Rattle.writer.proofs.Sends.{length-mapped}
+use Rattle.writer.proofs.Moves.{Moving, moving-none, moving-first, moving-more, moving-done}
 use Rattle.writer.proofs.CCDataWriter.write.Statement.{statement}
 use Rattle.writer.proofs.CCDataWriter.write.Tie as tie
 use Rattle.writer.proofs.CCDataWriter.write.Reads as reads
 use Rattle.writer.proofs.CCDataWriter.write.Lts as lts
-use Rattle.caption.proofs.Framerate.budgets.Reads as budgets-reads
 use Rattle.frames.proofs.Frame.emit.Reads as emit-reads
-use Rattle.writer.proofs.CCDataWriter.build.Reads as build-reads
 use Rattle.writer.proofs.CCDataWriter.is_valid.Reads as is-valid-reads
+use Rattle.writer.proofs.CCDataWriter.make.Reads as make-reads
 
--- the lengths of the state's arrays
-shaped : (c : lts.Start (is-valid-reads.Asked, is-valid-reads.Learnt, budgets-reads.Asked, budgets-reads.Learnt, build-reads.Asked, build-reads.Learnt, emit-reads.Asked, emit-reads.Learnt) reads.Pre reads.Post) → Shaped (c .args .self)
-shaped c = record { packets = search (needs, length-mapped, c .good); first = search needs; second = search needs }
+abbrev Inv-loop : tie.InvT-loop
+Inv-loop self out packets₀ valid made next count i₀ packets i = Moving packets₀ packets count next i
 
--- a state that passes the test is within its limits
-ok : (c : lts.Then1 (is-valid-reads.Asked, is-valid-reads.Learnt, budgets-reads.Asked, budgets-reads.Learnt, build-reads.Asked, build-reads.Learnt, emit-reads.Asked, emit-reads.Learnt) reads.Pre reads.Post) → Ok (c .before .before .before .args .self)
-ok c = valid-ok (c .before .before .before .args .self) (shaped (c .before .before .before)) (sym (c .before .is-valid .ensures) ∙ c .if1 .taken)
+abbrev μ-loop : tie.MeasureT-loop
+μ-loop self out packets₀ valid made next count i₀ packets i = count - i
 
-is-valid-requires : tie.Need-is-valid-requires
+is-valid-requires : tie.Need-is-valid-requires Inv-loop μ-loop
 is-valid-requires c κs = search needs
 
-budgets-requires : tie.Need-budgets-requires
-budgets-requires c κs = search needs
+make-requires : tie.Need-make-requires Inv-loop μ-loop
+make-requires c κs = c .is-valid .ensures
 
-enum-known-budgets : tie.Need-enum-known-budgets
-enum-known-budgets c = search needs
-
-enum-told : tie.Need-enum-told
-enum-told c = search needs
-
-returns : tie.Need-returns
-returns c = let s = c .before .before .before .before .before .before in
-    wrote-rate (s .args .self) (s .args .rate) (s .args .out .now) (c .before .before .before .before .is-valid .ensures) (c .before .before .before .if1 .taken) _ (c .before .before .budgets .ensures) (c .enum-told .given .1)
-
-build-requires : tie.Need-build-requires
-build-requires c κs = let s = c .before .before .before .before .before .before .before in (
-  ok (c .before .before .before .before),
-  sane (s .args .self) (s .args .rate) (s .args .out .now) (c .before .before .before .before .before .is-valid .ensures) (c .before .before .before .before .if1 .taken) _ _ _ (c .before .before .before .budgets .ensures) (c .before .budgets2 .given .1),
-)
-
-returns-2 : tie.Need-returns-2
-returns-2 c = let s = c .before .before .before .before .before .before .before .before .before .before in
-    wrote-short (s .args .self) (s .args .rate) (s .args .out .now) (c .before .before .before .before .before .before .before .before .is-valid .ensures) (c .before .before .before .before .before .before .before .if1 .taken) _ _ _ (c .before .before .before .before .before .before .budgets .ensures) (c .before .before .before .before .budgets2 .given .1) _ (c .before .before .build .ensures) (c .if2 .taken)
-
-emit-requires : tie.Need-emit-requires
+emit-requires : tie.Need-emit-requires Inv-loop μ-loop
 emit-requires c κs = search needs
 
-same-length : tie.Need-same-length
+sub-count : tie.Need-sub-count Inv-loop μ-loop
+sub-count c = c .before .before .before .before .before .before .make .ensures .few
+
+loop-holds : tie.Need-loop-holds Inv-loop μ-loop
+loop-holds c = let m = c .before .before .before .before .before .before .before .make .ensures in
+    let few = m .few in
+    ⊎-elim (λ v. moving-none _ _ _ _ (v .0 .taken) (v .1)) (λ v. let k : 0 < c .before .before .before .before .before .before .before .make .result .next = omega (arith, v .0 .left) in moving-first _ _ _ _ (omega (arith, m .places k)) (v .1)) (c .if1 .came)
+
+add-packets : tie.Need-add-packets Inv-loop μ-loop
+add-packets c = omega (arith, c .before .before .loop .inv .room (c .before .loop-test .taken))
+
+mul-packets : tie.Need-mul-packets Inv-loop μ-loop
+mul-packets c = omega (arith, c .before .before .loop .inv .room (c .before .loop-test .taken))
+
+array-copy-out-packets : tie.Need-array-copy-out-packets Inv-loop μ-loop
+array-copy-out-packets c = omega (arith, c .before .before .loop .inv .room (c .before .loop-test .taken))
+
+mul-packets-2 : tie.Need-mul-packets-2 Inv-loop μ-loop
+mul-packets-2 c = omega (arith, c .before .before .before .loop .inv .room (c .before .before .loop-test .taken))
+
+array-set-from-packets : tie.Need-array-set-from-packets Inv-loop μ-loop
+array-set-from-packets c = omega (arith, c .before .before .before .loop .inv .room (c .before .before .loop-test .taken))
+
+add-i : tie.Need-add-i Inv-loop μ-loop
+add-i c = omega (arith, c .before .before .before .loop .inv .room (c .before .before .loop-test .taken))
+
+loop-less : tie.Need-loop-less Inv-loop μ-loop
+loop-less c = omega arith
+
+loop-again : tie.Need-loop-again Inv-loop μ-loop
+loop-again c = let s = c .before .before .before .before .before .before .before .before .before .before .before .before .before .before .before in
+    let n : length (s .args .self .packets) ≡ 16 = search (needs, length-mapped, s .good) in
+    moving-more _ _ _ _ _ n (c .before .before .loop-test .taken) (c .before .before .before .loop .inv)
+
+same-length : tie.Need-same-length Inv-loop μ-loop
 same-length c = search needs
 
-returns-3 : tie.Need-returns-3
-returns-3 c = let s = c .before .before .before .before .before .before .before .before .before .before .before .before .before .before .before in
-    wrote-done (s .args .self) (s .args .rate) (s .args .out .now) (c .before .before .before .before .before .before .before .before .before .before .before .before .before .is-valid .ensures) (c .before .before .before .before .before .before .before .before .before .before .before .before .if1 .taken) _ _ _ (c .before .before .before .before .before .before .before .before .before .before .before .budgets .ensures) (c .before .before .before .before .before .before .before .before .before .budgets2 .given .1) _ (c .before .before .before .before .before .before .before .build .ensures) (c .before .before .before .before .before .if2 .left) _ (c .before .before .before .emit .ensures)
-
-returns-4 : tie.Need-returns-4
-returns-4 c = let s = c .before .before .before in
-    wrote-value (s .args .self) (s .args .rate) (s .args .out .now) (c .before .is-valid .ensures) (c .if1 .left)
+returns : tie.Need-returns Inv-loop μ-loop
+returns c = rw (moving-done _ _ _ _ _ (c .before .before .before .loop-test .left) (c .before .before .before .before .loop .inv), c .before .before .before .before .before .before .before .before .before .emit .ensures) (c .before .before .before .before .before .before .before .before .before .before .before .before .make .ensures .wrote _ refl)
 
 pub write-spec : {M : Type 1} → statement M
 write-spec =
     tie.close
     (tie.spec
+    Inv-loop
+    μ-loop
     is-valid-requires
-    budgets-requires
-    enum-known-budgets
-    enum-told
-    returns
-    build-requires
-    returns-2
+    make-requires
     emit-requires
+    sub-count
+    loop-holds
+    add-packets
+    mul-packets
+    array-copy-out-packets
+    mul-packets-2
+    array-set-from-packets
+    add-i
+    loop-less
+    loop-again
     same-length
-    returns-3
-    returns-4)
+    returns)

@@ -1,0 +1,101 @@
+-- `writer::row_written` meets its contract: four slots at a time, and the slots left fall. Assumes nothing.
+use mathlib.Core.Logic.{⊎-elim}
+use mathlib.Core.Path.{_≡_, refl, _∙_}
+use native.Mathlib.Omega.{arith}
+use lib.ListN.{length}
+use borrow.Author.Tests.{not-true}
+use borrow.Author.Needs.{needs}
+use Rattle.writer.proofs.Sends.{length-mapped}
+use Rattle.writer.specs.Slots.{writtenIf}
+use Rattle.writer.proofs.Valid.{test-passes, row-short, row-fails, row-rest}
+use Prim.Native.Nat.{ℕ, _<_}
+use borrow.Fn.Kinds.{In}
+use borrow.Fn.PlainCycle.{Measures, is, falls, and}
+use Rattle.writer.proofs.row_written.Reads as row-written
+use Rattle.writer.proofs.row_written.Kinds as row-written-kinds
+use Rattle.writer.proofs.+row_written.Lts-row_written as row-written-lts
+use Rattle.writer.proofs.advance.Reads as advance-reads
+use Rattle.writer.proofs.four_written.Reads as four-written-reads
+use Rattle.writer.proofs.+row_written.{statement}
+use Rattle.writer.proofs.+row_written.Tie.{close}
+
+abbrev μ-row-written : Measures 0 row-written-kinds.ps ℕ
+μ-row-written κs a = a .1 .1 .1 .0
+
+abbrev row-written-at : ℕ → In 0 row-written-kinds.ps
+row-written-at t =
+    and 0 row-written-kinds.ps (is 0 row-written-kinds.ps μ-row-written t) row-written.Pre
+
+abbrev row-written-below : ℕ → In 0 row-written-kinds.ps
+row-written-below t =
+    and 0 row-written-kinds.ps (falls 0 row-written-kinds.ps _<_ μ-row-written t) row-written.Pre
+
+-- what its calls ask and tell
+abbrev row-written-claims : ℕ → row-written-lts.Claims
+row-written-claims t = (
+  advance-reads.Asked,
+  advance-reads.Learnt,
+  row-written-below t,
+  row-written.Post,
+  four-written-reads.Asked,
+  four-written-reads.Learnt,
+)
+
+-- the places of the queue
+places : (t : ℕ) (c : row-written-lts.Start (row-written-claims t) (row-written-at t) row-written.Post) → length (c .args .t3) ≡ 16
+places t c = search (needs, length-mapped, c .good)
+
+row-written-advance-requires : (t : ℕ) → row-written-lts.Need-advance-requires (row-written-claims t) (row-written-at t) row-written.Post
+row-written-advance-requires t c κs = (omega arith, omega arith)
+
+row-written-sub-row-written : (t : ℕ) → row-written-lts.Need-sub-row-written (row-written-claims t) (row-written-at t) row-written.Post
+row-written-sub-row-written t c = omega arith
+
+row-written-row-written-requires : (t : ℕ) → row-written-lts.Need-row-written-requires (row-written-claims t) (row-written-at t) row-written.Post
+row-written-row-written-requires t c κs = (omega arith, omega arith)
+
+row-written-returns : (t : ℕ) → row-written-lts.Need-returns (row-written-claims t) (row-written-at t) row-written.Post
+row-written-returns t c =
+    let s = c .before .before .before .before in
+    row-fails (writtenIf (s .args .taken) (s .args .slot)) (s .args .t3) (s .args .count) (places t s) (omega arith) (c .before .before .before .if1 .taken)
+    (rw (c .before .before .advance .ensures) at (c .before .row-written .ensures)) (not-true _ (c .if2 .taken))
+
+row-written-array-copy-out-a : (t : ℕ) → row-written-lts.Need-array-copy-out-a (row-written-claims t) (row-written-at t) row-written.Post
+row-written-array-copy-out-a t c = search needs
+
+row-written-array-copy-out-b : (t : ℕ) → row-written-lts.Need-array-copy-out-b (row-written-claims t) (row-written-at t) row-written.Post
+row-written-array-copy-out-b t c = search needs
+
+row-written-array-copy-out-c : (t : ℕ) → row-written-lts.Need-array-copy-out-c (row-written-claims t) (row-written-at t) row-written.Post
+row-written-array-copy-out-c t c = search needs
+
+row-written-array-copy-out-d : (t : ℕ) → row-written-lts.Need-array-copy-out-d (row-written-claims t) (row-written-at t) row-written.Post
+row-written-array-copy-out-d t c = search needs
+
+row-written-four-written-requires : (t : ℕ) → row-written-lts.Need-four-written-requires (row-written-claims t) (row-written-at t) row-written.Post
+row-written-four-written-requires t c κs = search needs
+
+row-written-returns-2 : (t : ℕ) → row-written-lts.Need-returns-2 (row-written-claims t) (row-written-at t) row-written.Post
+row-written-returns-2 t c =
+    let s = c .before .before .before .before .before .before in
+    let x = writtenIf (s .args .taken) (s .args .slot) in
+    c .four-written .ensures
+    ∙ ⊎-elim
+    (λ v. row-rest x (s .args .t3) (s .args .count) (places t s) (omega (arith, v .0 .taken)) (v .0 .taken) (rw (v .1 .ensures) at (v .2 .ensures)) (test-passes refl (v .3 .left)))
+    (λ v. row-short x (s .args .t3) (s .args .count) (places t s) (omega (arith, v .left)) (v .left))
+    (c .before .before .before .before .before .if1 .came)
+
+pub +row-written-spec : {M : Type 1} → statement M
++row-written-spec = close μ-row-written λ t. row-written-lts.spec (row-written-claims t)
+    (row-written-at t)
+    row-written.Post
+    (row-written-advance-requires t)
+    (row-written-sub-row-written t)
+    (row-written-row-written-requires t)
+    (row-written-returns t)
+    (row-written-array-copy-out-a t)
+    (row-written-array-copy-out-b t)
+    (row-written-array-copy-out-c t)
+    (row-written-array-copy-out-d t)
+    (row-written-four-written-requires t)
+    (row-written-returns-2 t)
