@@ -6,9 +6,10 @@ use native.Mathlib.Omega.{arith}
 use lib.ListN.{length, getD, take, drop}
 use mathlib.Core.Bool.{true}
 use lib.Seq.{drop-drop}
-use Rattle.packet.specs.Packet.{entries, cut, packetOf, validDTVCC}
+use Rattle.entries.specs.Fields.{entries, cut}
+use Rattle.packet.specs.Packet.{packetOf, validDTVCC}
 use Rattle.packet.specs.declared.DTVCCPacket.{DTVCCPacket}
-use Rattle.packet.proofs.Entries.{entries-at, good-at}
+use Rattle.entries.proofs.Entries.{entries-at, good-at}
 use Rattle.packet.proofs.Holds.{within-facts}
 use Rattle.records.specs.Laid.{Laid}
 use Rattle.records.proofs.Layings.{laid-append}
