@@ -1,4 +1,2 @@
 pub mod Reading
 pub mod Readers
-pub mod Pushed
-pub mod Pushes

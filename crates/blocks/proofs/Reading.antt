@@ -249,6 +249,11 @@ module _ (d : List ℕ) (here : ℕ) where
       let w : headOf (drop here d) ≡ Whole n st sz = sym e ∙ q in
       k ∙ ap (λ j. isGiven (blocksFrom plainMove 0 (drop (here + j) d))) em ∙ sym (ap isGiven (next-is false d here left n st sz w) ∙ given-mapped _ (blocksFrom plainMove 0 (drop (here + moveFor false n st sz) d)))
 
+-- a block laid in its place
+pub entry-laid : (number k : ℕ) (run : List ℕ) (at : Kept) (n s p p₁ : List ℕ) → k ≡ length run → p₁ ≡ sets p (at .used) run
+    → Laid (blockFrom number run ∷ []) at n s p (set n (at .count) number) (set s (at .count) k) p₁
+entry-laid number k run at n s p p₁ e q = record { numbers = refl; sizes = rw e; payload = q ∙ rw (append-nil run) }
+
 -- one block kept, or none, by each way out
 module _ (number : ℕ) (part : List ℕ) (at : Kept) (n s p : List ℕ) where
   abbrev KeptAs : Kept → List ℕ → List ℕ → List ℕ → Type 0
@@ -262,17 +267,12 @@ module _ (number : ℕ) (part : List ℕ) (at : Kept) (n s p : List ℕ) where
   unfolding keptFor
   keep-empty m z = rw (ne-eqb number 0 m, eq-eqb (length part) 0 z) (rw (add-zero, add-zero), record { numbers = refl; sizes = refl; payload = refl })
 
-  pub keep-some : (size : ℕ) (n₁ s₁ p₁ : List ℕ) → (number ≡ 0 → ⊥) → (size ≡ 0 → ⊥) → length part ≡ size → Laid (blockFrom number part ∷ []) at n s p n₁ s₁ p₁
-      → KeptAs (record { count = at .count + 1; used = at .used + size }) n₁ s₁ p₁
+  pub keep-some : (size : ℕ) (p₁ : List ℕ) → (number ≡ 0 → ⊥) → (size ≡ 0 → ⊥) → length part ≡ size → p₁ ≡ sets p (at .used) part
+      → KeptAs (record { count = at .count + 1; used = at .used + size }) (set n (at .count) number) (set s (at .count) size) p₁
   unfolding keptFor
-  keep-some size n₁ s₁ p₁ m z l e =
+  keep-some size p₁ m z l e =
       let q : eqb (length part) 0 ≡ false = ne-eqb (length part) 0 (λ w. z (sym l ∙ w)) in
-      rw (ne-eqb number 0 m, q) (rw (append-nil part, l), e)
-
--- a block laid in its place
-pub entry-laid : (number k : ℕ) (run : List ℕ) (at : Kept) (n s p p₁ : List ℕ) → k ≡ length run → p₁ ≡ sets p (at .used) run
-    → Laid (blockFrom number run ∷ []) at n s p (set n (at .count) number) (set s (at .count) k) p₁
-entry-laid number k run at n s p p₁ e q = record { numbers = refl; sizes = rw e; payload = q ∙ rw (append-nil run) }
+      rw (ne-eqb number 0 m, q) (rw (append-nil part, l), entry-laid number size part at n s p p₁ (sym l) e)
 
 -- the length of a part that is there
 pub part-of : (d : List ℕ) (from size : ℕ) → from + size ≤ length d → length (take size (drop from d)) ≡ size

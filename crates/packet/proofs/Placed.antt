@@ -19,7 +19,7 @@ use Rattle.entries.proofs.Holds.{used-fits, blocks-count}
 use Rattle.entries.proofs.Walks.{sum-few}
 use Rattle.entries.proofs.Measures.{sized-within}
 use Rattle.entries.proofs.Placed.{place-block}
-use Rattle.blocks.proofs.Pushed.{used-sum, used-parts, cut-drop}
+use Rattle.pushes.proofs.Pushed.{used-sum, used-parts, cut-drop}
 use Rattle.packet.specs.Packet.{fieldsOf, entriesOf, packetOf, validDTVCC}
 use Rattle.packet.specs.Place.{Placed, blocksAt, saidPlace}
 use Rattle.packet.proofs.Holds.{Places, Within}

@@ -15,8 +15,8 @@ use Rattle.service.specs.declared.Service.{Service}
 use Rattle.entries.specs.Fields.{Fields}
 use Rattle.entries.specs.Fields as places
 use Rattle.blocks.specs.Reading.{Read}
-use Rattle.blocks.specs.Pushing.{Stores, Pushes}
-use Rattle.blocks.specs.Pushing as blocks
+use Rattle.pushes.specs.Pushing.{Stores, Pushes}
+use Rattle.pushes.specs.Pushing as pushes
 use Rattle.packet.specs.declared.DTVCCPacket.{DTVCCPacket}
 use Rattle.packet.specs.declared.PacketAnswer.{PacketAnswer}
 use Rattle.packet.specs.Packet.{Answers, fieldsOf, packetWith, over, laid, answerOf, pushedRun, pushedBlock}
@@ -52,13 +52,13 @@ module _ (p : DTVCCPacket) (places : Places p) (r : Counted) (n s d : List ℕ) 
   stored (gave g) (e, q) = rw (is, e) (record { answer = refl; packet = ap packetWith (sym q) })
   stored (refused why) (e, q, m, x, y, z) = rw (is, q) (record { answer = m; packet = refl })
 
-  pub run-stored : (needsRoom : Bool) (number : ℕ) (run : List ℕ) → Pushes (blocks.pushedRun needsRoom number run) (fieldsOf p) r n s d → Answers (pushedRun needsRoom number run p) p a
+  pub run-stored : (needsRoom : Bool) (number : ℕ) (run : List ℕ) → Pushes (pushes.pushedRun needsRoom number run) (fieldsOf p) r n s d → Answers (pushedRun needsRoom number run p) p a
   unfolding pushedRun
-  run-stored needsRoom number run k = stored (blocks.pushedRun needsRoom number run (fieldsOf p)) (k places)
+  run-stored needsRoom number run k = stored (pushes.pushedRun needsRoom number run (fieldsOf p)) (k places)
 
-  pub block-stored : (b : Service) → Pushes (blocks.pushedBlock b) (fieldsOf p) r n s d → Answers (pushedBlock b p) p a
+  pub block-stored : (b : Service) → Pushes (pushes.pushedBlock b) (fieldsOf p) r n s d → Answers (pushedBlock b p) p a
   unfolding pushedBlock
-  block-stored b k = stored (blocks.pushedBlock b (fieldsOf p)) (k places)
+  block-stored b k = stored (pushes.pushedBlock b (fieldsOf p)) (k places)
 
 -- no first byte
 pub none-first : (d : List ℕ) → length d ≡ 0 → 0 ≡ sequenceIn (getD d 0 0)

@@ -15,7 +15,7 @@ use Rattle.entries.specs.declared.Extent.{Extent}
 use Rattle.entries.specs.Fields.{Fields, Entry, fields, packetIn, validFields}
 use Rattle.entries.specs.Fields as places
 use Rattle.entries.specs.Extent.{extentAs}
-use Rattle.blocks.specs.Pushing as blocks
+use Rattle.pushes.specs.Pushing as pushes
 use Rattle.packet.specs.declared.DTVCCPacket.{DTVCCPacket}
 use Rattle.packet.specs.declared.PacketAnswer.{PacketAnswer}
 
@@ -60,10 +60,10 @@ pub record Answers (o : Outcome DTVCCPacket) (beside : DTVCCPacket) (r : PacketA
 
 -- a block pushed, and a run: to the latest block of the number only if it has room, or whether or not it has
 unfoldable pub pushedBlock : Service → DTVCCPacket → Outcome DTVCCPacket
-pushedBlock s p = mapped packetWith (blocks.pushedBlock s (fieldsOf p))
+pushedBlock s p = mapped packetWith (pushes.pushedBlock s (fieldsOf p))
 
 unfoldable pub pushedRun : Bool → ℕ → List ℕ → DTVCCPacket → Outcome DTVCCPacket
-pushedRun needsRoom n run p = mapped packetWith (blocks.pushedRun needsRoom n run (fieldsOf p))
+pushedRun needsRoom n run p = mapped packetWith (pushes.pushedRun needsRoom n run (fieldsOf p))
 
 -- what is answered to a push by how many blocks there then are, in which places; a refusal leaves the packet as it was
 abbrev pub answerOf : DTVCCPacket → Counted → List ℕ → List ℕ → List ℕ → PacketAnswer

@@ -288,7 +288,7 @@ impl DTVCCPacket {
         let mut numbers = self.numbers;
         let mut sizes = self.sizes;
         let mut payload = self.payload;
-        let r = blocks::push_block(
+        let r = pushes::push_block(
             service,
             self.seq_no,
             self.count,
@@ -307,7 +307,7 @@ impl DTVCCPacket {
         let mut numbers = self.numbers;
         let mut sizes = self.sizes;
         let mut payload = self.payload;
-        let r = blocks::push_run(
+        let r = pushes::push_run(
             needs_room,
             service_no,
             code,

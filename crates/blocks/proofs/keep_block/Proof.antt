@@ -26,26 +26,35 @@ returns-2 c = keep-empty _ _ _ _ _ _ (c .before .if1 .left) (part-length (c .bef
 add-end : tie.Need-add-end
 add-end c = search needs
 
-sub-put-entry : tie.Need-sub-put-entry
-sub-put-entry c = search needs
+element-write-numbers : tie.Need-element-write-numbers
+element-write-numbers c = search needs
 
-part-put-entry-start : tie.Need-part-put-entry-start
-part-put-entry-start c = search needs
+cast-sizes : tie.Need-cast-sizes
+cast-sizes c = search needs
 
-part-put-entry-end : tie.Need-part-put-entry-end
-part-put-entry-end c = search needs
+element-write-sizes : tie.Need-element-write-sizes
+element-write-sizes c = search needs
 
-put-entry-requires : tie.Need-put-entry-requires
-put-entry-requires c κs = search needs
+sub-put-bytes : tie.Need-sub-put-bytes
+sub-put-bytes c = search needs
 
-add-t15 : tie.Need-add-t15
-add-t15 c = search needs
+part-put-bytes-start : tie.Need-part-put-bytes-start
+part-put-bytes-start c = search needs
 
-add-t21 : tie.Need-add-t21
-add-t21 c = search needs
+part-put-bytes-end : tie.Need-part-put-bytes-end
+part-put-bytes-end c = search needs
+
+put-bytes-requires : tie.Need-put-bytes-requires
+put-bytes-requires c κs = search needs
+
+add-t22 : tie.Need-add-t22
+add-t22 c = search needs
+
+add-t25 : tie.Need-add-t25
+add-t25 c = search needs
 
 returns-3 : tie.Need-returns-3
-returns-3 c = let s = c .before .before .before .before .before .before .before .before in keep-some _ (P s) _ _ _ _ (s .args .size) _ _ _ (c .before .before .before .before .before .before .if1 .left) (c .before .before .before .before .before .if2 .left) (part-length s) (rw add-sub-cancel-left at (c .put-entry .ensures))
+returns-3 c = let s = c .before .before .before .before .before .before in keep-some _ (P s) _ _ _ _ (s .args .size) _ (c .before .before .before .before .if1 .left) (c .before .before .before .if2 .left) (part-length s) (c .put-bytes .ensures ∙ rw add-sub-cancel-left)
 
 pub keep-block-spec : {M : Type 1} → statement M
 keep-block-spec =
@@ -54,10 +63,13 @@ keep-block-spec =
     returns
     returns-2
     add-end
-    sub-put-entry
-    part-put-entry-start
-    part-put-entry-end
-    put-entry-requires
-    add-t15
-    add-t21
+    element-write-numbers
+    cast-sizes
+    element-write-sizes
+    sub-put-bytes
+    part-put-bytes-start
+    part-put-bytes-end
+    put-bytes-requires
+    add-t22
+    add-t25
     returns-3)

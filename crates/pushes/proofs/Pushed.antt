@@ -13,11 +13,11 @@ use Rattle.service.proofs.Runs.{sets-front, sets-append}
 use Rattle.entries.specs.Fields.{Fields, Places, Entry, fields, entries, entriesOf, cut, usedBy, packetIn, over, numbersOf, sizesOf, payloadsOf, blockFrom}
 use Rattle.entries.specs.Extent.{Sized, sumOf, sumTo}
 use Rattle.entries.proofs.Entries.{entries-numbers, entries-sizes, cut-numbers, cut-sizes, cut-payloads}
 use Rattle.blocks.proofs.Reading.{map-append, payloads-append}
 use Rattle.entries.proofs.Holds.{Within, within-facts, used-fits, blocks-count}
 use Rattle.entries.proofs.Walks.{sum-few}
 use Rattle.blocks.specs.Reading.{Laid}
-use Rattle.blocks.specs.Pushing.{grownOver}
+use Rattle.pushes.specs.Pushing.{grownOver}
 
 -- the front of a list laid over itself changes nothing; a run behind it is laid there
 sets-own : (l : List ℕ) (k : ℕ) → k ≤ length l → sets l 0 (take k l) ≡ l

@@ -1,8 +1,8 @@
 -- One place of each array is set. Assumes nothing.
 use Rattle.blocks.proofs.Reading.{entry-laid}
 use borrow.Author.Needs.{needs}
-use Rattle.blocks.proofs.put_entry.Statement.{statement}
-use Rattle.blocks.proofs.put_entry.Tie as tie
+use Rattle.pushes.proofs.put_entry.Statement.{statement}
+use Rattle.pushes.proofs.put_entry.Tie as tie
 
 element-write-numbers : tie.Need-element-write-numbers
 element-write-numbers c = search needs

@@ -4,10 +4,10 @@ use native.Mathlib.Omega.{arith}
 use denote.Ref.{now}
 use Rattle.entries.specs.Fields.{Fields, fields}
 use Rattle.entries.proofs.Measures.{length-small}
-use Rattle.blocks.proofs.Pushes.{new-null, new-long, new-over, new-fits, new-room}
+use Rattle.pushes.proofs.Outcomes.{new-null, new-long, new-over, new-fits, new-room}
 use borrow.Author.Needs.{needs}
-use Rattle.blocks.proofs.push_new.Statement.{statement}
-use Rattle.blocks.proofs.push_new.Tie as tie
+use Rattle.pushes.proofs.push_new.Statement.{statement}
+use Rattle.pushes.proofs.push_new.Tie as tie
 
 abbrev P : tie.Start → Fields
 P c = fields (c .args .seq-no) (c .args .at .count) (now (c .args .numbers)) (now (c .args .sizes)) (now (c .args .payload))

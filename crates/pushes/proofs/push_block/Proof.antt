@@ -12,10 +12,10 @@ use Rattle.service.proofs.Services.{valid-len}
 use Rattle.entries.specs.Fields.{Fields, fields}
 use Rattle.entries.specs.Extent.{Sized}
 use Rattle.entries.proofs.Walks.{extent-sized, extent-invalid}
-use Rattle.blocks.proofs.Pushes.{block-invalid, service-invalid, block-empty, block-new, block-run, same-stores}
+use Rattle.pushes.proofs.Outcomes.{block-invalid, service-invalid, block-empty, block-new, block-run, same-stores}
 use borrow.Author.Needs.{needs}
-use Rattle.blocks.proofs.push_block.Statement.{statement}
-use Rattle.blocks.proofs.push_block.Tie as tie
+use Rattle.pushes.proofs.push_block.Statement.{statement}
+use Rattle.pushes.proofs.push_block.Tie as tie
 
 abbrev P : tie.Start → Fields
 P c = fields (c .args .seq-no) (c .args .count) (now (c .args .numbers)) (now (c .args .sizes)) (now (c .args .payload))

@@ -30,9 +30,9 @@ use Rattle.entries.proofs.Entries.{entries-length, no-lengths, entries-two, blo
 use Rattle.entries.proofs.Holds.{Within, blocks-count}
 use Rattle.entries.proofs.Walks.{latest-few}
 use Rattle.entries.proofs.Measures.{sized-within, sized-length}
 use Rattle.blocks.specs.Reading.{Laid}
-use Rattle.blocks.specs.Pushing.{Stores, RoomAt, grownOver, pushedNew, pushedAt, pushedBlock, pushedRun}
-use Rattle.blocks.proofs.Pushed.{size-held, number-held, append-as, before-within, extend-as}
+use Rattle.pushes.specs.Pushing.{Stores, RoomAt, grownOver, pushedNew, pushedAt, pushedBlock, pushedRun}
+use Rattle.pushes.proofs.Pushed.{size-held, number-held, append-as, before-within, extend-as}
 
 -- a refusal leaves all places as they were; what is given is what they then hold
 refuses : (o : Outcome Fields) (f : Fields) (why : Refusal) → o ≡ refused (saidRefusal why) → Stores o f (Refused why) (f .numbers) (f .sizes) (f .payload)

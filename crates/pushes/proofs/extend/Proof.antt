@@ -1,8 +1,8 @@
 -- The size grows, the run stands behind its block, and the payloads behind it stand after the run. Assumes nothing.
 use mathlib.Core.Path.{refl, _∙_}
 use borrow.Author.Needs.{needs}
-use Rattle.blocks.proofs.extend.Statement.{statement}
-use Rattle.blocks.proofs.extend.Tie as tie
+use Rattle.pushes.proofs.extend.Statement.{statement}
+use Rattle.pushes.proofs.extend.Tie as tie
 
 add-sum-of : tie.Need-add-sum-of
 add-sum-of c = search needs

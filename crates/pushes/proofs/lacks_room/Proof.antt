@@ -1,7 +1,7 @@
 -- The two cases of the flag. Assumes nothing.
 use borrow.Author.Needs.{needs}
-use Rattle.blocks.proofs.lacks_room.Statement.{statement}
-use Rattle.blocks.proofs.lacks_room.Tie as tie
+use Rattle.pushes.proofs.lacks_room.Statement.{statement}
+use Rattle.pushes.proofs.lacks_room.Tie as tie
 
 returns : tie.Need-returns
 returns c = simp (c .if1 .taken)

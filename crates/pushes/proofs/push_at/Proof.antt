@@ -6,10 +6,10 @@ use denote.Ref.{now}
 use Rattle.entries.specs.Fields.{Fields, fields}
 use Rattle.entries.proofs.Holds.{within-facts}
 use Rattle.entries.proofs.Measures.{length-small}
-use Rattle.blocks.proofs.Pushes.{at-over, at-full, at-fits, at-room}
+use Rattle.pushes.proofs.Outcomes.{at-over, at-full, at-fits, at-room}
 use borrow.Author.Needs.{needs}
-use Rattle.blocks.proofs.push_at.Statement.{statement}
-use Rattle.blocks.proofs.push_at.Tie as tie
+use Rattle.pushes.proofs.push_at.Statement.{statement}
+use Rattle.pushes.proofs.push_at.Tie as tie
 
 abbrev P : tie.Start → Fields
 P c = fields (c .args .seq-no) (c .args .at .count) (now (c .args .numbers)) (now (c .args .sizes)) (now (c .args .payload))

@@ -8,10 +8,10 @@ use Rattle.entries.specs.Fields.{Fields, fields}
 use Rattle.entries.specs.Extent.{Sized}
 use Rattle.entries.proofs.Holds.{within-facts}
 use Rattle.entries.proofs.Walks.{extent-sized, extent-invalid}
-use Rattle.blocks.proofs.Pushes.{run-invalid, run-number, run-empty, run-none, run-full, run-at, found-there, same-stores}
+use Rattle.pushes.proofs.Outcomes.{run-invalid, run-number, run-empty, run-none, run-full, run-at, found-there, same-stores}
 use borrow.Author.Needs.{needs}
-use Rattle.blocks.proofs.push_run.Statement.{statement}
-use Rattle.blocks.proofs.push_run.Tie as tie
+use Rattle.pushes.proofs.push_run.Statement.{statement}
+use Rattle.pushes.proofs.push_run.Tie as tie
 
 abbrev P : tie.Start → Fields
 P c = fields (c .args .seq-no) (c .args .count) (now (c .args .numbers)) (now (c .args .sizes)) (now (c .args .payload))
