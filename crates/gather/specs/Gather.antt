@@ -27,7 +27,7 @@ pub record Sized (s : Run) : Type 0 where
   pub even : s .need % 2 ≡ 0
   pub room : s .need + s .len ≤ 128
 
--- two bytes more, while any are wanted
+-- "bytes beyond that size, or before any start, are ignored": two bytes more, while any are wanted
 unfoldable pub putTwo : ℕ → ℕ → Held → Held
 putTwo x y h =
     cond (eqb (h .need) 0) h
@@ -37,7 +37,7 @@ putTwo x y h =
 abbrev pub begun : ℕ → Held → Held
 begun x h = record { need = packetSize x; len = 0; bytes = h .bytes }
 
--- one triple
+-- what a triple adds: one that is not a valid type 2 or 3 adds nothing
 abbrev pub put : Seen → Held → Held
 put (start x y) h = putTwo x y (begun x h)
 put (more x y) h = putTwo x y h
@@ -81,7 +81,7 @@ pub record Gathering : Type 0 where
 unfoldable pub gatherTurn : ℕ → Gathering → ℕ → Seen → Gathering
 gatherTurn f o i t = record { held = put t (o .held); ring = cond (closesBy t (run (o .held))) (delivered f (o .held) (o .ring)) (o .ring) }
 
--- the bytes that the pending ones still want
+-- "a new packet of its header's size": the bytes that the pending ones still want
 unfoldable pub wanted : ℕ → List ℕ → ℕ
 wanted n l = cond (eqb n 0) 0 (packetSize (getD l 0 0) - n)
 
@@ -112,7 +112,7 @@ gathered f r h ts = gatherEnd f (over (gatherTurn f) (record { held = h; ring = 
 abbrev pub takenBy : code.Gathered → List ℕ → Left
 takenBy g l = record { pending = g .pending; bytes = l; ring = record { count = g .waiting; slots = g .slots } }
 
--- pending bytes are none, or an even number below the size that the first of them gives
+-- "an incomplete one waits": pending bytes are none, or an even number below the size that the first of them gives
 unfoldable pub pendingFine : ℕ → List ℕ → Bool
 pendingFine n l = cond (eqb n 0) true (eqb (n % 2) 0 && ltb n (packetSize (getD l 0 0)))
 
@@ -120,7 +120,7 @@ pendingFine n l = cond (eqb n 0) true (eqb (n % 2) 0 && ltb n (packetSize (getD 
 unfoldable pub readyFor : ℕ → ℕ → ℕ → List ℕ → Bool
 readyFor f count n l = leb f 31 && (leb count 32 && pendingFine n l)
 
--- the bytes and slots after a frame; where nothing is gathered they stay
+-- "With no valid type 2 or 3 triple, pending bytes are kept": the bytes and slots after a frame; where nothing is gathered they stay
 unfoldable pub gatheredBy : Bool → ℕ → Ring → ℕ → List ℕ → List ℕ → Left
 gatheredBy gathers f r n l frame =
     cond (gathers && readyFor f (r .count) n l) (gathered f r (pendingHeld n l) (seenFrom 0 frame))

@@ -18,7 +18,7 @@ unfoldable pub ringFrom : ℕ → ℕ → List Slot → List Slot
 ringFrom at zero l = []
 ringFrom at (suc n) l = getD l (at % 32) noSlot ∷ ringFrom (at + 1) n l
 
--- a slot reads as a packet
+-- "which become a packet if they read as one": a slot reads as a packet
 unfoldable pub slotFine : Slot → Bool
 slotFine s = leb (s .len) 128 && reads (take (s .len) (s .bytes))
 

@@ -38,7 +38,7 @@ packetAt g = after blank (mapped laid (readPacket g))
 abbrev pub slotPacket : Slot → DTVCCPacket
 slotPacket s = packetAt (take (s .len) (s .bytes))
 
--- the first pair, and the others moved down
+-- "the list's pairs in order .. each removed": the first pair, and the others moved down
 unfoldable pub takePair : Counts → List ℕ → Took
 takePair c l =
     record {
@@ -50,7 +50,7 @@ takePair c l =
       waiting = c .waiting;
     }
 
--- the first packet of the ring
+-- "then packets, oldest first, each removed": the first packet of the ring
 unfoldable pub takePacket : Counts → List ℕ → List Slot → Took
 takePacket c l slots =
     record {

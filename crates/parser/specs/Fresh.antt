@@ -3,7 +3,7 @@ use mathlib.Core.Bool.{false}
 use lib.ListN.{replicate}
 use Rattle.parser.specs.declared.CCDataParser.{CCDataParser}
 
--- 608 is off, and all places hold zeros
+-- "fresh, with 608 off": nothing waits, and all places hold zeros
 unfoldable pub fresh : CCDataParser
 fresh =
     record {

@@ -48,7 +48,7 @@ abbrev pub packetBeside : Outcome model.Item → DTVCCPacket
 packetBeside (gave i) = packetOfItem i
 packetBeside (refused why) = blank
 
--- 11 comes first; then the item that the model draws
+-- "11 comes first"; then the item that the model draws
 abbrev pub itemFrom : CCDataParser → Outcome model.Item
 itemFrom p = checked (valid p) (gave (model.draw (means p) .item))
 

@@ -42,7 +42,7 @@ pub record Answers (said : Said) (next : CCDataParser) (r : ParserAnswer) : Type
 abbrev pub saidCall : CCDataParser → Said
 saidCall p = cond (valid p) (accepted []) badValue
 
--- 11 changes nothing
+-- "State and lent bytes stay as they were"
 abbrev pub afterCall : CCDataParser → CCDataParser → CCDataParser
 afterCall p q = cond (valid p) q p
 

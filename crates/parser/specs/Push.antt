@@ -45,12 +45,12 @@ pushedBy p plan l g = cond (ltb 32 (g .ring .count)) (fed (refusedFor Full) p) (
 abbrev pub ringOf : CCDataParser → Ring
 ringOf p = record { count = p .«waiting_count»; slots = p .waiting }
 
--- the frame read by its plan; without 608 no pairs are listed
+-- the frame read by its plan; pairs are listed "when 608 is on"
 unfoldable pub pushedPlan : CCDataParser → Plan → List ℕ → ParserAnswer
 pushedPlan p q f =
     pushedBy p q (listedBy (q .lists && p .«cea608_on») (p .pairs) f)
     (gatheredBy (q .gathers) (p .«waiting_first») (ringOf p) (p .«pending_len») (p .pending) f)
 
--- 11 comes first
+-- "11 comes first"
 unfoldable pub pushed : CCDataParser → List ℕ → ParserAnswer
 pushed p f = cond (valid p) (pushedPlan p (planOf f) f) (fed (refusedFor BadValue) p)

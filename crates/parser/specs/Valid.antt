@@ -10,7 +10,7 @@ use Rattle.gather.specs.Ring.{ringFine}
 use Rattle.parser.specs.declared.CCDataParser.{CCDataParser}
 use Rattle.parser.specs.declared.Counts.{Counts}
 
--- each of the first n pairs is of field 1 or 2
+-- "pairs of field 1 (type 0) and 2 (type 1)": each of the first n is one
 unfoldable pub fieldsFine : ℕ → List ℕ → Bool
 fieldsFine zero l = true
 fieldsFine (suc n) l = leb (getD l 0 0) 1 && fieldsFine n (drop 3 l)
@@ -23,7 +23,7 @@ listFine n l = leb n 31 && fieldsFine n l
 abbrev pub countsOf : CCDataParser → Counts
 countsOf p = record { on = p .«cea608_on»; pairs = p .«pair_count»; pending = p .«pending_len»; first = p .«waiting_first»; waiting = p .«waiting_count» }
 
--- the pairs, the pending bytes and the waiting slots are within their limits
+-- 11 is given for "a state .. whose counts, numbers or lengths break this page's limits": its pairs, pending bytes and waiting slots do not
 unfoldable pub fine : Counts → List ℕ → List ℕ → List Slot → Bool
 fine c pairs pending slots =
     listFine (c .pairs) pairs && (pendingFine (c .pending) pending && ringFine (c .first) (c .waiting) slots)

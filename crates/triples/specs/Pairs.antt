@@ -9,7 +9,7 @@ use Rattle.model.specs.Frame.{pair, Cea608, field1, field2, Seen}
 use Rattle.model.specs.Demux.{pairsIn}
 use Rattle.triples.specs.Walk.{seenFrom}
 
--- the places of a pair
+-- "a pair says which field": the places of a pair
 abbrev pub placed : Cea608 → List ℕ
 placed (field1 (pair a b)) = 0 ∷ a ∷ b ∷ []
 placed (field2 (pair a b)) = 1 ∷ a ∷ b ∷ []
@@ -24,11 +24,11 @@ pub record Listing : Type 0 where
   pub count : ℕ
   pub places : List ℕ
 
--- the pairs of triples laid behind those that are there; places further on stay
+-- "Valid earlier ones are pairs of field 1 (type 0) and 2 (type 1)": those of triples, laid behind the n that are there; places further on stay
 unfoldable pub listing : ℕ → List ℕ → List Seen → Listing
 listing n l ts = record { count = n + length (pairsIn ts); places = sets l (3 * n) (placedAll (pairsIn ts)) }
 
--- the list after a frame, which has at most 95 bytes; where no pairs are listed there are none
+-- "the pair list is emptied", and then the pairs of the frame are listed where that is asked; "A frame is at most 95 bytes."
 unfoldable pub listedBy : Bool → List ℕ → List ℕ → Listing
 listedBy lists l f = cond (lists && leb (length f) 95) (listing 0 l (seenFrom 0 f)) (record { count = 0; places = l })
 

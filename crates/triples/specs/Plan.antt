@@ -15,7 +15,7 @@ use Rattle.triples.specs.declared.Head.{Head}
 use Rattle.triples.specs.declared.Head.the-variants.{Unread, Mismatch, Walk}
 use Rattle.triples.specs.declared.Plan.{Plan}
 
--- what the first byte and the length say: not read, or a length that is wrong ("*expected 3n+1*"), or triples
+-- what the first byte and the length say: nothing is read, or "length other than 3n+2 is refused with 1, *expected 3n+1*", or there are triples
 unfoldable pub headOf : List ℕ → Head
 headOf f =
     let n = countIn (getD f 0 0) in
@@ -25,7 +25,7 @@ headOf f =
 abbrev pub plan : Answer → Bool → Bool → Plan
 plan a lists gathers = record { answer = a; lists = lists; gathers = gathers }
 
--- a late 608 triple refuses the frame and leaves the pairs before it; else bytes are gathered where there is a valid 708 triple
+-- "one refused with 2 leaves in it the pairs before the offending triple"; "With no valid type 2 or 3 triple, pending bytes are kept."
 abbrev pub planFound : Option ℕ → Bool → Plan
 planFound (some at) carries = plan (Refused (Cea608AfterCea708 at)) true false
 planFound none carries = plan Accepted true carries
@@ -34,7 +34,8 @@ planFound none carries = plan Accepted true carries
 abbrev pub planWalked : List ℕ → Plan
 planWalked f = planFound (lateFrom 0 (seenFrom 0 f)) (carries708 (seenFrom 0 f))
 
--- "In this order: the pair list is emptied; .. accepted with nothing further done; length other than 3n+2 is refused with 1"
+-- "In this order: the pair list is emptied; under 5 bytes, flag 0x40 clear, or count (low five bits) 0 is accepted with nothing further done;
+-- length other than 3n+2 is refused with 1, *expected 3n+1*."
 unfoldable pub planOf : List ℕ → Plan
 planOf f =
     let n = countIn (getD f 0 0) in

@@ -7,7 +7,7 @@ use Rattle.triples.specs.Walk.{over, seenFrom}
 use Rattle.triples.specs.declared.Scan.{Scan}
 use Rattle.triples.specs.declared.Scan.the-variants.{Only608, Ended, Carries, Late}
 
--- within the 608 part: a 708 triple ends it, valid or not
+-- "A type 2 or 3 triple, valid or not, ends the 608 part": a triple within it
 abbrev pub scanFirst : Seen → Scan
 scanFirst (first a b) = Only608
 scanFirst (second a b) = Only608
@@ -16,7 +16,7 @@ scanFirst void708 = Ended
 scanFirst (start a b) = Carries
 scanFirst (more a b) = Carries
 
--- after it: a valid 608 triple is late
+-- "a valid type 0 or 1 after it is refused with 2": a triple after it
 abbrev pub scanAfter : Scan → ℕ → Seen → Scan
 scanAfter s at (first a b) = Late at
 scanAfter s at (second a b) = Late at
@@ -25,18 +25,18 @@ scanAfter s at void708 = s
 scanAfter s at (start a b) = Carries
 scanAfter s at (more a b) = Carries
 
--- one triple, at a place; the first late one stays
+-- a triple by what the search has come to; the first late one stays
 abbrev pub scanAt : Scan → ℕ → Seen → Scan
 scanAt Only608 at t = scanFirst t
 scanAt Ended at t = scanAfter Ended at t
 scanAt Carries at t = scanAfter Carries at t
 scanAt (Late i) at t = Late i
 
--- "at 3 times its index"
+-- "at 3 times its index": the triple with index i
 unfoldable pub scanTurn : Scan → ℕ → Seen → Scan
 scanTurn s i t = scanAt s (3 * i) t
 
--- past the 608 part, with a valid 708 triple or none yet
+-- after the 608 part: there was a "valid type 2 or 3 triple", or none yet
 abbrev pub found : Bool → Scan
 found carries = cond carries Carries Ended
 

@@ -4,11 +4,11 @@ use Prim.Native.Nat.{ℕ, _+_, _*_}
 use lib.ListN.{drop}
 use Rattle.model.specs.Frame.{Seen, seenAll, triplesIn}
 
--- What a reader sees in the triples from the i-th on: "Triples start at byte 2".
+-- "Triples start at byte 2": what a reader sees in those from the i-th on
 abbrev pub seenFrom : ℕ → List ℕ → List Seen
 seenFrom i f = seenAll (triplesIn (drop (3 * i + 2) f))
 
--- A walk: what each triple does to a state, given the triple's index.
+-- a walk: what each triple does to a state, given the triple's index
 unfoldable pub over : {S : Type 0} → (S → ℕ → Seen → S) → S → ℕ → List Seen → S
 over turn s i [] = s
 over turn s i (t ∷ ts) = over turn (turn s i t) (i + 1) ts
