@@ -1,0 +1,79 @@
+-- The pairs pushed are counted.
+use Prim.Native.Nat.{_-_, _≤_}
+use borrow.Author.Needs.{needs}
+use Rattle.write_speed.proofs.write_frames.Statement.{statement}
+use Rattle.write_speed.proofs.write_frames.Tie as tie
+use Rattle.write_speed.proofs.write_frames.Reads as reads
+use Rattle.write_speed.proofs.write_frames.Lts as lts
+use Rattle.write_speed.proofs.due.Reads as due-reads
+use Rattle.write_speed.proofs.packet.Reads as packet-reads
+use Rattle.write_speed.proofs.pair.Reads as pair-reads
+use Rattle.write_speed.proofs.with_frame.Reads as with-frame-reads
+use Rattle.writer.proofs.CCDataWriter.push_cea608.Reads as push-cea608-reads
+use Rattle.writer.proofs.CCDataWriter.push_packet.Reads as push-packet-reads
+use Rattle.writer.proofs.CCDataWriter.write.Reads as write-reads
+
+abbrev Inv-loop : tie.InvT-loop
+Inv-loop block1 block2 block3 frame₀ writer₀ t₀ i₀ frame writer t i = i ≤ 2000000
+
+abbrev μ-loop : tie.MeasureT-loop
+μ-loop block1 block2 block3 frame₀ writer₀ t₀ i₀ frame writer t i = 2000000 - i
+
+loop-holds : tie.Need-loop-holds Inv-loop μ-loop
+loop-holds c = search needs
+
+mul-loop : tie.Need-mul-loop Inv-loop μ-loop
+mul-loop c = search needs
+
+pair-requires : tie.Need-pair-requires Inv-loop μ-loop
+pair-requires c κs = search needs
+
+push-cea608-requires : tie.Need-push-cea608-requires Inv-loop μ-loop
+push-cea608-requires c κs = search needs
+
+due-requires : tie.Need-due-requires Inv-loop μ-loop
+due-requires c κs = search needs
+
+packet-requires : tie.Need-packet-requires Inv-loop μ-loop
+packet-requires c κs = search needs
+
+push-packet-requires : tie.Need-push-packet-requires Inv-loop μ-loop
+push-packet-requires c κs = search needs
+
+write-requires : tie.Need-write-requires Inv-loop μ-loop
+write-requires c κs = search needs
+
+with-frame-requires : tie.Need-with-frame-requires Inv-loop μ-loop
+with-frame-requires c κs = search needs
+
+add-i : tie.Need-add-i Inv-loop μ-loop
+add-i c = search needs
+
+loop-less : tie.Need-loop-less Inv-loop μ-loop
+loop-less c = search needs
+
+loop-again : tie.Need-loop-again Inv-loop μ-loop
+loop-again c = search needs
+
+returns : tie.Need-returns Inv-loop μ-loop
+returns c = search needs
+
+pub write-frames-spec : {M : Type 1} → statement M
+write-frames-spec =
+    tie.close
+    (tie.spec
+    Inv-loop
+    μ-loop
+    loop-holds
+    mul-loop
+    pair-requires
+    push-cea608-requires
+    due-requires
+    packet-requires
+    push-packet-requires
+    write-requires
+    with-frame-requires
+    add-i
+    loop-less
+    loop-again
+    returns)
