@@ -1,5 +1,6 @@
 -- The functions that build a frame. Assumes nothing.
 use contract.Lifetimes.{Lfts}
+use denote.Ref.{now}
 use Rattle.frames.proofs.Frame.start.Reads as start
 use Rattle.frames.proofs.Frame.has_room.Reads as has_room
 use Rattle.frames.proofs.Frame.put.Reads as put
@@ -30,5 +31,5 @@ pub Frame-pad : Determines (pad.Post (tt {0}))
 Frame-pad = equal
 
 -- `frame.emit(out)`
-pub Frame-emit : (κs : Lfts 1) → DeterminesLent (λ e. e .1 .0) (emit.Post κs)
+pub Frame-emit : (κs : Lfts 1) → DeterminesLent (λ e. now (e .1 .0)) (emit.Post κs)
 Frame-emit κs = filled

@@ -3,7 +3,7 @@ use mathlib.Core.Path.{_≡_, sym, ap, _∙_}
 use mathlib.Core.List.{List}
 use Prim.Native.Nat.{ℕ}
 use contract.Lifetimes.{Lfts}
-use denote.Ref.{RefT, now}
+use denote.Ref.{now}
 use Rattle.gather.specs.Gather.{Left, takenBy}
 use Rattle.gather.specs.declared.Gathered.{Gathered}
 use Rattle.gather.proofs.slots_good.Reads as slots_good
@@ -17,7 +17,7 @@ abbrev gatheredIn : Left → Gathered
 gatheredIn x = record { pending = x .pending; waiting = x .ring .count; slots = x .ring .slots }
 
 -- packets gathered, with the pending bytes in a lent place
-gathers : {A E : Type 0} {left : A → Left} {lent : E → RefT (List ℕ)} → DeterminesLent lent (λ (a : A) (r : Gathered) (e : E). takenBy r (now (lent e)) ≡ left a)
+gathers : {A E : Type 0} {left : A → Left} {lent : E → List ℕ} → DeterminesLent lent (λ (a : A) (r : Gathered) (e : E). takenBy r (lent e) ≡ left a)
 gathers = record { result = λ a r q e f h k. ap gatheredIn (h ∙ sym k); contents = λ a r q e f h k. ap (λ (x : Left). x .bytes) (h ∙ sym k) }
 
 -- `slots_good(slots, first, n)`
@@ -29,5 +29,5 @@ pub pending-good : (κs : Lfts 1) → Determines (pending_good.Post κs)
 pending-good κs = equal
 
 -- `gather_by(gathers, first, count, len, slots, pending, frame)`
-pub gather-by : (κs : Lfts 2) → DeterminesLent (λ e. e .1 .1 .1 .1 .1 .0) (gather_by.Post κs)
+pub gather-by : (κs : Lfts 2) → DeterminesLent (λ e. now (e .1 .1 .1 .1 .1 .0)) (gather_by.Post κs)
 gather-by κs = gathers

@@ -7,6 +7,7 @@ use Prim.Native.Nat.{ℕ}
 use lib.Dec.{eqb}
 use lib.ListN.{getD}
 use contract.Lifetimes.{Lfts}
+use denote.Ref.{now}
 use Rattle.model.specs.Said.{Outcome}
 use Rattle.model.specs.Block.{Block}
 use Rattle.caption.proofs.Answers.{answerOf, refused-again, saidAnswer-injective, saidCounted-injective, saidTruth-injective}
@@ -107,7 +108,7 @@ pub DTVCCPacket-service-count : Determines (service_count.Post (tt {0}))
 DTVCCPacket-service-count = said saidCounted-injective
 
 -- `packet.write(out)`
-pub DTVCCPacket-write : (κs : Lfts 1) → DeterminesLent (λ e. e .1 .0) (write.Post κs)
+pub DTVCCPacket-write : (κs : Lfts 1) → DeterminesLent (λ e. now (e .1 .0)) (write.Post κs)
 DTVCCPacket-write κs = writes
 
 -- `packet.service(place)`

@@ -3,7 +3,7 @@ use mathlib.Core.Path.{sym, _∙_}
 use mathlib.Core.List.{List}
 use Prim.Native.Nat.{ℕ}
 use contract.Lifetimes.{Lfts}
-use denote.Ref.{RefT, now}
+use denote.Ref.{now}
 use Rattle.records.specs.Laid.{Laid, Moved}
 use Rattle.records.proofs.«next_record».Reads as «next_record»
 use Rattle.records.proofs.part.Reads as Part
@@ -19,13 +19,13 @@ use Rattle.records.proofs.put_decimal.Reads as put_decimal
 use Rattle.determined.specs.Determines.{Determines, DeterminesLent, DeterminesPart}
 use Rattle.determined.proofs.Ways.{equal, part-equal}
 
-module _ {A E : Type 0} {lent : E → RefT (List ℕ)} where
+module _ {A E : Type 0} {lent : E → List ℕ} where
   -- text laid into a lent buffer, and the place behind it
-  pub lays : {text before : A → List ℕ} {at : A → ℕ} → DeterminesLent lent (λ (a : A) (r : ℕ) (e : E). Laid (text a) (before a) (at a) r (now (lent e)))
+  pub lays : {text before : A → List ℕ} {at : A → ℕ} → DeterminesLent lent (λ (a : A) (r : ℕ) (e : E). Laid (text a) (before a) (at a) r (lent e))
   lays = record { result = λ a r q e f h k. h .place ∙ sym (k .place); contents = λ a r q e f h k. h .bytes ∙ sym (k .bytes) }
 
   -- bytes moved to the front of a lent buffer, and how many
-  moves : {kept before : A → List ℕ} → DeterminesLent lent (λ (a : A) (r : ℕ) (e : E). Moved (kept a) (before a) r (now (lent e)))
+  moves : {kept before : A → List ℕ} → DeterminesLent lent (λ (a : A) (r : ℕ) (e : E). Moved (kept a) (before a) r (lent e))
   moves = record { result = λ a r q e f h k. h .count ∙ sym (k .count); contents = λ a r q e f h k. h .bytes ∙ sym (k .bytes) }
 
 -- `next_record(bytes, at, ended, first, second)`
@@ -45,29 +45,29 @@ pub number-at : (κs : Lfts 1) → Determines (number_at.Post κs)
 number-at κs = equal
 
 -- `move_to_front(bytes, from, to)`
-pub move-to-front : (κs : Lfts 1) → DeterminesLent (λ e. e .0) (move_to_front.Post κs)
+pub move-to-front : (κs : Lfts 1) → DeterminesLent (λ e. now (e .0)) (move_to_front.Post κs)
 move-to-front κs = moves
 
 -- `put_byte(out, at, byte)`
-pub put-byte : (κs : Lfts 1) → DeterminesLent (λ e. e .0) (put_byte.Post κs)
+pub put-byte : (κs : Lfts 1) → DeterminesLent (λ e. now (e .0)) (put_byte.Post κs)
 put-byte κs = lays
 
 -- `put_newline(out, at)`
-pub put-newline : (κs : Lfts 1) → DeterminesLent (λ e. e .0) (put_newline.Post κs)
+pub put-newline : (κs : Lfts 1) → DeterminesLent (λ e. now (e .0)) (put_newline.Post κs)
 put-newline κs = lays
 
 -- `put_word(out, at, word)`
-pub put-word : (κs : Lfts 2) → DeterminesLent (λ e. e .0) (put_word.Post κs)
+pub put-word : (κs : Lfts 2) → DeterminesLent (λ e. now (e .0)) (put_word.Post κs)
 put-word κs = lays
 
 -- `put_hex_byte(out, at, byte)`
-pub put-hex-byte : (κs : Lfts 1) → DeterminesLent (λ e. e .0) (put_hex_byte.Post κs)
+pub put-hex-byte : (κs : Lfts 1) → DeterminesLent (λ e. now (e .0)) (put_hex_byte.Post κs)
 put-hex-byte κs = lays
 
 -- `put_hex(out, at, bytes)`
-pub put-hex : (κs : Lfts 2) → DeterminesLent (λ e. e .0) (put_hex.Post κs)
+pub put-hex : (κs : Lfts 2) → DeterminesLent (λ e. now (e .0)) (put_hex.Post κs)
 put-hex κs = lays
 
 -- `put_decimal(out, at, n)`
-pub put-decimal : (κs : Lfts 1) → DeterminesLent (λ e. e .0) (put_decimal.Post κs)
+pub put-decimal : (κs : Lfts 1) → DeterminesLent (λ e. now (e .0)) (put_decimal.Post κs)
 put-decimal κs = lays

@@ -4,7 +4,7 @@ use mathlib.Core.Bool.{Bool}
 use mathlib.Core.List.{List}
 use Prim.Native.Nat.{ℕ}
 use contract.Lifetimes.{Lfts}
-use denote.Ref.{RefT, now}
+use denote.Ref.{now}
 use Rattle.model.specs.Said.{Outcome}
 use Rattle.caption.proofs.Answers.{saidRefusal-injective, saidAnswer-injective, saidCounted-injective, saidTruth-injective}
 use Rattle.caption.specs.declared.Answer.{Answer}
@@ -40,12 +40,12 @@ module _ {A E : Type 0} where
       }
 
   -- bytes written to a lent output, and how many
-  pub writes : {valid : A → Bool} {bytes before : A → List ℕ} {lent : E → RefT (List ℕ)} → DeterminesLent lent (λ (a : A) (r : Counted) (e : E). Writes (valid a) (bytes a) (before a) r (now (lent e)))
+  pub writes : {valid : A → Bool} {bytes before : A → List ℕ} {lent : E → List ℕ} → DeterminesLent lent (λ (a : A) (r : Counted) (e : E). Writes (valid a) (bytes a) (before a) r (lent e))
   writes =
       record { result = λ a r q e f h k. saidCounted-injective r q (h .answer ∙ sym (k .answer)); contents = λ a r q e f h k. h .output ∙ sym (k .output) }
 
 -- `put_bytes(dst, at, src)`
-pub put-bytes : (κs : Lfts 2) → DeterminesLent (λ e. e .0) (put_bytes.Post κs)
+pub put-bytes : (κs : Lfts 2) → DeterminesLent (λ e. now (e .0)) (put_bytes.Post κs)
 put-bytes κs = filled
 
 -- `read_head(data, at)`
@@ -65,7 +65,7 @@ pub block-length : Determines (block_length.Post (tt {0}))
 block-length = equal
 
 -- `put_header(out, at, number, size)`
-pub put-header : (κs : Lfts 1) → DeterminesLent (λ e. e .0) (put_header.Post κs)
+pub put-header : (κs : Lfts 1) → DeterminesLent (λ e. now (e .0)) (put_header.Post κs)
 put-header κs = filled
 
 -- `Service::new(service_no)`
@@ -101,5 +101,5 @@ pub Service-parse : (κs : Lfts 1) → Determines (parse.Post κs)
 Service-parse κs = answers
 
 -- `service.write(out)`
-pub Service-write : (κs : Lfts 1) → DeterminesLent (λ e. e .1 .0) (write.Post κs)
+pub Service-write : (κs : Lfts 1) → DeterminesLent (λ e. now (e .1 .0)) (write.Post κs)
 Service-write κs = writes

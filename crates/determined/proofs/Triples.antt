@@ -3,7 +3,7 @@ use mathlib.Core.Path.{_≡_, sym, ap, _∙_}
 use mathlib.Core.List.{List}
 use Prim.Native.Nat.{ℕ}
 use contract.Lifetimes.{Lfts}
-use denote.Ref.{RefT, now}
+use denote.Ref.{now}
 use Rattle.triples.specs.Pairs.{Listing}
 use Rattle.triples.proofs.plan_of.Reads as plan_of
 use Rattle.triples.proofs.list_by.Reads as list_by
@@ -11,7 +11,7 @@ use Rattle.determined.specs.Determines.{Determines, DeterminesLent}
 use Rattle.determined.proofs.Ways.{equal}
 
 -- pairs laid into a lent list, and how many
-lists : {A E : Type 0} {list : A → Listing} {lent : E → RefT (List ℕ)} → DeterminesLent lent (λ (a : A) (r : ℕ) (e : E). record { count = r; places = now (lent e) } ≡ list a)
+lists : {A E : Type 0} {list : A → Listing} {lent : E → List ℕ} → DeterminesLent lent (λ (a : A) (r : ℕ) (e : E). record { count = r; places = lent e } ≡ list a)
 lists = record { result = λ a r q e f h k. ap (λ (x : Listing). x .count) (h ∙ sym k); contents = λ a r q e f h k. ap (λ (x : Listing). x .places) (h ∙ sym k) }
 
 -- `plan_of(frame)`
@@ -19,5 +19,5 @@ pub plan-of : (κs : Lfts 1) → Determines (plan_of.Post κs)
 plan-of κs = equal
 
 -- `list_by(lists, on, pairs, frame)`
-pub list-by : (κs : Lfts 2) → DeterminesLent (λ e. e .1 .1 .0) (list_by.Post κs)
+pub list-by : (κs : Lfts 2) → DeterminesLent (λ e. now (e .1 .1 .0)) (list_by.Post κs)
 list-by κs = lists

@@ -15,7 +15,7 @@ module _ {A R E : Type 0} where
 
 module _ {A E X : Type 0} {f : A → X} where
   -- what a lent place holds is given, and there is no result
-  pub filled : {lent : E → RefT X} → DeterminesLent lent (λ (a : A) (r : Unit {0}) (e : E). now (lent e) ≡ f a)
+  pub filled : {lent : E → X} → DeterminesLent lent (λ (a : A) (r : Unit {0}) (e : E). lent e ≡ f a)
   filled = record { result = λ a r q e f h k. refl; contents = λ a r q e f h k. h ∙ sym k }
 
   -- what a part holds is given

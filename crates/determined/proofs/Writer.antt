@@ -3,7 +3,7 @@ use mathlib.Core.Path.{_≡_, sym, _∙_}
 use mathlib.Core.List.{List}
 use Prim.Native.Nat.{ℕ}
 use contract.Lifetimes.{Lfts}
-use denote.Ref.{RefT, now}
+use denote.Ref.{now}
 use Rattle.model.specs.Said.{Said, Outcome}
 use Rattle.caption.proofs.Answers.{saidAnswer-injective, saidCounted-injective, saidTruth-injective}
 use Rattle.caption.specs.Answers.{saidCounted}
@@ -39,8 +39,8 @@ module _ {A E : Type 0} where
       }
 
   -- a frame in the lent output, its length and a state
-  writes-frame : {said : A → Said} {next : A → CCDataWriter} {out : A → List ℕ} {lent : E → RefT (List ℕ)}
-      → DeterminesLent lent (λ (a : A) (r : WriterCount) (e : E). (saidCounted (r .answer) ≡ said a) × ((r .writer ≡ next a) × (now (lent e) ≡ out a)))
+  writes-frame : {said : A → Said} {next : A → CCDataWriter} {out : A → List ℕ} {lent : E → List ℕ}
+      → DeterminesLent lent (λ (a : A) (r : WriterCount) (e : E). (saidCounted (r .answer) ≡ said a) × ((r .writer ≡ next a) × (lent e ≡ out a)))
   writes-frame =
       record {
         result = λ a r q e f h k. two (λ (x : Counted) (w : CCDataWriter). record { answer = x; writer = w })
@@ -93,5 +93,5 @@ pub CCDataWriter-buffered-packet-duration : Determines (buffered_packet_duration
 CCDataWriter-buffered-packet-duration = said saidMicros-injective
 
 -- `writer.write(rate, out)`
-pub CCDataWriter-write : (κs : Lfts 1) → DeterminesLent (λ e. e .1 .1 .0) (write.Post κs)
+pub CCDataWriter-write : (κs : Lfts 1) → DeterminesLent (λ e. now (e .1 .1 .0)) (write.Post κs)
 CCDataWriter-write κs = writes-frame

@@ -8,10 +8,10 @@ use denote.Ref.{RefT, now}
 pub record Determines {A R E : Type 0} (post : A → R → E → Type 0) : Type 0 where
   pub result : (a : A) (r q : R) (e f : E) → post a r e → post a q f → r ≡ q
 
--- and so is what a lent place holds in the end, where `lent` finds it among the parameters at exit
-pub record DeterminesLent {A R E X : Type 0} (lent : E → RefT X) (post : A → R → E → Type 0) : Type 0 where
+-- and so are "the final contents of everything lent", which `lent` finds among the parameters at exit
+pub record DeterminesLent {A R E X : Type 0} (lent : E → X) (post : A → R → E → Type 0) : Type 0 where
   pub result : (a : A) (r q : R) (e f : E) → post a r e → post a q f → r ≡ q
-  pub contents : (a : A) (r q : R) (e f : E) → post a r e → post a q f → now (lent e) ≡ now (lent f)
+  pub contents : (a : A) (r q : R) (e f : E) → post a r e → post a q f → lent e ≡ lent f
 
 -- a result that is a part of the caller's own bytes: what the part holds
 pub record DeterminesPart {A E X : Type 0} (post : A → RefT X → E → Type 0) : Type 0 where
