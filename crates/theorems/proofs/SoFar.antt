@@ -48,6 +48,7 @@ record Begins (w : CCDataWriter) (frames : List (List ℕ)) (accepted : Items) (
   answers : o .answers ≡ replicate (length frames) (said.accepted [])
   begins : SoFar w (itemsRead o) accepted
 
+-- whatever was called
 begins-by : {w₀ w : CCDataWriter} {frames : List (List ℕ)} {accepted : Items} → NewWriter w₀ → (c : Calls w₀ frames accepted w) → Padded c
     → Begins w frames accepted (readFrames frames (turn608On freshDemux))
 unfolding others
@@ -67,7 +68,8 @@ begins-by {w} {frames} {accepted} new c padded =
       };
     })
 
--- "fed every frame and emptied after each" while the multiplexer is still in use
+-- Fed every frame so far and emptied after each, while the multiplexer is still in use, a demultiplexer has refused nothing; and what was accepted
+-- is what it has given, and then what is still there.
 pub so-far : {w₀ w : CCDataWriter} {p₀ p : CCDataParser} {frames : List (List ℕ)} {accepted given : Items} {on : ParserAnswer} {refused : List Refusal}
     → NewWriter w₀ → (c : Calls w₀ frames accepted w) → Padded c
     → NewParser p₀ → HandleCea608 p₀ on → Feeds (on .parser) frames refused given p

@@ -51,6 +51,7 @@ record Ready (on : ParserAnswer) : Type 0 where
   sound : kept.Sound (on .parser)
   means : parser.means (on .parser) ≡ turn608On freshDemux
 
+-- from the contracts
 ready : (p : CCDataParser) (on : ParserAnswer) → NewParser p → HandleCea608 p on → Ready on
 ready p on a h =
     let e : p ≡ parser-fresh.fresh = a in
