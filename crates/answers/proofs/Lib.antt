@@ -1,3 +1,4 @@
 pub mod Parts
 pub mod Measured
 pub mod Blocks
+pub mod Steps

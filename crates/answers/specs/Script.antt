@@ -9,21 +9,16 @@ use Rattle.model.specs.Block.{Block, blockLength, blockRoom}
 use Rattle.model.specs.Packet.{Packet, packetLength, packetRoom}
 use Rattle.model.specs.Duration.{field1Duration, field2Duration, packetDuration}
 use Rattle.caption.specs.Answers.{saidRefusal}
-use Rattle.caption.specs.Pairs.{cea608Of}
-use Rattle.caption.specs.declared.Answer.{Answer}
-use Rattle.caption.specs.declared.Answer.the-variants as answer
 use Rattle.caption.specs.declared.Counted.{Counted}
 use Rattle.caption.specs.declared.Counted.the-variants as counted
 use Rattle.service.specs.declared.Service.{Service}
 use Rattle.service.specs.Service.{blockOf, validService}
 use Rattle.packet.specs.declared.DTVCCPacket.{DTVCCPacket}
 use Rattle.packet.specs.Packet.{packetOf, validDTVCC}
-use Rattle.parser.specs.declared.Item.{Item}
-use Rattle.parser.specs.declared.Item.the-variants as item
 use Rattle.writer.specs.declared.CCDataWriter.{CCDataWriter}
 use Rattle.writer.specs.Writer.{means, validWriter}
-use Rattle.records.specs.Text.{word}
-use Rattle.lines.specs.Lines.{valueText, valuesText, runText, blockText, answerText, pairText}
+use Rattle.records.specs.Text.{word, decimal, hex}
+use Rattle.lines.specs.Lines.{valueText, valuesText, runText, blockText, answerText}
 
 -- an answer, on a line of its own
 unfoldable pub answerLine : Said → List ℕ
@@ -68,9 +63,9 @@ together ns (counted.Count n) = accepted (ns ++ (n ∷ []))
 together ns (counted.Refused why) = saidRefusal why
 
 -- "number, payload" of a block that was read
-unfoldable pub readBlockLine : Answer → Service → List ℕ
-readBlockLine answer.Accepted s = word "ok" ++ valueText (s .number) ++ runText (blockOf s .payload) ++ word "\n"
-readBlockLine (answer.Refused why) s = answerLine (saidRefusal why)
+unfoldable pub readBlockLine : Said → Service → List ℕ
+readBlockLine s b =
+    cond (eqb (s .number) 0) (word "ok" ++ valueText (b .number) ++ runText (blockOf b .payload) ++ word "\n") (answerLine s)
 
 -- "`number:payload` for each block"
 unfoldable pub blocksText : List Block → List ℕ
@@ -86,13 +81,14 @@ unfoldable pub heldText : DTVCCPacket → List ℕ
 heldText p = valueText (p .«seq_no») ++ blocksText (blocksIn p)
 
 -- the same of a packet that was read
-unfoldable pub readPacketLine : Answer → DTVCCPacket → List ℕ
-readPacketLine answer.Accepted p = word "ok" ++ heldText p ++ word "\n"
-readPacketLine (answer.Refused why) p = answerLine (saidRefusal why)
+unfoldable pub readPacketLine : Said → DTVCCPacket → List ℕ
+readPacketLine s p = cond (eqb (s .number) 0) (word "ok" ++ heldText p ++ word "\n") (answerLine s)
 
--- "`field1 942C`, `field2 942C`, `packet` with what `p` prints, or `none`"
-unfoldable pub itemLine : Item → DTVCCPacket → List ℕ
-itemLine (item.Pair x) p = word "ok " ++ pairText (cea608Of x) ++ word "\n"
-itemLine item.Packet p = word "ok packet" ++ heldText p ++ word "\n"
-itemLine item.Nothing p = word "ok none\n"
-itemLine (item.Refused why) p = answerLine (saidRefusal why)
+-- "`field1 942C`, `field2 942C`, `packet` with what `p` prints, or `none`": an item is told by 1 or 2 and two bytes for a pair of that field,
+-- by 3 for a packet, and by nothing where none is left
+unfoldable pub itemText : List ℕ → DTVCCPacket → List ℕ
+itemText [] p = word "none"
+itemText (k ∷ bs) p = cond (eqb k 3) (word "packet" ++ heldText p) (word "field" ++ decimal k ++ word " " ++ hex bs)
+
+unfoldable pub itemLine : Said → DTVCCPacket → List ℕ
+itemLine s p = cond (eqb (s .number) 0) (word "ok " ++ itemText (s .values) p ++ word "\n") (answerLine s)

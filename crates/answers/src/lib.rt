@@ -6,6 +6,7 @@ ghost use Prim.Native.Nat.{ℕ};
 ghost use Rattle.model.specs.Said.{accepted};
 ghost use Rattle.caption.specs.Answers.{saidRefusal, saidAnswer, saidCounted, saidTruth};
 ghost use Rattle.writer.specs.Calls.{saidMicros};
+ghost use Rattle.parser.specs.Items.{saidItem};
 ghost use Rattle.records.specs.Laid.{Laid};
 ghost use Rattle.records.specs.Text.{word};
 ghost use Rattle.service.specs.Service.{blockOf};
@@ -182,7 +183,7 @@ pub fn put_durations(out: &mut [u8], at: usize, writer: CCDataWriter) -> usize
 
 // A block that was read: its number and its payload.
 pub fn put_block_line(out: &mut [u8], at: usize, answer: Answer, service: Service) -> usize
-    ensures { λ r. ⌜ Laid (readBlockLine answer service) (now (out .entry)) at r (now (out .exit)) ⌝ }
+    ensures { λ r. ⌜ Laid (readBlockLine (saidAnswer answer) service) (now (out .entry)) at r (now (out .exit)) ⌝ }
 {
     match answer {
         Answer::Accepted => {
@@ -242,7 +243,7 @@ fn put_packet(out: &mut [u8], at: usize, packet: DTVCCPacket) -> usize
 
 // A packet that was read.
 pub fn put_packet_line(out: &mut [u8], at: usize, answer: Answer, packet: DTVCCPacket) -> usize
-    ensures { λ r. ⌜ Laid (readPacketLine answer packet) (now (out .entry)) at r (now (out .exit)) ⌝ }
+    ensures { λ r. ⌜ Laid (readPacketLine (saidAnswer answer) packet) (now (out .entry)) at r (now (out .exit)) ⌝ }
 {
     match answer {
         Answer::Accepted => {
@@ -256,7 +257,7 @@ pub fn put_packet_line(out: &mut [u8], at: usize, answer: Answer, packet: DTVCCP
 
 // An item that was drawn, and the packet beside it.
 pub fn put_item_line(out: &mut [u8], at: usize, item: Item, packet: DTVCCPacket) -> usize
-    ensures { λ r. ⌜ Laid (itemLine item packet) (now (out .entry)) at r (now (out .exit)) ⌝ }
+    ensures { λ r. ⌜ Laid (itemLine (saidItem item) packet) (now (out .entry)) at r (now (out .exit)) ⌝ }
 {
     match item {
         Item::Pair(pair) => {

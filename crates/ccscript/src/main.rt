@@ -3,18 +3,20 @@
 // input's length and cut.
 ghost use Prim.Native.Nat.{_≤_};
 ghost use lib.ListN.{length};
-use caption::Answer;
 use caption::Cea608;
 use caption::Framerate;
 use libc::STDIN_FILENO;
 use libc::STDOUT_FILENO;
+use machines::OnParser;
+use machines::OnWriter;
 use packet::DTVCCPacket;
 use parser::CCDataParser;
 use records::Found;
 use records::byte_at;
 use records::part;
 use service::Service;
-use turns::PairQueue;
+use values::OnBlock;
+use values::OnPacket;
 use writer::CCDataWriter;
 
 // A line has at most 31 bytes, and behind them either the hex of 255 bytes or 63 blocks of 127 bytes in all: below 600 bytes.
@@ -45,30 +47,6 @@ struct Machine {
 struct Stepped {
     laid: usize,
     machine: Machine,
-}
-
-// The same of an operation on the block,
-struct OnBlock {
-    laid: usize,
-    s: Service,
-}
-
-// on the packet,
-struct OnPacket {
-    laid: usize,
-    p: DTVCCPacket,
-}
-
-// on the demultiplexer,
-struct OnParser {
-    laid: usize,
-    r: CCDataParser,
-}
-
-// and on the multiplexer.
-struct OnWriter {
-    laid: usize,
-    w: CCDataWriter,
 }
 
 // The place reached in the buffer, the records so far, the bytes of output that wait, and what the operations left.
@@ -106,134 +84,41 @@ fn with_room(out: &[u8], at: usize) -> usize {
     0
 }
 
-// An operation whose answer tells whether the block becomes another.
-fn block_by(out: &mut [u8], at: usize, before: Service, read: service::ServiceAnswer) -> OnBlock {
-    let answer = read.answer;
-    let laid = answers::put_answer_line(out, at, answer);
-    if let Answer::Accepted = answer {
-        let s = read.service;
-        return OnBlock { laid, s };
-    }
-    OnBlock { laid, s: before }
-}
-
-// d: a block read out of bytes.
-fn read_block(out: &mut [u8], at: usize, before: Service, bytes: &[u8]) -> OnBlock {
-    let read = Service::parse(bytes);
-    let answer = read.answer;
-    let s = read.service;
-    let laid = answers::put_block_line(out, at, answer, s);
-    if let Answer::Accepted = answer {
-        return OnBlock { laid, s };
-    }
-    OnBlock { laid, s: before }
-}
-
-// The block written to a lent output, and all of the output told.
-fn tell_block(out: &mut [u8], at: usize, s: Service, lent: &mut [u8]) -> usize {
-    let counted = s.write(lent);
-    answers::put_lent_line(out, at, counted, lent)
-}
-
 // e: the block written to an output of `len` bytes.
-fn write_block(out: &mut [u8], at: usize, s: Service, len: u8) -> OnBlock {
+fn write_block(out: &mut [u8], at: usize, service: Service, len: u8) -> OnBlock {
     let mut lent = [0xA5u8; 255];
     let end = len as usize;
-    let laid = tell_block(out, at, s, &mut lent[0..end]);
-    OnBlock { laid, s }
-}
-
-// B: the two fields set, whatever they break.
-fn set_block(out: &mut [u8], at: usize, before: Service, number: u8, len: u8) -> OnBlock {
-    let mut s = before;
-    s.number = number;
-    s.len = len as usize;
-    let laid = answers::put_ok_line(out, at);
-    OnBlock { laid, s }
+    let laid = values::tell_block(out, at, service, &mut lent[0..end]);
+    OnBlock { laid, service }
 }
 
 // The operations on the block.
-fn on_block(out: &mut [u8], at: usize, s: Service, op: u8, args: &[u8]) -> OnBlock {
+fn on_block(out: &mut [u8], at: usize, service: Service, op: u8, args: &[u8]) -> OnBlock {
     let first = byte_at(args, 0);
     if op == b'b' {
-        return block_by(out, at, s, Service::new(first));
+        return values::new_block(out, at, service, first);
     }
     if op == b'c' {
-        return block_by(out, at, s, s.push_code(args));
+        return values::push_to_block(out, at, service, args);
     }
     if op == b'd' {
-        return read_block(out, at, s, args);
+        return values::read_block(out, at, service, args);
     }
     if op == b'B' {
-        return set_block(out, at, s, first, byte_at(args, 1));
+        return values::set_block(out, at, service, first, byte_at(args, 1));
     }
     if op == b'e' {
-        return write_block(out, at, s, first);
+        return write_block(out, at, service, first);
     }
     if op == b'm' {
-        let laid = answers::put_block_measures(out, at, s);
-        return OnBlock { laid, s };
+        let laid = answers::put_block_measures(out, at, service);
+        return OnBlock { laid, service };
     }
     let laid = answers::put_run_line(out, at, service::payload_of(args));
-    OnBlock { laid, s }
+    OnBlock { laid, service }
 }
 
-// An operation whose answer tells whether the packet becomes another.
-fn packet_by(
-    out: &mut [u8],
-    at: usize,
-    before: DTVCCPacket,
-    read: packet::PacketAnswer,
-) -> OnPacket {
-    let answer = read.answer;
-    let laid = answers::put_answer_line(out, at, answer);
-    if let Answer::Accepted = answer {
-        let p = read.packet;
-        return OnPacket { laid, p };
-    }
-    OnPacket { laid, p: before }
-}
-
-// p and t: a packet read out of bytes.
-fn packet_read(
-    out: &mut [u8],
-    at: usize,
-    before: DTVCCPacket,
-    read: packet::PacketAnswer,
-) -> OnPacket {
-    let answer = read.answer;
-    let p = read.packet;
-    let laid = answers::put_packet_line(out, at, answer, p);
-    if let Answer::Accepted = answer {
-        return OnPacket { laid, p };
-    }
-    OnPacket { laid, p: before }
-}
-
-// The packet written to a lent output, and all of the output told.
-fn tell_packet(out: &mut [u8], at: usize, p: DTVCCPacket, lent: &mut [u8]) -> usize {
-    let counted = p.write(lent);
-    answers::put_lent_line(out, at, counted, lent)
-}
-
-// o: the packet written to an output of `len` bytes.
-fn write_packet(out: &mut [u8], at: usize, p: DTVCCPacket, len: u8) -> OnPacket {
-    let mut lent = [0xA5u8; 255];
-    let end = len as usize;
-    let laid = tell_packet(out, at, p, &mut lent[0..end]);
-    OnPacket { laid, p }
-}
-
-// K: the two fields set, whatever they break.
-fn set_packet(out: &mut [u8], at: usize, before: DTVCCPacket, sequence: u8, count: u8) -> OnPacket {
-    let mut p = before;
-    p.seq_no = sequence;
-    p.count = count as usize;
-    let laid = answers::put_ok_line(out, at);
-    OnPacket { laid, p }
-}
-
-// The operations that push to the packet, and those that make a new one.
+// The operations that push to the packet, and the one that makes it new.
 fn push_to_packet(
     out: &mut [u8],
     at: usize,
@@ -244,156 +129,64 @@ fn push_to_packet(
 ) -> OnPacket {
     let first = byte_at(args, 0);
     if op == b'k' {
-        return packet_by(out, at, p, DTVCCPacket::new(first));
+        return values::new_packet(out, at, p, first);
     }
     if op == b'v' {
-        return packet_by(out, at, p, p.push_service(s));
+        return values::push_block(out, at, p, s);
     }
     let run = part(args, 1, args.len());
     if op == b'a' {
-        return packet_by(out, at, p, p.push_code(first, run));
+        return values::push_run(out, at, p, first, run);
     }
-    packet_by(out, at, p, p.push_code_into_single_service(first, run))
+    values::push_single(out, at, p, first, run)
+}
+
+// o: the packet written to an output of `len` bytes.
+fn write_packet(out: &mut [u8], at: usize, packet: DTVCCPacket, len: u8) -> OnPacket {
+    let mut lent = [0xA5u8; 255];
+    let end = len as usize;
+    let laid = values::tell_packet(out, at, packet, &mut lent[0..end]);
+    OnPacket { laid, packet }
 }
 
 // The other operations on the packet.
-fn on_packet(out: &mut [u8], at: usize, p: DTVCCPacket, op: u8, args: &[u8]) -> OnPacket {
+fn on_packet(out: &mut [u8], at: usize, packet: DTVCCPacket, op: u8, args: &[u8]) -> OnPacket {
     let first = byte_at(args, 0);
     if op == b'p' {
-        return packet_read(out, at, p, DTVCCPacket::parse(args));
+        return values::read_plain(out, at, packet, args);
     }
     if op == b't' {
-        return packet_read(out, at, p, DTVCCPacket::parse_tidy(args));
+        return values::read_tidily(out, at, packet, args);
     }
     if op == b'K' {
-        return set_packet(out, at, p, first, byte_at(args, 1));
+        return values::set_packet(out, at, packet, first, byte_at(args, 1));
     }
     if op == b'o' {
-        return write_packet(out, at, p, first);
+        return write_packet(out, at, packet, first);
     }
-    let laid = answers::put_packet_measures(out, at, p);
-    OnPacket { laid, p }
-}
-
-// An operation that leaves the demultiplexer beside its answer.
-fn parser_by(out: &mut [u8], at: usize, done: parser::ParserAnswer) -> OnParser {
-    let answer = done.answer;
-    let r = done.parser;
-    let laid = answers::put_answer_line(out, at, answer);
-    OnParser { laid, r }
-}
-
-// n: one item drawn.
-fn draw(out: &mut [u8], at: usize, before: CCDataParser) -> OnParser {
-    let drawn = before.draw();
-    let item = drawn.item;
-    let packet = drawn.packet;
-    let r = drawn.parser;
-    let laid = answers::put_item_line(out, at, item, packet);
-    OnParser { laid, r }
-}
-
-// R: a fresh one.
-fn new_parser(out: &mut [u8], at: usize) -> OnParser {
-    let r = CCDataParser::new();
-    let laid = answers::put_ok_line(out, at);
-    OnParser { laid, r }
-}
-
-// D: the three counts set, whatever they break.
-fn set_parser(out: &mut [u8], at: usize, before: CCDataParser, args: &[u8]) -> OnParser {
-    let mut r = before;
-    r.pair_count = byte_at(args, 0) as usize;
-    r.pending_len = byte_at(args, 1) as usize;
-    r.waiting_count = byte_at(args, 2) as usize;
-    let laid = answers::put_ok_line(out, at);
-    OnParser { laid, r }
+    let laid = answers::put_packet_measures(out, at, packet);
+    OnPacket { laid, packet }
 }
 
 // The operations on the demultiplexer.
 fn on_parser(out: &mut [u8], at: usize, r: CCDataParser, op: u8, args: &[u8]) -> OnParser {
     if op == b'f' {
-        return parser_by(out, at, r.push(args));
+        return machines::push_frame(out, at, r, args);
     }
     if op == b'n' {
-        return draw(out, at, r);
+        return machines::draw(out, at, r);
     }
     if op == b'H' {
-        return parser_by(out, at, r.handle_cea608());
+        return machines::turn_on(out, at, r);
     }
     if op == b'F' {
-        return parser_by(out, at, r.flush());
+        return machines::flush_parser(out, at, r);
     }
     if op == b'R' {
-        return new_parser(out, at);
+        return machines::new_parser(out, at);
     }
-    set_parser(out, at, r, args)
-}
-
-// An operation that leaves the multiplexer beside its answer.
-fn writer_by(out: &mut [u8], at: usize, done: writer::WriterAnswer) -> OnWriter {
-    let answer = done.answer;
-    let w = done.writer;
-    let laid = answers::put_answer_line(out, at, answer);
-    OnWriter { laid, w }
-}
-
-// S: the two switches, by the two lowest bits.
-fn switch(out: &mut [u8], at: usize, before: CCDataWriter, bits: u8) -> OnWriter {
-    let first = before.set_output_cea608_padding(bits % 2 == 1);
-    let w = first.writer;
-    writer_by(out, at, w.set_output_padding(bits / 2 % 2 == 1))
-}
-
-// A frame written to a lent output, and all of the output told.
-fn tell_frame(
-    out: &mut [u8],
-    at: usize,
-    before: CCDataWriter,
-    rate: Framerate,
-    lent: &mut [u8],
-) -> OnWriter {
-    let done = before.write(rate, lent);
-    let counted = done.answer;
-    let w = done.writer;
-    let laid = answers::put_lent_line(out, at, counted, lent);
-    OnWriter { laid, w }
-}
-
-// w: a frame written to an output of as many bytes as the last argument says.
-fn write_frame(out: &mut [u8], at: usize, before: CCDataWriter, args: &[u8]) -> OnWriter {
-    let rate = Framerate::new(records::number_at(args, 0), records::number_at(args, 4));
-    let mut lent = [0xA5u8; 255];
-    let end = byte_at(args, 8) as usize;
-    tell_frame(out, at, before, rate, &mut lent[0..end])
-}
-
-// u: the three durations.
-fn durations(out: &mut [u8], at: usize, w: CCDataWriter) -> OnWriter {
-    let laid = answers::put_durations(out, at, w);
-    OnWriter { laid, w }
-}
-
-// W: a fresh one.
-fn new_writer(out: &mut [u8], at: usize) -> OnWriter {
-    let w = CCDataWriter::new();
-    let laid = answers::put_ok_line(out, at);
-    OnWriter { laid, w }
-}
-
-// Q: the four counts set, whatever they break.
-fn set_writer(out: &mut [u8], at: usize, before: CCDataWriter, args: &[u8]) -> OnWriter {
-    let mut field1 = before.field1;
-    field1.count = byte_at(args, 2) as usize;
-    let mut field2 = before.field2;
-    field2.count = byte_at(args, 3) as usize;
-    let mut w = before;
-    w.packet_count = byte_at(args, 0) as usize;
-    w.sent = byte_at(args, 1) as usize;
-    w.field1 = field1;
-    w.field2 = field2;
-    let laid = answers::put_ok_line(out, at);
-    OnWriter { laid, w }
+    let pairs = byte_at(args, 0);
+    machines::set_parser(out, at, r, pairs, byte_at(args, 1), byte_at(args, 2))
 }
 
 // The operations that push to the multiplexer.
@@ -406,34 +199,59 @@ fn push_to_writer(
     args: &[u8],
 ) -> OnWriter {
     if op == b'q' {
-        return writer_by(out, at, w.push_packet(p));
+        return machines::push_packet(out, at, w, p);
     }
     let a = byte_at(args, 0);
     let b = byte_at(args, 1);
     if op == b'1' {
-        return writer_by(out, at, w.push_cea608(Cea608::Field1(a, b)));
+        return machines::push_pair(out, at, w, Cea608::Field1(a, b));
     }
-    writer_by(out, at, w.push_cea608(Cea608::Field2(a, b)))
+    machines::push_pair(out, at, w, Cea608::Field2(a, b))
+}
+
+// w: a frame written to an output of as many bytes as the last argument says.
+fn write_frame(out: &mut [u8], at: usize, w: CCDataWriter, args: &[u8]) -> OnWriter {
+    let rate = Framerate::new(records::number_at(args, 0), records::number_at(args, 4));
+    let mut lent = [0xA5u8; 255];
+    let end = byte_at(args, 8) as usize;
+    machines::tell_frame(out, at, w, rate, &mut lent[0..end])
+}
+
+// Q: the four counts.
+fn set_writer(out: &mut [u8], at: usize, w: CCDataWriter, args: &[u8]) -> OnWriter {
+    let packets = byte_at(args, 0);
+    let sent = byte_at(args, 1);
+    machines::set_writer(
+        out,
+        at,
+        w,
+        packets,
+        sent,
+        byte_at(args, 2),
+        byte_at(args, 3),
+    )
 }
 
 // The other operations on the multiplexer.
-fn on_writer(out: &mut [u8], at: usize, w: CCDataWriter, op: u8, args: &[u8]) -> OnWriter {
+fn on_writer(out: &mut [u8], at: usize, writer: CCDataWriter, op: u8, args: &[u8]) -> OnWriter {
     if op == b'w' {
-        return write_frame(out, at, w, args);
+        return write_frame(out, at, writer, args);
     }
     if op == b'u' {
-        return durations(out, at, w);
+        let laid = answers::put_durations(out, at, writer);
+        return OnWriter { laid, writer };
     }
     if op == b'S' {
-        return switch(out, at, w, byte_at(args, 0));
+        let bits = byte_at(args, 0);
+        return machines::switch(out, at, writer, bits % 2 == 1, bits / 2 % 2 == 1);
     }
     if op == b'x' {
-        return writer_by(out, at, w.flush());
+        return machines::flush_writer(out, at, writer);
     }
     if op == b'W' {
-        return new_writer(out, at);
+        return machines::new_writer(out, at);
     }
-    set_writer(out, at, w, args)
+    set_writer(out, at, writer, args)
 }
 
 // What an operation works on.
@@ -510,7 +328,7 @@ fn kind_of(op: u8, n: usize) -> Kind {
 
 // What an operation on the block leaves of all,
 fn left_block(m: Machine, done: OnBlock) -> Stepped {
-    let s = done.s;
+    let s = done.service;
     let mut machine = m;
     machine.s = s;
     Stepped {
@@ -521,7 +339,7 @@ fn left_block(m: Machine, done: OnBlock) -> Stepped {
 
 // one on the packet,
 fn left_packet(m: Machine, done: OnPacket) -> Stepped {
-    let p = done.p;
+    let p = done.packet;
     let mut machine = m;
     machine.p = p;
     Stepped {
@@ -532,7 +350,7 @@ fn left_packet(m: Machine, done: OnPacket) -> Stepped {
 
 // one on the demultiplexer,
 fn left_parser(m: Machine, done: OnParser) -> Stepped {
-    let r = done.r;
+    let r = done.parser;
     let mut machine = m;
     machine.r = r;
     Stepped {
@@ -543,7 +361,7 @@ fn left_parser(m: Machine, done: OnParser) -> Stepped {
 
 // and one on the multiplexer.
 fn left_writer(m: Machine, done: OnWriter) -> Stepped {
-    let w = done.w;
+    let w = done.writer;
     let mut machine = m;
     machine.w = w;
     Stepped {

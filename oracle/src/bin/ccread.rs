@@ -18,11 +18,7 @@ fn print_items(parser: &mut CCDataParser, out: &mut impl Write) -> std::io::Resu
     while let Some(packet) = parser.pop_packet() {
         writeln!(out, "packet {}", packet.sequence_no())?;
         for service in packet.services() {
-            let payload: Vec<u8> = service
-                .codes()
-                .iter()
-                .flat_map(|code| code.bytes().to_vec())
-                .collect();
+            let payload: Vec<u8> = service.codes().iter().flat_map(|code| code.bytes().to_vec()).collect();
             writeln!(out, "block {} {}", service.number(), hex(&payload))?;
         }
     }
@@ -55,9 +51,7 @@ fn main() -> std::io::Result<()> {
                 print_items(&mut parser, &mut out)?;
             }
             Err(ParserError::LengthMismatch { .. }) => writeln!(out, "frame {records} refused 1")?,
-            Err(ParserError::Cea608AfterCea708 { .. }) => {
-                writeln!(out, "frame {records} refused 2")?
-            }
+            Err(ParserError::Cea608AfterCea708 { .. }) => writeln!(out, "frame {records} refused 2")?,
         }
         at += 3 + frame.len();
         records += 1;

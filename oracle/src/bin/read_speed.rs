@@ -16,9 +16,7 @@ fn packet(n: usize) -> DTVCCPacket {
     for number in 1..4u8 {
         let run: Vec<u8> = (0..12).map(|i| 0x20 + ((n + i) % 64) as u8).collect();
         let mut service = Service::new(number);
-        service
-            .push_code(&tables::Code::new(&run).unwrap())
-            .unwrap();
+        service.push_code(&tables::Code::new(&run).unwrap()).unwrap();
         packet.push_service(service).unwrap();
     }
     packet

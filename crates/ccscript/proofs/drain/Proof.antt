@@ -5,7 +5,6 @@ use lib.ListN.{length}
 use borrow.Author.Needs.{needs}
 use Rattle.ccscript.proofs.drain.Statement.{statement}
 use Rattle.ccscript.proofs.drain.Tie as tie
-use Rattle.std.proofs.num.wrapping_add_u64.Reads as wrapping-add-u64-reads
 
 abbrev Inv-loop : tie.InvT-loop
 Inv-loop buf ended out₀ first at₀ laid₀ records₀ machine₀ n₀ out at laid records machine n = (n ≤ 65536) × (length out ≡ length out₀)
