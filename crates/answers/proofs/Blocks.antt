@@ -20,9 +20,10 @@ use Rattle.service.proofs.Kept.{laid-means}
 use Rattle.packet.specs.declared.DTVCCPacket.{DTVCCPacket}
 use Rattle.packet.specs.declared.Place.the-variants.{Here, Nothing, Refused}
 use Rattle.packet.specs.declared.ServiceAt.{ServiceAt}
-use Rattle.packet.specs.Packet.{Entry, entriesOf, cut, goodEntry, goodEntries, packetOf, validDTVCC}
+use Rattle.entries.specs.Fields.{Entry, cut, goodEntry, goodEntries}
+use Rattle.packet.specs.Packet.{entriesOf, packetOf, validDTVCC}
 use Rattle.packet.specs.Place.{Placed, blocksAt, firstOf, saidPlace}
-use Rattle.packet.proofs.Entries.{good-facts, cut-length, entries-length}
+use Rattle.entries.proofs.Entries.{good-facts, cut-length, entries-length}
 use Rattle.packet.proofs.Holds.{Within, within-facts}
 use Rattle.records.specs.Laid.{Laid}
 use Rattle.records.proofs.Layings.{laid-within, laid-append}

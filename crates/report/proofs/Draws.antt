@@ -15,7 +15,7 @@ use Rattle.model.specs.Demux.{Demux, aPair, aPacket, noItem, closed}
 use Rattle.model.proofs.Cases.{both}
 use Rattle.model.proofs.Packets.{Valid, valid-facts, all-append}
 use Rattle.model.proofs.DemuxStates.{closed-valid}
-use Rattle.entries.specs.Fields.{validFields, goodEntries, lengthsOf, entries}
+use Rattle.entries.specs.Fields.{validAs, goodEntries, lengthsOf, entries}
 use Rattle.packet.specs.Packet.{packetOf, blank, laid, validDTVCC}
 use Rattle.packet.proofs.Keeps.{blank-places, laid-over}
 use Rattle.slots.specs.declared.Slot.{Slot}
@@ -107,7 +107,7 @@ item-lines (aPacket p) h = ap packetLines (laid-over blank blank-places p h .hol
 item-lines noItem h = refl
 
 beside-valid : (i : model.Item) → Holds i → validDTVCC (packetOfItem i) ≡ true
-unfolding validDTVCC validFields goodEntries lengthsOf entries
+unfolding validDTVCC validAs goodEntries lengthsOf entries
 beside-valid (aPair x) h = refl
 beside-valid (aPacket p) h = laid-over blank blank-places p h .valid
 beside-valid noItem h = refl
