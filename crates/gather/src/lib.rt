@@ -175,7 +175,7 @@ fn slot_good(slot: Slot) -> bool
 {
     let len = slot.len;
     let bytes = slot.bytes;
-    if 128 < len {
+    if MOST_PACKET < len {
         return false;
     }
     run_reads(&bytes, len)
