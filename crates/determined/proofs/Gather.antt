@@ -6,7 +6,7 @@ use contract.Lifetimes.{Lfts}
 use denote.Ref.{now}
 use Rattle.gather.specs.Gather.{Left, takenBy}
 use Rattle.gather.specs.declared.Gathered.{Gathered}
-use Rattle.gather.proofs.slots_good.Reads as slots_good
+use Rattle.gather.proofs.oldest.Reads as Oldest
 use Rattle.gather.proofs.pending_good.Reads as pending_good
 use Rattle.gather.proofs.gather_by.Reads as gather_by
 use Rattle.determined.specs.Determines.{Determines, DeterminesLent}
@@ -20,9 +20,9 @@ gatheredIn x = record { pending = x .pending; waiting = x .ring .count; slots = 
 gathers : {A E : Type 0} {left : A → Left} {lent : E → List ℕ} → DeterminesLent lent (λ (a : A) (r : Gathered) (e : E). takenBy r (lent e) ≡ left a)
 gathers = record { result = λ a r q e f h k. ap gatheredIn (h ∙ sym k); contents = λ a r q e f h k. ap (λ (x : Left). x .bytes) (h ∙ sym k) }
 
--- `slots_good(slots, first, n)`
-pub slots-good : Determines (slots_good.Post (tt {0}))
-slots-good = equal
+-- `oldest(slots, first, n)`
+pub oldest : Determines (Oldest.Post (tt {0}))
+oldest = equal
 
 -- `pending_good(bytes, len)`
 pub pending-good : (κs : Lfts 1) → Determines (pending_good.Post κs)

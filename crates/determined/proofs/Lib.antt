@@ -1,6 +1,9 @@
 pub mod Ways
 pub mod Caption
 pub mod Service
+pub mod Entries
+pub mod Blocks
+pub mod Pushes
 pub mod Packet
 pub mod Slots
 pub mod Triples
@@ -11,3 +14,7 @@ pub mod Turns
 pub mod Writer
 pub mod Records
 pub mod Lines
+pub mod Report
+pub mod Answers
+pub mod Values
+pub mod Machines

@@ -12,6 +12,7 @@ use Rattle.caption.specs.declared.Counted.{Counted}
 use Rattle.service.specs.Service.{Answers, Writes}
 use Rattle.service.specs.declared.Service.{Service}
 use Rattle.service.specs.declared.ServiceAnswer.{ServiceAnswer}
+use Rattle.service.proofs.lesser.Reads as Lesser
 use Rattle.service.proofs.put_bytes.Reads as put_bytes
 use Rattle.service.proofs.read_head.Reads as read_head
 use Rattle.service.proofs.short_of.Reads as short_of
@@ -43,6 +44,10 @@ module _ {A E : Type 0} where
   pub writes : {valid : A → Bool} {bytes before : A → List ℕ} {lent : E → List ℕ} → DeterminesLent lent (λ (a : A) (r : Counted) (e : E). Writes (valid a) (bytes a) (before a) r (lent e))
   writes =
       record { result = λ a r q e f h k. saidCounted-injective r q (h .answer ∙ sym (k .answer)); contents = λ a r q e f h k. h .output ∙ sym (k .output) }
+
+-- `lesser(a, b)`
+pub lesser : Determines (Lesser.Post (tt {0}))
+lesser = equal
 
 -- `put_bytes(dst, at, src)`
 pub put-bytes : (κs : Lfts 2) → DeterminesLent (λ e. now (e .0)) (put_bytes.Post κs)
