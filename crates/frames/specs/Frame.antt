@@ -24,7 +24,7 @@ fits f n = leb n 31 && leb (f .len) (95 - 3 * n)
 abbrev pub mark : ℕ → ℕ
 mark at = cond (eqb at 0) 0xFF 0xFE
 
--- n triples that carry bytes from `at` on
+-- "packet triples": n of them, with the bytes from `at` on
 unfoldable pub triplesAt : ℕ → ℕ → List ℕ → List Triple
 triplesAt zero at d = []
 triplesAt (suc n) at d = tri (mark at) (getD d at 0) (getD d (at + 1) 0) ∷ triplesAt n (at + 2) d
@@ -33,10 +33,10 @@ triplesAt (suc n) at d = tri (mark at) (getD d at 0) (getD d (at + 1) 0) ∷ tri
 unfoldable pub carries : ℕ → ℕ → Bool
 carries at n = leb at 128 && leb (2 * n) (128 - at)
 
--- "FA 00 00"
+-- "With output padding, FA 00 00 to the end."
 abbrev pub fillers : ℕ → List Triple
 fillers n = replicate n (tri 0xFA 0x00 0x00)
 
--- the frame's bytes at the front of a lent output; nothing where they do not fit
+-- the frame's bytes at the front of a lent output: "output bytes past the written length are unchanged". Nothing where they do not fit
 unfoldable pub emitted : Frame → List ℕ → List ℕ
 emitted f out = cond (leb (f .len) 95 && leb (f .len) (length out)) (take (f .len) (f .bytes) ++ drop (f .len) out) out

@@ -22,11 +22,11 @@ queueOf q = pairsOf (take (2 * q .count) (q .bytes))
 unfoldable pub slid : {A : Type 0} → ℕ → ℕ → List A → List A
 slid k m l = take m (drop k l) ++ drop m l
 
--- a pair in the first free place
+-- "64 places of two bytes each": a pair in the first that is free
 abbrev pub pushed : PairQueue → ℕ → ℕ → PairQueue
 pushed q a b = record { bytes = set (set (q .bytes) (2 * q .count) a) (2 * q .count + 1) b; count = q .count + 1 }
 
--- whether a pushed pair gets a place: there is one, and the pair is not the one that is dropped
+-- "Pushing pair 0x80,0x80 is accepted and dropped, even on a full queue": whether a pushed pair gets a place
 abbrev pub takes : PairQueue → ℕ → ℕ → Bool
 takes q a b = ltb (q .count) mostQueued && not (isNull (pair a b))
 

@@ -11,7 +11,7 @@ use Rattle.turns.specs.Queue.{queueOf, popped, downTo}
 use Rattle.turns.specs.declared.PairQueue.{PairQueue}
 use Rattle.turns.specs.declared.Turns.{Turns}
 
--- counts within their limits, and room for n triples
+-- "each field's queue is 64 places", "A frame is at most 95 bytes": counts within these limits, and room for n triples
 pub record Fits (t : Turns) (n : ℕ) : Type 0 where
   pub first : t .field1 .count ≤ 64
   pub second : t .field2 .count ≤ 64
@@ -41,7 +41,7 @@ triple1 pad q p =
 unfoldable pub triple2 : Bool → PairQueue → List Triple
 triple2 pad p = cond (ltb 0 (p .count)) (under 0xFD p) (cond pad (tri 0xF9 0x80 0x80 ∷ []) [])
 
--- one turn of field 1, and one of field 2
+-- one turn of field 1
 abbrev pub sent1 : Bool → Turns → Turns
 sent1 pad t = record { field1 = rest (t .field1); field2 = t .field2; «field2_next» = true; frame = appended (t .frame) (flat (triple1 pad (t .field1) (t .field2))) }
 
