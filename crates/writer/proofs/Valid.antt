@@ -1,6 +1,6 @@
 -- A state that passes its test is within its limits. Assumes nothing.
 use mathlib.Core.Path.{_≡_, refl, sym, ap, _∙_}
-use mathlib.Core.Bool.{Bool, true, false, cond, not, _&&_, _||_}
+use mathlib.Core.Bool.{Bool, true, false, cond, not, _&&_, _||_, true≢false}
 use mathlib.Core.List.{List, [], _∷_, _++_}
 use Prim.Native.Nat.{ℕ, zero, suc, _+_, _-_, _*_, _/_, _%_, _≤_, _<_}
 use native.Mathlib.Numerals.{add-one}
@@ -8,15 +8,14 @@ use native.Mathlib.Omega.{arith}
 use borrow.Author.Tests.{eq-eqb, ne-eqb, eqb-true, eqb-false, le-leb, lt-leb, leb-true, leb-false, lt-ltb, not-true}
 use lib.Dec.{eqb, leb, ltb}
 use lib.ListN.{length, take, drop, getD}
-use lib.Seq.{slice-cons, slice-empty, length-take-le, getD-take}
+use lib.Seq.{take-take, slice-cons, slice-empty, length-take-le, getD-take}
 use Rattle.model.specs.Packet.{Packet, packetLength, validPacket, writtenPacket}
 use Rattle.model.specs.Mux.{started}
 use Rattle.model.proofs.Cases.{by-test, both}
 use Rattle.model.proofs.Packets.{Valid, valid-facts, Shape, shape}
 use Rattle.model.proofs.Sends.{triples-written}
 use Rattle.slots.proofs.Decodes.{carried}
-use Rattle.turns.specs.Queue.{slid}
-use Rattle.turns.proofs.Queues.{Sized, slid-front}
+use Rattle.turns.proofs.Queues.{Sized}
 use Rattle.slots.specs.Slot.{noSlot, writtenLength, writtenBytes, slotPacket, writtenSlot, Carries}
 use Rattle.writer.specs.Slots.{allWritten, writtenIf, sendsWhole, validSending, Queued, Held}
 use Rattle.writer.specs.Writer.{validWriter, Ok}
@@ -44,6 +43,51 @@ module _ {r x : Bool} (e : r ≡ x) where
       passes : (b : Bool) → not b ≡ false → b ≡ true
       passes true z = refl
       passes false z = sym z
+
+-- no conjunction with what is false
+and-false : (x : Bool) → x && false ≡ false
+and-false true = refl
+and-false false = refl
+
+-- a conjunction with what is true
+and-true : (r : Bool) → r && true ≡ r
+and-true true = refl
+and-true false = refl
+
+-- what is false with less is false with more
+and-fails : (u v r : Bool) → u && v ≡ false → u && (v && r) ≡ false
+and-fails true true r e = absurd (true≢false e)
+and-fails true false r e = refl
+and-fails false v r e = refl
+
+-- the slots in front, and those behind
+all-apart : (k : ℕ) (l : List Slot) → allWritten l ≡ allWritten (take k l) && allWritten (drop k l)
+unfolding allWritten
+all-apart zero l = refl
+all-apart (suc k) [] = refl
+all-apart (suc k) (s ∷ l) = rw (all-apart k l) (sym (and-assoc (writtenSlot s) (allWritten (take k l)) (allWritten (drop k l))))
+  where
+    -- three tests, either way
+    and-assoc : (u v r : Bool) → (u && v) && r ≡ u && (v && r)
+    and-assoc true v r = refl
+    and-assoc false v r = refl
+
+-- the slots of the queue, one by one
+module _ (l : List Slot) (count : ℕ) (k : count ≤ length l) (i : ℕ) where
+  -- the slot at the head passes
+  pub written-next : i < count → writtenSlot (getD l i noSlot) ≡ true → allWritten (drop i (take count l)) ≡ allWritten (drop (i + 1) (take count l))
+  unfolding allWritten
+  written-next h e = rw (slice-cons i count l noSlot h k, add-one i, e)
+
+  -- it does not
+  pub written-not : i < count → writtenSlot (getD l i noSlot) ≡ false → allWritten (drop i (take count l)) ≡ false
+  unfolding allWritten
+  written-not h e = rw (slice-cons i count l noSlot h k, e)
+
+  -- none is left
+  pub written-all : count ≤ i → i ≤ count → allWritten (drop i (take count l)) ≡ true
+  unfolding allWritten
+  written-all h g = let e : i ≡ count = omega arith in rw (e, slice-empty count l)
 
 -- five tests, of which the last is over the others
 last-apart : (x y z u r : Bool) → x && (y && (z && (u && r))) ≡ (x && (y && (z && u))) && r
@@ -85,48 +129,26 @@ module _ (x : Bool) (l : List Slot) (n : ℕ) (places : length l ≡ 16) (few : 
   pub row-short : n ≤ 4 → x && fours ≡ x && allWritten (take n l)
   unfolding allWritten
   row-short h = let e : n - 4 ≡ 0 = omega arith in ap (λ (r : Bool). x && r) (sym (four-apart l n (omega arith) ∙ rw e (and-true fours)))
-    where
-      -- a conjunction with what is true
-      and-true : (r : Bool) → r && true ≡ r
-      and-true true = refl
-      and-true false = refl
 
-  module _ {q : Bool} (long : 4 < n) (others : q ≡ (x && allWritten (take (n - 4) (slid 4 (n - 4) l)))) where
-    -- the others are those that moved down
-    rest-is : take (n - 4) (slid 4 (n - 4) l) ≡ take (n - 4) (drop 4 l)
-    rest-is = slid-front noSlot 4 l (n - 4) (omega arith)
+  module _ {q : Bool} (long : 4 < n) (first : q ≡ (x && allWritten (take 4 l))) where
+    -- the first four, and the others
+    apart : allWritten (take n l) ≡ allWritten (take 4 l) && allWritten (drop 4 (take n l))
+    apart = all-apart 4 (take n l) ∙ rw (take-take 4 n l (omega arith))
 
-    -- one of the others is none
+    -- one of the first is none
     pub row-fails : q ≡ false → false ≡ x && allWritten (take n l)
     row-fails f =
-        let o : x && allWritten (take (n - 4) (drop 4 l)) ≡ false = rw rest-is at (sym others ∙ f) in
-        let a : allWritten (take n l) ≡ fours && allWritten (take (n - 4) (drop 4 l)) = four-apart l n (omega arith) in
-        sym (rw a (fails x fours (allWritten (take (n - 4) (drop 4 l))) o))
-      where
-        -- what is false with less is false with more
-        fails : (u v r : Bool) → u && r ≡ false → u && (v && r) ≡ false
-        fails true true r e = e
-        fails true false r e = refl
-        fails false v r e = refl
+        let o : x && allWritten (take 4 l) ≡ false = sym first ∙ f in
+        sym (rw apart (and-fails x (allWritten (take 4 l)) (allWritten (drop 4 (take n l))) o))
 
-    -- all the others are
-    pub row-rest : q ≡ true → x && fours ≡ x && allWritten (take n l)
-    row-rest t =
-        let o : allWritten (take (n - 4) (drop 4 l)) ≡ true = both x (allWritten (take (n - 4) (drop 4 l))) (rw rest-is at (sym others ∙ t)) .1 in
-        ap (λ (r : Bool). x && r) (sym (four-apart l n (omega arith) ∙ rw o (and-true fours)))
-      where
-        -- a conjunction with what is true
-        and-true : (r : Bool) → r && true ≡ r
-        and-true true = refl
-        and-true false = refl
+    -- the others decide
+    pub row-rest : {r : Bool} → q ≡ true → r ≡ allWritten (drop 4 (take n l)) → r ≡ x && allWritten (take n l)
+    row-rest t e =
+        let o = both x (allWritten (take 4 l)) (sym first ∙ t) in
+        e ∙ rw (apart, o .0, o .1)
 
 -- the packet being sent, by the tests on the way
 module _ (s : Slot) (sent : ℕ) where
-  -- no conjunction with what is false
-  and-false : (x : Bool) → x && false ≡ false
-  and-false true = refl
-  and-false false = refl
-
   -- a packet that is too long is none, and of one that is not too much has left
   pub not-sending : sendsWhole (s .len) sent ≡ false → validSending s sent ≡ false
   unfolding sendsWhole validSending writtenSlot
@@ -143,12 +165,7 @@ module _ (s : Slot) (sent : ℕ) where
       let t = both (leb (s .len) 128) (eqb (sent % 2) 0 && leb sent (writtenLength s)) e .1 in
       by-test (eqb (s .len) 0)
       (λ z. let y : s .len ≡ 0 = eqb-true (s .len) 0 z in rw (z, t, y))
-      (λ z. let y : ltb 0 (s .len) ≡ true = lt-ltb 0 (s .len) (omega (arith, eqb-false (s .len) 0 z)) in rw (z, t, y) (and-true (writtenSlot s)))
-    where
-      -- a conjunction with what is true
-      and-true : (r : Bool) → r ≡ r && true
-      and-true true = refl
-      and-true false = refl
+      (λ z. let y : ltb 0 (s .len) ≡ true = lt-ltb 0 (s .len) (omega (arith, eqb-false (s .len) 0 z)) in rw (z, t, y) (sym (and-true (writtenSlot s))))
 
   -- what passes the test is within the limits
   pub held-facts : validSending s sent ≡ true → Held s sent

@@ -30,7 +30,7 @@ use Rattle.writer.specs.declared.Placed.{Placed}
 use Rattle.writer.specs.declared.Micros.{Micros}
 use Rattle.writer.specs.declared.Micros.the-variants.{Of, Refused}
 
--- accepted, with the microseconds
+-- "Durations, in microseconds"
 abbrev pub saidMicros : Micros → Said
 saidMicros (Of n) = accepted (n ∷ [])
 saidMicros (Refused why) = saidRefusal why
@@ -40,7 +40,7 @@ pub record Answers (o : Outcome CCDataWriter) (old : CCDataWriter) (r : WriterAn
   pub answer : saidAnswer (r .answer) ≡ says o
   pub writer : r .writer ≡ after old o
 
--- "field 1 when fresh"
+-- a slot with nothing in it
 abbrev emptySlot : Slot
 emptySlot = record { len = 0; bytes = replicate 128 0 }
 
@@ -63,7 +63,7 @@ fresh =
       «field2_next» = false;
     }
 
--- the two switches
+-- the two "padding switches"
 abbrev pub withPadding : Bool → Bool → CCDataWriter → CCDataWriter
 withPadding a b w =
     record {
@@ -158,7 +158,7 @@ budgetsAt r = record { pairs = pairsAt (r .numer) (r .denom); triples = triplesA
 unfoldable pub frameLength : Framerate → CCDataWriter → ℕ
 frameLength r w = length (frameBytes (writeFrame (budgetsAt r) (means w) .frame))
 
--- a frame written to a lent output: 11, then 8, then 9
+-- a frame written to a lent output: "11 comes first, then 6, 7, 8, then the Rust's own, then 10; 9 is last."
 unfoldable pub written : Framerate → List ℕ → CCDataWriter → Outcome Written
 written r out w = checked (validWriter w) (writeAt (r .numer) (r .denom) out (means w))
 

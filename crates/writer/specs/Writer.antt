@@ -80,7 +80,7 @@ unmadeOf w answer =
       next = 0;
     }
 
--- the state with what a frame leaves of it: the packets begun have left the queue
+-- "places come free as items leave": the state with what a frame leaves of it, without the packets that were begun
 abbrev pub joined : CCDataWriter → Made → CCDataWriter
 joined w m =
     record {
@@ -128,7 +128,7 @@ pub record Builds (b : Budgets) (w : CCDataWriter) (m : Made) : Type 0 where
   pub writer : joined w m ≡ afterFrame b w
   pub few : m .next ≤ w .«packet_count»
 
--- "the lesser of pairs and max(queue 1, 2·queue 2)"
+-- "Turns this frame: pairs if 608 padding is on, else the lesser of pairs and max(queue 1, 2·queue 2)."
 abbrev pub turnsOf : Bool → ℕ → ℕ → ℕ → ℕ
 turnsOf pad pairs n1 n2 = cond pad pairs (min pairs (max n1 (2 * n2)))
 
@@ -136,11 +136,11 @@ turnsOf pad pairs n1 n2 = cond pad pairs (min pairs (max n1 (2 * n2)))
 abbrev pub triplesIn : Frame → ℕ
 triplesIn f = (f .len - 2) / 3
 
--- padding up to the count, if it is on
+-- "With output padding, FA 00 00 to the end."
 abbrev pub padded : Bool → ℕ → Frame → Frame
 padded padding count f = appended f (flat (cond padding (fillers (count - triplesIn f)) []))
 
--- packet triples up to the count, and padding
+-- "Then packet triples up to the count", and padding
 unfoldable pub filled : List Slot → ℕ → Sending → ℕ → Bool → Sending
 filled l n s count padding =
     let r = sentFrom l n s (count - triplesIn (s .frame)) in

@@ -169,21 +169,6 @@ fn lesser(a: usize, b: usize) -> usize
     if a < b { a } else { b }
 }
 
-// The queue once its first `next` packets have been begun: the others move down.
-fn advance(packets: [Slot; 16], count: usize, next: usize) -> [Slot; 16]
-    requires { ⌜ (next ≤ count) × (count ≤ 16) ⌝ }
-    ensures { λ r. ⌜ r ≡ slid next (count - next) packets ⌝ }
-{
-    let m = count - next;
-    let mut slots = packets;
-    let mut i: usize = 0;
-    while i < m {
-        slots[i] = slots[i + next];
-        i += 1;
-    }
-    slots
-}
-
 // The packet triples that have not left.
 fn unsent(packets: [Slot; 16], count: usize, slot: Slot, sent: usize) -> usize
     requires { ⌜ Queued packets count ⌝ }
@@ -410,23 +395,40 @@ fn written_if(taken: bool, slot: Slot) -> bool
     true
 }
 
-// Whether a slot, if it is taken, and the slots of the queue are written packets. Four at a time: a slot at a constant place is read where it
-// stands, and the queue is copied only where it is longer.
+// Whether a slot, if it is taken, and the slots of the queue are written packets. The first four stand at constant places, where they are read
+// without a copy of the queue; only a longer queue is copied.
 fn row_written(taken: bool, slot: Slot, packets: [Slot; 16], count: usize) -> bool
     requires { ⌜ count ≤ 16 ⌝ }
     ensures { λ r. ⌜ r ≡ (writtenIf taken slot && allWritten (take count packets)) ⌝ }
 {
     if 4 < count {
-        let rest = advance(packets, count, 4);
-        if !row_written(taken, slot, rest, count - 4) {
+        if !row_written(taken, slot, packets, 4) {
             return false;
         }
+        return others_written(packets, count);
     }
     let a = packets[0];
     let b = packets[1];
     let c = packets[2];
     let d = packets[3];
     four_written(taken, slot, count, a, b, c, d)
+}
+
+// The same of the slots behind the first four.
+fn others_written(packets: [Slot; 16], count: usize) -> bool
+    requires { ⌜ (4 ≤ count) × (count ≤ 16) ⌝ }
+    ensures { λ r. ⌜ r ≡ allWritten (drop 4 (take count packets)) ⌝ }
+{
+    let mut i: usize = 4;
+    while i < count {
+        let slot = packets[i];
+        if slot.is_written() {
+            i += 1;
+        } else {
+            return false;
+        }
+    }
+    true
 }
 
 // The same of a slot and the first four of the queue.

@@ -1,12 +1,11 @@
--- `writer::row_written` meets its contract: four slots at a time, and the slots left fall. Assumes nothing.
-use mathlib.Core.Logic.{⊎-elim}
+-- `writer::row_written` meets its contract: the first four slots, and then the others. Assumes nothing.
 use mathlib.Core.Path.{_≡_, refl, _∙_}
 use native.Mathlib.Omega.{arith}
 use lib.ListN.{length}
 use borrow.Author.Tests.{not-true}
 use borrow.Author.Needs.{needs}
-use Rattle.writer.proofs.Sends.{length-mapped}
 use Rattle.writer.specs.Slots.{writtenIf}
+use Rattle.writer.proofs.Sends.{length-mapped}
 use Rattle.writer.proofs.Valid.{test-passes, row-short, row-fails, row-rest}
 use Prim.Native.Nat.{ℕ, _<_}
 use borrow.Fn.Kinds.{In}
@@ -14,8 +13,8 @@ use borrow.Fn.PlainCycle.{Measures, is, falls, and}
 use Rattle.writer.proofs.row_written.Reads as row-written
 use Rattle.writer.proofs.row_written.Kinds as row-written-kinds
 use Rattle.writer.proofs.+row_written.Lts-row_written as row-written-lts
-use Rattle.writer.proofs.advance.Reads as advance-reads
 use Rattle.writer.proofs.four_written.Reads as four-written-reads
+use Rattle.writer.proofs.others_written.Reads as others-written-reads
 use Rattle.writer.proofs.+row_written.{statement}
 use Rattle.writer.proofs.+row_written.Tie.{close}
 
@@ -33,10 +32,10 @@ row-written-below t =
 -- what its calls ask and tell
 abbrev row-written-claims : ℕ → row-written-lts.Claims
 row-written-claims t = (
-  advance-reads.Asked,
-  advance-reads.Learnt,
   row-written-below t,
   row-written.Post,
+  others-written-reads.Asked,
+  others-written-reads.Learnt,
   four-written-reads.Asked,
   four-written-reads.Learnt,
 )
@@ -45,20 +44,19 @@ row-written-claims t = (
 places : (t : ℕ) (c : row-written-lts.Start (row-written-claims t) (row-written-at t) row-written.Post) → length (c .args .t3) ≡ 16
 places t c = search (needs, length-mapped, c .good)
 
-row-written-advance-requires : (t : ℕ) → row-written-lts.Need-advance-requires (row-written-claims t) (row-written-at t) row-written.Post
-row-written-advance-requires t c κs = (omega arith, omega arith)
-
-row-written-sub-row-written : (t : ℕ) → row-written-lts.Need-sub-row-written (row-written-claims t) (row-written-at t) row-written.Post
-row-written-sub-row-written t c = omega arith
-
 row-written-row-written-requires : (t : ℕ) → row-written-lts.Need-row-written-requires (row-written-claims t) (row-written-at t) row-written.Post
 row-written-row-written-requires t c κs = (omega arith, omega arith)
 
 row-written-returns : (t : ℕ) → row-written-lts.Need-returns (row-written-claims t) (row-written-at t) row-written.Post
 row-written-returns t c =
-    let s = c .before .before .before .before in
-    row-fails (writtenIf (s .args .taken) (s .args .slot)) (s .args .t3) (s .args .count) (places t s) (omega arith) (c .before .before .before .if1 .taken)
-    (rw (c .before .before .advance .ensures) at (c .before .row-written .ensures)) (not-true _ (c .if2 .taken))
+    let s = c .before .before .before in row-fails (writtenIf (s .args .taken) (s .args .slot)) (s .args .t3) (s .args .count) (places t s) (omega arith) (c .before .before .if1 .taken) (c .before .row-written .ensures) (not-true _ (c .if2 .taken))
+
+row-written-others-written-requires : (t : ℕ) → row-written-lts.Need-others-written-requires (row-written-claims t) (row-written-at t) row-written.Post
+row-written-others-written-requires t c κs = (omega arith, omega arith)
+
+row-written-returns-2 : (t : ℕ) → row-written-lts.Need-returns-2 (row-written-claims t) (row-written-at t) row-written.Post
+row-written-returns-2 t c =
+    let s = c .before .before .before .before in row-rest (writtenIf (s .args .taken) (s .args .slot)) (s .args .t3) (s .args .count) (places t s) (omega arith) (c .before .before .before .if1 .taken) (c .before .before .row-written .ensures) (test-passes refl (c .before .if2 .left)) (c .others-written .ensures)
 
 row-written-array-copy-out-a : (t : ℕ) → row-written-lts.Need-array-copy-out-a (row-written-claims t) (row-written-at t) row-written.Post
 row-written-array-copy-out-a t c = search needs
@@ -75,27 +73,21 @@ row-written-array-copy-out-d t c = search needs
 row-written-four-written-requires : (t : ℕ) → row-written-lts.Need-four-written-requires (row-written-claims t) (row-written-at t) row-written.Post
 row-written-four-written-requires t c κs = search needs
 
-row-written-returns-2 : (t : ℕ) → row-written-lts.Need-returns-2 (row-written-claims t) (row-written-at t) row-written.Post
-row-written-returns-2 t c =
-    let s = c .before .before .before .before .before .before in
-    let x = writtenIf (s .args .taken) (s .args .slot) in
-    c .four-written .ensures
-    ∙ ⊎-elim
-    (λ v. row-rest x (s .args .t3) (s .args .count) (places t s) (omega (arith, v .0 .taken)) (v .0 .taken) (rw (v .1 .ensures) at (v .2 .ensures)) (test-passes refl (v .3 .left)))
-    (λ v. row-short x (s .args .t3) (s .args .count) (places t s) (omega (arith, v .left)) (v .left))
-    (c .before .before .before .before .before .if1 .came)
+row-written-returns-3 : (t : ℕ) → row-written-lts.Need-returns-3 (row-written-claims t) (row-written-at t) row-written.Post
+row-written-returns-3 t c =
+    let s = c .before .before .before .before .before .before in c .four-written .ensures ∙ row-short (writtenIf (s .args .taken) (s .args .slot)) (s .args .t3) (s .args .count) (places t s) (omega arith) (c .before .before .before .before .before .if1 .left)
 
 pub +row-written-spec : {M : Type 1} → statement M
 +row-written-spec = close μ-row-written λ t. row-written-lts.spec (row-written-claims t)
     (row-written-at t)
     row-written.Post
-    (row-written-advance-requires t)
-    (row-written-sub-row-written t)
     (row-written-row-written-requires t)
     (row-written-returns t)
+    (row-written-others-written-requires t)
+    (row-written-returns-2 t)
     (row-written-array-copy-out-a t)
     (row-written-array-copy-out-b t)
     (row-written-array-copy-out-c t)
     (row-written-array-copy-out-d t)
     (row-written-four-written-requires t)
-    (row-written-returns-2 t)
+    (row-written-returns-3 t)

@@ -1,0 +1,71 @@
+-- `writer::others_written` meets its contract: what is left of the queue decides. Assumes nothing.
+use mathlib.Core.Path.{_≡_, refl, sym, _∙_}
+use Prim.Native.Nat.{_-_, _≤_}
+use native.Mathlib.Omega.{arith}
+use lib.ListN.{length, take, drop}
+use Rattle.writer.specs.Slots.{allWritten}
+use Rattle.writer.proofs.Sends.{length-mapped}
+use Rattle.writer.proofs.Valid.{written-next, written-not, written-all}
+use borrow.Author.Needs.{needs}
+use Rattle.writer.proofs.others_written.Statement.{statement}
+use Rattle.writer.proofs.others_written.Tie as tie
+use Rattle.writer.proofs.others_written.Reads as reads
+use Rattle.writer.proofs.others_written.Lts as lts
+use Rattle.slots.proofs.Slot.is_written.Reads as is-written-reads
+
+abbrev Inv-loop : tie.InvT-loop
+Inv-loop count packets i₀ i = (i ≤ count) × (allWritten (drop i (take count packets)) ≡ allWritten (drop 4 (take count packets)))
+
+abbrev μ-loop : tie.MeasureT-loop
+μ-loop count packets i₀ i = count - i
+
+loop-holds : tie.Need-loop-holds Inv-loop μ-loop
+loop-holds c = (omega arith, refl)
+
+mul-slot : tie.Need-mul-slot Inv-loop μ-loop
+mul-slot c = search needs
+
+array-copy-out-slot : tie.Need-array-copy-out-slot Inv-loop μ-loop
+array-copy-out-slot c = search needs
+
+is-written-requires : tie.Need-is-written-requires Inv-loop μ-loop
+is-written-requires c κs = search needs
+
+add-i : tie.Need-add-i Inv-loop μ-loop
+add-i c = search needs
+
+loop-less : tie.Need-loop-less Inv-loop μ-loop
+loop-less c = search needs
+
+loop-again : tie.Need-loop-again Inv-loop μ-loop
+loop-again c = let s = c .before .before .before .before .before in
+    let e : length (s .args .t1) ≡ 16 = search (needs, length-mapped, s .good) in
+    let i = c .before .before .before .before .loop .i in
+    (omega arith, sym (written-next (s .args .t1) (s .args .count) (omega arith) i (c .before .before .before .loop-test .taken) (sym (c .before .is-written .ensures) ∙ c .if1 .taken)) ∙ c .before .before .before .before .loop .inv .1)
+
+returns : tie.Need-returns Inv-loop μ-loop
+returns c = let s = c .before .before .before .before .before in
+    let e : length (s .args .t1) ≡ 16 = search (needs, length-mapped, s .good) in
+    let i = c .before .before .before .before .loop .i in
+    sym (written-not (s .args .t1) (s .args .count) (omega arith) i (c .before .before .before .loop-test .taken) (sym (c .before .is-written .ensures) ∙ c .if1 .left)) ∙ c .before .before .before .before .loop .inv .1
+
+returns-2 : tie.Need-returns-2 Inv-loop μ-loop
+returns-2 c = let s = c .before .before in
+    let e : length (s .args .t1) ≡ 16 = search (needs, length-mapped, s .good) in
+    sym (written-all (s .args .t1) (s .args .count) (omega arith) (c .before .loop .i) (omega arith) (omega arith)) ∙ c .before .loop .inv .1
+
+pub others-written-spec : {M : Type 1} → statement M
+others-written-spec =
+    tie.close
+    (tie.spec
+    Inv-loop
+    μ-loop
+    loop-holds
+    mul-slot
+    array-copy-out-slot
+    is-written-requires
+    add-i
+    loop-less
+    loop-again
+    returns
+    returns-2)
