@@ -5,7 +5,12 @@ use std::io::{Read, Write};
 use cea708_types::{CCDataParser, Cea608, ParserError};
 
 fn hex(bytes: &[u8]) -> String {
-    bytes.iter().map(|byte| format!("{byte:02X}")).collect()
+    let mut text = String::with_capacity(2 * bytes.len());
+    for byte in bytes {
+        text.push(b"0123456789ABCDEF"[(byte >> 4) as usize] as char);
+        text.push(b"0123456789ABCDEF"[(byte & 15) as usize] as char);
+    }
+    text
 }
 
 fn print_items(parser: &mut CCDataParser, out: &mut impl Write) -> std::io::Result<()> {
@@ -18,7 +23,7 @@ fn print_items(parser: &mut CCDataParser, out: &mut impl Write) -> std::io::Resu
     while let Some(packet) = parser.pop_packet() {
         writeln!(out, "packet {}", packet.sequence_no())?;
         for service in packet.services() {
-            let payload: Vec<u8> = service.codes().iter().flat_map(|code| code.bytes().to_vec()).collect();
+            let payload: Vec<u8> = service.codes().iter().flat_map(|code| code.bytes().iter().copied()).collect();
             writeln!(out, "block {} {}", service.number(), hex(&payload))?;
         }
     }
