@@ -4,39 +4,30 @@ use Rattle.entries.proofs.Walks.{extent-sequence, extent-count, extent-
 use Rattle.entries.proofs.extent_of.Statement.{statement}
 use Rattle.entries.proofs.extent_of.Tie as tie
 
--- src/lib.rt:100:9
 returns : tie.Need-returns
 returns c = search (needs, extent-sequence)
 
--- src/lib.rt:103:9
 returns-2 : tie.Need-returns-2
 returns-2 c = search (needs, extent-count)
 
--- src/lib.rt:105:9
 walk-requires : tie.Need-walk-requires
 walk-requires c κs = search needs
 
--- src/lib.rt:107:17
 enum-known-walk : tie.Need-enum-known-walk
 enum-known-walk c = search needs
 
--- src/lib.rt:111:9
 enum-told : tie.Need-enum-told
 enum-told c = search needs
 
--- src/lib.rt:111:9
 returns-3 : tie.Need-returns-3
 returns-3 c = search (needs, extent-bad)
 
--- src/lib.rt:114:9
 returns-4 : tie.Need-returns-4
 returns-4 c = search (needs, extent-long)
 
--- src/lib.rt:117:17
 length-of-requires : tie.Need-length-of-requires
 length-of-requires c κs = search needs
 
--- src/lib.rt:96:1
 returns-5 : tie.Need-returns-5
 returns-5 c = search (needs, extent-good)
 

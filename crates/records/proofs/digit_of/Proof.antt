@@ -5,20 +5,16 @@ use borrow.Author.Needs.{needs}
 use Rattle.records.proofs.digit_of.Statement.{statement}
 use Rattle.records.proofs.digit_of.Tie as tie
 
--- src/text.rt:53:17
 add-result : tie.Need-add-result
 add-result c = search needs
 
--- src/text.rt:53:33
 add-result-2 : tie.Need-add-result-2
 add-result-2 c = search needs
 
--- src/text.rt:49:1
 returns : tie.Need-returns
 unfolding digit
 returns c = rw (lt-ltb _ _ (c .if1 .taken))
 
--- src/text.rt:49:1
 returns-2 : tie.Need-returns-2
 unfolding digit
 returns-2 c = rw (le-ltb _ _ (c .if1 .left))

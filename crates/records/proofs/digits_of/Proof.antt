@@ -16,51 +16,39 @@ Inv-loop n bytes₀ from₀ rest₀ bytes from rest = (decimal rest ++ drop from
 abbrev μ-loop : tie.MeasureT-loop
 μ-loop n bytes₀ from₀ rest₀ bytes from rest = rest
 
--- src/text.rt:95:5
 loop-holds : tie.Need-loop-holds Inv-loop μ-loop
 loop-holds c = (append-nil (decimal (c .args .n)), digits-most 19 (c .args .n) (omega arith), omega arith, refl)
 
--- src/text.rt:96:9
 sub-from : tie.Need-sub-from Inv-loop μ-loop
 sub-from c = omega (arith, length-large (c .before .loop .rest) (c .loop-test .taken))
 
--- src/text.rt:97:32
 cast-digit-of : tie.Need-cast-digit-of Inv-loop μ-loop
 cast-digit-of c = omega arith
 
--- src/text.rt:97:23
 digit-of-requires : tie.Need-digit-of-requires Inv-loop μ-loop
 digit-of-requires c κs = omega arith
 
--- src/text.rt:97:9
 array-write-bytes : tie.Need-array-write-bytes Inv-loop μ-loop
 array-write-bytes c = omega (arith, length-large (c .before .before .loop .rest) (c .before .loop-test .taken))
 
--- src/text.rt:95:5
 loop-less : tie.Need-loop-less Inv-loop μ-loop
 loop-less c = omega arith
 
--- src/text.rt:95:5
 loop-again : tie.Need-loop-again Inv-loop μ-loop
 loop-again c = let l = c .before .before .loop in let more = length-large (l .rest) (c .before .loop-test .taken) in (digit-more (l .bytes) (l .from) (l .rest) _ (omega arith) (omega arith) (c .before .loop-test .taken) (c .digit-of .ensures) (l .inv .0), omega arith, omega arith, simp length-set (l .inv .3))
 
--- src/text.rt:100:5
 sub-from-2 : tie.Need-sub-from-2 Inv-loop μ-loop
 sub-from-2 c = omega (arith, length-small (c .before .loop .rest) (c .loop-test .left))
 
--- src/text.rt:101:28
 cast-digit-of-2 : tie.Need-cast-digit-of-2 Inv-loop μ-loop
 cast-digit-of-2 c = omega arith
 
--- src/text.rt:101:19
 digit-of-requires-2 : tie.Need-digit-of-requires-2 Inv-loop μ-loop
 digit-of-requires-2 c κs = omega arith
 
--- src/text.rt:101:5
 array-write-bytes-2 : tie.Need-array-write-bytes-2 Inv-loop μ-loop
 array-write-bytes-2 c = omega (arith, length-small (c .before .before .loop .rest) (c .before .loop-test .left))
 
--- src/text.rt:89:1
 returns : tie.Need-returns Inv-loop μ-loop
 returns c = let l = c .before .before .loop in let one = length-small (l .rest) (c .before .loop-test .left) in (digit-last (l .bytes) (l .from) (l .rest) _ (omega arith) (omega arith) (c .before .loop-test .left) (c .digit-of2 .ensures) (l .inv .0), omega arith, simp length-set (l .inv .3))
 

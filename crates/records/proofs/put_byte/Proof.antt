@@ -4,23 +4,18 @@ use borrow.Author.Needs.{needs}
 use Rattle.records.proofs.put_byte.Statement.{statement}
 use Rattle.records.proofs.put_byte.Tie as tie
 
--- src/text.rt:23:9
 returns : tie.Need-returns
 returns c = search (needs, laid-past)
 
--- src/text.rt:25:5
 slice-write-out : tie.Need-slice-write-out
 slice-write-out c = search needs
 
--- src/text.rt:26:5
 add-result : tie.Need-add-result
 add-result c = search needs
 
--- src/text.rt:18:1
 same-length : tie.Need-same-length
 same-length c = search needs
 
--- src/text.rt:18:1
 returns-2 : tie.Need-returns-2
 returns-2 c = search needs
 

@@ -4,51 +4,39 @@ use borrow.Author.Needs.{needs}
 use Rattle.records.proofs.put_decimal.Statement.{statement}
 use Rattle.records.proofs.put_decimal.Tie as tie
 
--- src/text.rt:110:43
 cast-digit-of : tie.Need-cast-digit-of
 cast-digit-of c = search needs
 
--- src/text.rt:110:34
 digit-of-requires : tie.Need-digit-of-requires
 digit-of-requires c κs = search needs
 
--- src/text.rt:110:9
 put-byte-requires : tie.Need-put-byte-requires
 put-byte-requires c κs = search needs
 
--- src/text.rt:110:9
 same-length : tie.Need-same-length
 same-length c = search needs
 
--- src/text.rt:110:9
 returns : tie.Need-returns
 returns c = search (needs, laid-digit)
 
--- src/text.rt:112:9
 digits-of-requires : tie.Need-digits-of-requires
 digits-of-requires c κs = search needs
 
--- src/text.rt:115:23
 sub-put-word : tie.Need-sub-put-word
 sub-put-word c = search needs
 
--- src/text.rt:115:23
 part-put-word-start : tie.Need-part-put-word-start
 part-put-word-start c = search needs
 
--- src/text.rt:115:23
 part-put-word-end : tie.Need-part-put-word-end
 part-put-word-end c = search needs
 
--- src/text.rt:115:5
 put-word-requires : tie.Need-put-word-requires
 put-word-requires c κs = search needs
 
--- src/text.rt:106:1
 same-length-2 : tie.Need-same-length-2
 same-length-2 c = search needs
 
--- src/text.rt:106:1
 returns-2 : tie.Need-returns-2
 returns-2 c = search (needs, laid-digits)
 

@@ -17,83 +17,63 @@ Inv-loop out₀ at bytes n whole i₀ o₀ out i o = (i ≤ whole) × (o ≡ at 
 abbrev μ-loop : tie.MeasureT-loop
 μ-loop out₀ at bytes n whole i₀ o₀ out i o = whole - i
 
--- src/text.rt:70:9
 returns : tie.Need-returns Inv-loop μ-loop
 returns c = search (needs, laid-past)
 
--- src/text.rt:72:25
 sub-lesser : tie.Need-sub-lesser Inv-loop μ-loop
 sub-lesser c = search needs
 
--- src/text.rt:72:9
 lesser-requires : tie.Need-lesser-requires Inv-loop μ-loop
 lesser-requires c κs = search needs
 
--- src/text.rt:75:5
 loop-holds : tie.Need-loop-holds Inv-loop μ-loop
 loop-holds c = (omega arith, omega arith, refl, refl, search needs, search needs)
 
--- src/text.rt:76:17
 shared-slice-read-b : tie.Need-shared-slice-read-b Inv-loop μ-loop
 shared-slice-read-b c = omega arith
 
--- src/text.rt:77:18
 digit-of-requires : tie.Need-digit-of-requires Inv-loop μ-loop
 digit-of-requires c κs = omega (arith, c .shared-slice-known2 .given (c .before .before .loop .i))
 
--- src/text.rt:77:9
 slice-write-out : tie.Need-slice-write-out Inv-loop μ-loop
 slice-write-out c = omega arith
 
--- src/text.rt:78:22
 digit-of-requires-2 : tie.Need-digit-of-requires-2 Inv-loop μ-loop
 digit-of-requires-2 c κs = omega arith
 
--- src/text.rt:78:13
 add-out : tie.Need-add-out Inv-loop μ-loop
 add-out c = omega arith
 
--- src/text.rt:78:9
 slice-write-out-2 : tie.Need-slice-write-out-2 Inv-loop μ-loop
 slice-write-out-2 c = simp length-set (omega arith)
 
--- src/text.rt:79:9
 add-o : tie.Need-add-o Inv-loop μ-loop
 add-o c = omega arith
 
--- src/text.rt:80:9
 add-i : tie.Need-add-i Inv-loop μ-loop
 add-i c = omega arith
 
--- src/text.rt:75:5
 loop-less : tie.Need-loop-less Inv-loop μ-loop
 loop-less c = omega arith
 
--- src/text.rt:75:5
 loop-again : tie.Need-loop-again Inv-loop μ-loop
 loop-again c = let l = c .before .before .before .before .loop in (omega arith, omega arith, simp length-set (l .inv .2), hex-more (l .out) _ (l .o) (l .i) (omega arith) (l .inv .3) (c .before .digit-of .ensures) (c .digit-of2 .ensures), l .inv .4, l .inv .5)
 
--- src/text.rt:83:37
 shared-slice-read-put-hex-byte : tie.Need-shared-slice-read-put-hex-byte Inv-loop μ-loop
 shared-slice-read-put-hex-byte c = omega arith
 
--- src/text.rt:83:9
 put-hex-byte-requires : tie.Need-put-hex-byte-requires Inv-loop μ-loop
 put-hex-byte-requires c κs = search needs
 
--- src/text.rt:83:9
 same-length : tie.Need-same-length Inv-loop μ-loop
 same-length c = search needs
 
--- src/text.rt:83:9
 returns-2 : tie.Need-returns-2 Inv-loop μ-loop
 returns-2 c = let l = c .before .before .before .before .before .before .before .loop in hex-cut (l .out) _ (l .o) (l .i) _ _ (l .inv .1) (l .inv .2) (l .inv .3) (c .before .before .before .before .before .if2 .taken) (omega arith) (c .before .before .put-hex-byte .ensures)
 
--- src/text.rt:65:1
 same-length-2 : tie.Need-same-length-2 Inv-loop μ-loop
 same-length-2 c = search needs
 
--- src/text.rt:65:1
 returns-3 : tie.Need-returns-3 Inv-loop μ-loop
 returns-3 c = let l = c .before .before .loop in hex-done (l .out) _ (l .o) (l .i) _ _ (l .inv .1) (l .inv .2) (l .inv .3) (c .if2 .left) (omega arith) (omega arith)
 

@@ -4,27 +4,21 @@ use borrow.Author.Needs.{needs}
 use Rattle.records.proofs.put_hex_byte.Statement.{statement}
 use Rattle.records.proofs.put_hex_byte.Tie as tie
 
--- src/text.rt:60:33
 digit-of-requires : tie.Need-digit-of-requires
 digit-of-requires c κs = search needs
 
--- src/text.rt:60:9
 put-byte-requires : tie.Need-put-byte-requires
 put-byte-requires c κs = search needs
 
--- src/text.rt:61:24
 digit-of-requires-2 : tie.Need-digit-of-requires-2
 digit-of-requires-2 c κs = search needs
 
--- src/text.rt:61:5
 put-byte-requires-2 : tie.Need-put-byte-requires-2
 put-byte-requires-2 c κs = search needs
 
--- src/text.rt:57:1
 same-length : tie.Need-same-length
 same-length c = search needs
 
--- src/text.rt:57:1
 returns : tie.Need-returns
 returns c = search (needs, laid-hex-byte)
 
