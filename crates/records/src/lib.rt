@@ -3,7 +3,7 @@
 // Text is laid into a lent buffer from a place on, as far as there is room, and each function that lays some answers the place behind it.
 ghost use mathlib.Core.Path.{_≡_};
 ghost use mathlib.Core.List.{[], _∷_};
-ghost use Prim.Native.Nat.{_≤_, _<_, min};
+ghost use Prim.Native.Nat.{_≤_, _<_};
 ghost use lib.ListN.{length, getD, take, drop};
 ghost use Rattle.records.specs.Reading.{canBe, foundIn, missing, highestFirst};
 ghost use Rattle.records.specs.Laid.{Laid, Moved, between};
@@ -31,16 +31,6 @@ pub enum Found {
 struct Digits {
     bytes: [u8; 20],
     from: usize,
-}
-
-// The lesser of two numbers.
-fn lesser(a: usize, b: usize) -> usize
-    ensures { λ r. ⌜ r ≡ min a b ⌝ }
-{
-    if a < b {
-        return a;
-    }
-    b
 }
 
 // Whether the bytes from `at` on, as far as they go, are the mark `first`, `second`.
@@ -138,7 +128,7 @@ pub fn number_at(bytes: &[u8], at: usize) -> u32
 pub fn move_to_front(bytes: &mut [u8], from: usize, to: usize) -> usize
     ensures { λ r. ⌜ Moved (between from to (now (bytes .entry))) (now (bytes .entry)) r (now (bytes .exit)) ⌝ }
 {
-    let end = lesser(to, bytes.len());
+    let end = service::lesser(to, bytes.len());
     let mut i = from;
     let mut o = 0;
     while i < end {
@@ -177,7 +167,7 @@ pub fn put_word(out: &mut [u8], at: usize, word: &[u8]) -> usize
     if n <= at {
         return n;
     }
-    at + lesser(n - at, word.len())
+    at + service::lesser(n - at, word.len())
 }
 
 // The digit of a number below 16.
@@ -204,7 +194,7 @@ pub fn put_hex(out: &mut [u8], at: usize, bytes: &[u8]) -> usize
     if n <= at {
         return n;
     }
-    let whole = lesser((n - at) / 2, bytes.len());
+    let whole = service::lesser((n - at) / 2, bytes.len());
     let mut i = 0;
     let mut o = at;
     while i < whole {
