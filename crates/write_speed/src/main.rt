@@ -1,16 +1,17 @@
-// Writes a million frames at 30000/1001 with both paddings on, to set the time beside the crate's (`oracle/src/bin/write_speed.rs`). A pair of
+// Writes a thousand frames for each byte of its input at 30000/1001 with both paddings on, to set the time beside the crate's (`oracle/src/bin/write_speed.rs`). A pair of
 // each field goes in before each frame, and a packet of 40 bytes before nine frames of ten: as much as the frames carry away. The line written
 // is how many bytes the frames have and a sum over each of them, so that no writing can be left out, and both programs write the same.
 use caption::Cea608;
 use caption::Counted;
 use caption::Framerate;
+use libc::STDIN_FILENO;
 use libc::STDOUT_FILENO;
 use packet::DTVCCPacket;
 use service::Service;
 use writer::CCDataWriter;
 
-// How many frames there are.
-const FRAMES: usize = 1000000;
+// The pairs of a thousand frames.
+const PAIRS: usize = 2000;
 
 // The bytes of the longest frame.
 const MOST_FRAME: usize = 95;
@@ -105,18 +106,19 @@ fn started() -> CCDataWriter {
     padded.writer
 }
 
-// The totals of every frame.
+// The totals of the frames that so many pairs go into.
 fn write_frames(
     start: CCDataWriter,
     block1: Service,
     block2: Service,
     block3: Service,
+    pairs: usize,
     frame: &mut [u8; 95],
 ) -> Totals {
     let mut writer = start;
     let mut t = Totals { bytes: 0, sum: 0 };
     let mut i: usize = 0;
-    while i < 2 * FRAMES {
+    while i < pairs {
         let pushed = writer.push_cea608(pair(i));
         writer = pushed.writer;
         if i % 2 == 1 {
@@ -135,12 +137,14 @@ fn write_frames(
 }
 
 fn main() {
+    let mut input = io::buffer();
+    let asked = io::read_full(STDIN_FILENO, &mut input);
     let block1 = block(1);
     let block2 = block(2);
     let block3 = block(3);
     let start = started();
     let mut frame = [0u8; 95];
-    let t = write_frames(start, block1, block2, block3, &mut frame);
+    let t = write_frames(start, block1, block2, block3, PAIRS * asked, &mut frame);
     io::print_decimal(STDOUT_FILENO, t.bytes);
     io::write_all(STDOUT_FILENO, b" ");
     io::print_decimal(STDOUT_FILENO, t.sum);

@@ -1,8 +1,8 @@
-//! Writes a million frames at 30000/1001 with the crate, both paddings on: what `crates/write_speed` does with the port.
+//! Writes a thousand frames for each byte of its input at 30000/1001 with the crate, both paddings on: what `crates/write_speed` does with the port.
+
+use std::io::Read;
 
 use cea708_types::{tables, CCDataWriter, Cea608, DTVCCPacket, Framerate, Service};
-
-const FRAMES: usize = 1_000_000;
 
 /// A block of 12 bytes.
 fn block(number: u8) -> Service {
@@ -26,13 +26,15 @@ fn due(i: usize) -> bool {
 }
 
 fn main() {
+    let mut input = Vec::new();
+    std::io::stdin().read_to_end(&mut input).unwrap();
     let blocks = [block(1), block(2), block(3)];
     let mut writer = CCDataWriter::default();
     writer.set_output_cea608_padding(true);
     writer.set_output_padding(true);
     let mut frame = Vec::new();
     let (mut bytes, mut sum) = (0, 0u64);
-    for i in 0..FRAMES {
+    for i in 0..1000 * input.len() {
         let byte = 0x20 + (i % 64) as u8;
         writer.push_cea608(Cea608::Field1(byte, 0x31));
         writer.push_cea608(Cea608::Field2(0x32, byte));

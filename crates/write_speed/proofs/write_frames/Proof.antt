@@ -14,16 +14,13 @@ use Rattle.writer.proofs.CCDataWriter.push_packet.Reads as push-packet-reads
 use Rattle.writer.proofs.CCDataWriter.write.Reads as write-reads
 
 abbrev Inv-loop : tie.InvT-loop
-Inv-loop block1 block2 block3 frame₀ writer₀ t₀ i₀ frame writer t i = i ≤ 2000000
+Inv-loop block1 block2 block3 pairs frame₀ writer₀ t₀ i₀ frame writer t i = i ≤ pairs
 
 abbrev μ-loop : tie.MeasureT-loop
-μ-loop block1 block2 block3 frame₀ writer₀ t₀ i₀ frame writer t i = 2000000 - i
+μ-loop block1 block2 block3 pairs frame₀ writer₀ t₀ i₀ frame writer t i = pairs - i
 
 loop-holds : tie.Need-loop-holds Inv-loop μ-loop
 loop-holds c = search needs
-
-mul-loop : tie.Need-mul-loop Inv-loop μ-loop
-mul-loop c = search needs
 
 pair-requires : tie.Need-pair-requires Inv-loop μ-loop
 pair-requires c κs = search needs
@@ -65,7 +62,6 @@ write-frames-spec =
     Inv-loop
     μ-loop
     loop-holds
-    mul-loop
     pair-requires
     push-cea608-requires
     due-requires
