@@ -23,15 +23,27 @@ pub record Walked : Type 0 where
 abbrev pub mark : List ℕ
 mark = 0xCC ∷ 0xDA ∷ []
 
+-- how it goes on where no whole record is found
+unfoldable pub leftAt : Found → Left
+leftAt (found.Record start len next) = More
+leftAt found.More = More
+leftAt found.WrongMark = Stopped
+leftAt found.Short = Stopped
+leftAt found.End = Ended
+
+-- where the walk stops
+abbrev pub stop : ℕ → ℕ → Left → CCDataParser → Walked
+stop at n left p = record { at = at; records = n; left = left; parser = p }
+
 -- what is found at place `at`, and the rest behind a whole record; the number of a record is one of 64 bits
 unfoldable pub walkedBy : (ℕ → ℕ → CCDataParser → Walked) → List ℕ → ℕ → ℕ → CCDataParser → Found → Walked
 walkedBy rest buf at n p (found.Record start len next) = rest next ((n + 1) % 2 ^ 64) (settled p (take len (drop start buf)))
-walkedBy rest buf at n p found.More = record { at = at; records = n; left = More; parser = p }
-walkedBy rest buf at n p found.WrongMark = record { at = at; records = n; left = Stopped; parser = p }
-walkedBy rest buf at n p found.Short = record { at = at; records = n; left = Stopped; parser = p }
-walkedBy rest buf at n p found.End = record { at = at; records = n; left = Ended; parser = p }
+walkedBy rest buf at n p found.More = stop at n More p
+walkedBy rest buf at n p found.WrongMark = stop at n Stopped p
+walkedBy rest buf at n p found.Short = stop at n Stopped p
+walkedBy rest buf at n p found.End = stop at n Ended p
 
 -- the records of a buffer from place `at` on, at most k
 unfoldable pub walked : ℕ → Bool → List ℕ → ℕ → ℕ → CCDataParser → Walked
-walked zero ended buf at n p = record { at = at; records = n; left = More; parser = p }
+walked zero ended buf at n p = stop at n More p
 walked (suc k) ended buf at n p = walkedBy (walked k ended buf) buf at n p (foundIn mark ended at (drop at buf))

@@ -6,7 +6,7 @@ ghost use Prim.Native.Nat.{_+_, _≤_};
 ghost use lib.Dec.{leb};
 ghost use lib.ListN.{length};
 ghost use Rattle.records.specs.Laid.{Whole};
-ghost use Rattle.ccread.specs.Walk.{walked};
+ghost use Rattle.ccread.specs.Walk.{leftAt, walked};
 ghost use Rattle.report.specs.Report.{frameLines, settled};
 use libc::STDIN_FILENO;
 use libc::STDOUT_FILENO;
@@ -79,6 +79,23 @@ fn put_record(out: &mut [u8], at: usize, number: u64, frame: &[u8], before: CCDa
     report::put_frame(out, from, number, frame, before)
 }
 
+// Where the records end, by what was found in place of one.
+fn left_at(found: Found) -> Left
+    ensures { λ r. ⌜ r ≡ leftAt found ⌝ }
+{
+    match found {
+        Found::WrongMark => Left::Stopped,
+        Found::Short => Left::Stopped,
+        Found::End => Left::Ended,
+        Found::More => Left::More,
+        Found::Record {
+            start: _,
+            len: _,
+            next: _,
+        } => Left::More,
+    }
+}
+
 // Every record that is whole in the buffer.
 fn drain(buf: &[u8], ended: bool, out: &mut [u8], first: u64, before: CCDataParser) -> Drained
     requires { ⌜ 32768 ≤ length (now out) ⌝ }
@@ -92,51 +109,21 @@ fn drain(buf: &[u8], ended: bool, out: &mut [u8], first: u64, before: CCDataPars
     while 0 < n {
         n -= 1;
         let found = records::next_record(buf, at, ended, 0xCC, 0xDA);
-        match found {
-            Found::Record { start, len, next } => {
-                let told = put_record(out, laid, records, records::part(buf, start, len), parser);
-                laid = told.laid;
-                parser = told.parser;
-                at = next;
-                records = std::num::wrapping_add_u64(records, 1);
-            }
-            Found::More => {
-                return Drained {
-                    at,
-                    records,
-                    laid,
-                    left: Left::More,
-                    parser,
-                };
-            }
-            Found::WrongMark => {
-                return Drained {
-                    at,
-                    records,
-                    laid,
-                    left: Left::Stopped,
-                    parser,
-                };
-            }
-            Found::Short => {
-                return Drained {
-                    at,
-                    records,
-                    laid,
-                    left: Left::Stopped,
-                    parser,
-                };
-            }
-            Found::End => {
-                return Drained {
-                    at,
-                    records,
-                    laid,
-                    left: Left::Ended,
-                    parser,
-                };
-            }
-        }
+        let Found::Record { start, len, next } = found else {
+            let left = left_at(found);
+            return Drained {
+                at,
+                records,
+                laid,
+                left,
+                parser,
+            };
+        };
+        let told = put_record(out, laid, records, records::part(buf, start, len), parser);
+        laid = told.laid;
+        parser = told.parser;
+        at = next;
+        records = std::num::wrapping_add_u64(records, 1);
     }
     Drained {
         at,

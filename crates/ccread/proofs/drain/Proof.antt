@@ -5,7 +5,7 @@ use native.Mathlib.Omega.{arith}
 use lib.ListN.{length}
 use borrow.Author.Needs.{needs}
 use Rattle.ccread.specs.Walk.{walked}
-use Rattle.ccread.proofs.Walks.{walk-over, walk-more, walk-wrong, walk-short, walk-ended, walk-on}
+use Rattle.ccread.proofs.Walks.{walk-over, walk-stops, walk-on}
 use Rattle.ccread.proofs.drain.Statement.{statement}
 use Rattle.ccread.proofs.drain.Tie as tie
 
@@ -27,6 +27,15 @@ next-record-requires c κs = search needs
 enum-known-found : tie.Need-enum-known-found Inv-loop μ-loop
 enum-known-found c = search needs
 
+left-at-requires : tie.Need-left-at-requires Inv-loop μ-loop
+left-at-requires c κs = search needs
+
+same-length : tie.Need-same-length Inv-loop μ-loop
+same-length c = search needs
+
+returns : tie.Need-returns Inv-loop μ-loop
+returns c = let l = c .before .before .before .before .loop in walk-stops (l .n) _ _ (l .at) (l .records) _ (l .inv .3) (c .before .before .before .loop-test .taken) _ (c .before .before .next-record .ensures) (c .before .match .keys2) _ (c .left-at .ensures)
+
 part-requires : tie.Need-part-requires Inv-loop μ-loop
 part-requires c κs = search needs
 
@@ -42,47 +51,11 @@ loop-less c = omega arith
 loop-again : tie.Need-loop-again Inv-loop μ-loop
 loop-again c = let l = c .before .before .before .before .before .before .before .before .before .before .before .before .loop in (omega arith, search needs, search needs, walk-on (l .n) _ _ (l .at) (l .records) _ (l .inv .3) (c .before .before .before .before .before .before .before .before .before .before .before .loop-test .taken) _ (c .before .before .before .before .before .before .before .before .before .before .next-record .ensures) _ _ _ _ _ _ (c .before .before .before .before .before .before .before .before .found .given .1) (c .before .before .before .before .before .part .ensures) (c .before .before .before .before .put-record .ensures .1) (c .wrapping-add-u64 .ensures))
 
-enum-told : tie.Need-enum-told Inv-loop μ-loop
-enum-told c = search needs
-
-same-length : tie.Need-same-length Inv-loop μ-loop
-same-length c = search needs
-
-returns : tie.Need-returns Inv-loop μ-loop
-returns c = let l = c .before .before .before .before .loop in walk-more (l .n) _ _ (l .at) (l .records) _ (l .inv .3) (c .before .before .before .loop-test .taken) _ (c .before .before .next-record .ensures) (c .enum-told .given .1)
-
-enum-told-2 : tie.Need-enum-told-2 Inv-loop μ-loop
-enum-told-2 c = search needs
-
 same-length-2 : tie.Need-same-length-2 Inv-loop μ-loop
 same-length-2 c = search needs
 
 returns-2 : tie.Need-returns-2 Inv-loop μ-loop
-returns-2 c = let l = c .before .before .before .before .loop in walk-wrong (l .n) _ _ (l .at) (l .records) _ (l .inv .3) (c .before .before .before .loop-test .taken) _ (c .before .before .next-record .ensures) (c .enum-told2 .given .1)
-
-enum-told-3 : tie.Need-enum-told-3 Inv-loop μ-loop
-enum-told-3 c = search needs
-
-same-length-3 : tie.Need-same-length-3 Inv-loop μ-loop
-same-length-3 c = search needs
-
-returns-3 : tie.Need-returns-3 Inv-loop μ-loop
-returns-3 c = let l = c .before .before .before .before .loop in walk-short (l .n) _ _ (l .at) (l .records) _ (l .inv .3) (c .before .before .before .loop-test .taken) _ (c .before .before .next-record .ensures) (c .enum-told3 .given .1)
-
-enum-told-4 : tie.Need-enum-told-4 Inv-loop μ-loop
-enum-told-4 c = search needs
-
-same-length-4 : tie.Need-same-length-4 Inv-loop μ-loop
-same-length-4 c = search needs
-
-returns-4 : tie.Need-returns-4 Inv-loop μ-loop
-returns-4 c = let l = c .before .before .before .before .loop in walk-ended (l .n) _ _ (l .at) (l .records) _ (l .inv .3) (c .before .before .before .loop-test .taken) _ (c .before .before .next-record .ensures) (c .enum-told4 .given .1)
-
-same-length-5 : tie.Need-same-length-5 Inv-loop μ-loop
-same-length-5 c = search needs
-
-returns-5 : tie.Need-returns-5 Inv-loop μ-loop
-returns-5 c = let l = c .before .loop in walk-over (l .n) _ _ (l .at) (l .records) _ (l .inv .3) (omega arith)
+returns-2 c = let l = c .before .loop in walk-over (l .n) _ _ (l .at) (l .records) _ (l .inv .3) (omega arith)
 
 pub drain-spec : {M : Type 1} → statement M
 drain-spec =
@@ -94,22 +67,13 @@ drain-spec =
     sub-n
     next-record-requires
     enum-known-found
+    left-at-requires
+    same-length
+    returns
     part-requires
     put-record-requires
     wrapping-add-u64-requires
     loop-less
     loop-again
-    enum-told
-    same-length
-    returns
-    enum-told-2
     same-length-2
-    returns-2
-    enum-told-3
-    same-length-3
-    returns-3
-    enum-told-4
-    same-length-4
-    returns-4
-    same-length-5
-    returns-5)
+    returns-2)
