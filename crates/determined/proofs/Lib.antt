@@ -11,6 +11,7 @@ pub mod Gather
 pub mod Parser
 pub mod Frames
 pub mod Turns
+pub mod Queues
 pub mod Writer
 pub mod Records
 pub mod Lines

@@ -26,7 +26,8 @@ use Rattle.turns.specs.Queue.{pairsOf, queueOf, slid, pushedPair, downTo}
 use Rattle.turns.proofs.Queues.{Sized, push-cases, sized-pushed, count-times, slid-front}
 use Rattle.turns.specs.declared.PairQueue.{PairQueue}
 use Rattle.slots.specs.Slot.{noSlot, writtenLength, writtenBytes, writtenSlot}
-use Rattle.writer.specs.Slots.{allWritten, validSending, leftFrom}
+use Rattle.queues.specs.Written.{allWritten, validSending}
+use Rattle.writer.specs.Slots.{leftFrom}
 use Rattle.writer.specs.Sending.{begun, restedSlot, restedSent}
 use Rattle.writer.specs.Writer.{means, validWriter, Ok, afterFrame}
 use Rattle.writer.specs.Calls.{saidMicros, fresh, withPadding, withFields, pushedTo, flushed, budgetsAt, written}

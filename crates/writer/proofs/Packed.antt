@@ -18,7 +18,8 @@ use Rattle.model.proofs.Packets.{Valid, Shape, shape, plain-back}
 use Rattle.slots.specs.Slot.{noSlot, writtenLength, writtenBytes, slotPacket, writtenSlot}
 use Rattle.slots.proofs.Encodes.{written-passes}
 use Rattle.slots.specs.declared.Slot.{Slot}
-use Rattle.writer.specs.Slots.{packetsOf, allWritten, validSending}
+use Rattle.queues.specs.Written.{allWritten, validSending}
+use Rattle.writer.specs.Slots.{packetsOf}
 use Rattle.writer.specs.Writer.{means, validWriter, Ok}
 use Rattle.writer.specs.Calls.{slotOf, withPackets, pushedPacket}
 use Rattle.writer.proofs.Valid.{Shaped, valid-ok}

@@ -1,7 +1,7 @@
 -- Where sending stands after the model's packet triples: packet by packet, as the model goes. Assumes nothing.
 use mathlib.Core.Path.{_≡_, refl, sym, ap, _∙_}
 use mathlib.Core.Bool.{Bool, true, false, cond}
-use mathlib.Core.List.{List, [], _∷_, _++_, map}
+use mathlib.Core.List.{List, [], _∷_, _++_}
 use Prim.Native.Nat.{ℕ, zero, suc, _+_, _-_, _*_, _/_, _%_, _≤_, _<_, min}
 use native.Mathlib.Numerals.{add-one}
 use native.Mathlib.Omega.{arith}
@@ -23,10 +23,6 @@ use Rattle.writer.specs.Sending.{begun, stands, sentFrom, movedBy, finis
 use Rattle.writer.proofs.Triples.{left-length, put-length}
 use Rattle.slots.specs.declared.Slot.{Slot}
 use Rattle.writer.specs.declared.Sending.{Sending}
-
--- the length of an array of slots, from what owning it tells
-pub length-mapped : (X Y : Type 0) (f : X → Y) (l : List X) (n : ℕ) → length (map f l) ≡ n → length l ≡ n
-length-mapped X Y f l n e = sym (length-map l f) ∙ e
 
 -- what leaves the queue does not come back
 pub send-fewer : (m : ℕ) (ts : List Triple) (ps : List Packet) → length (send m ts ps .packets) ≤ length ps

@@ -1,14 +1,14 @@
 -- The slots of the multiplexer, and the triples that carry their bytes. Assumes nothing.
 use mathlib.Core.Path.{_≡_}
-use mathlib.Core.Bool.{Bool, true, false, cond, not, _&&_, _||_}
-use mathlib.Core.List.{List, [], _∷_, map}
-use Prim.Native.Nat.{ℕ, _+_, _*_, _%_, _≤_, _<_}
-use lib.Dec.{eqb, leb}
-use lib.ListN.{length, getD, take, drop}
+use mathlib.Core.Bool.{cond}
+use mathlib.Core.List.{List, map}
+use Prim.Native.Nat.{ℕ, _%_, _≤_, _<_}
+use lib.Dec.{eqb}
+use lib.ListN.{length, getD, drop}
 use Rattle.model.specs.Packet.{Packet}
 use Rattle.model.specs.Frame.{Triple}
 use Rattle.model.specs.Mux.{started, continued}
-use Rattle.slots.specs.Slot.{noSlot, writtenLength, writtenBytes, slotPacket, writtenSlot, Carries}
+use Rattle.slots.specs.Slot.{noSlot, writtenLength, writtenBytes, slotPacket, Carries}
 use Rattle.slots.specs.declared.Slot.{Slot}
 
 -- the packets that slots are
@@ -18,23 +18,6 @@ packetsOf l = map slotPacket l
 -- the triples that carry bytes of which the first `at` have left
 unfoldable pub leftFrom : ℕ → List ℕ → List Triple
 leftFrom at d = cond (eqb at 0) (started d) (continued (drop at d))
-
--- every slot is the written form of a packet that is not empty
-unfoldable pub allWritten : List Slot → Bool
-allWritten [] = true
-allWritten (s ∷ ss) = writtenSlot s && allWritten ss
-
--- a slot is such a form, if it is taken
-abbrev pub writtenIf : Bool → Slot → Bool
-writtenIf taken s = cond taken (writtenSlot s) true
-
--- an even number of a packet's bytes has left, and no more than there are
-unfoldable pub sendsWhole : ℕ → ℕ → Bool
-sendsWhole len sent = leb len 128 && (eqb (sent % 2) 0 && leb sent (len + len % 2))
-
--- a slot that can be the packet being sent, of which `sent` bytes have left; nothing is being sent where its length is 0
-unfoldable pub validSending : Slot → ℕ → Bool
-validSending s sent = (eqb (s .len) 0 || writtenSlot s) && (eqb (sent % 2) 0 && leb sent (writtenLength s))
 
 -- the slots of the queue hold packets as they are written
 pub record Queued (l : List Slot) (count : ℕ) : Type 0 where

@@ -17,7 +17,8 @@ use Rattle.turns.proofs.Queues.{Sized}
 use Rattle.frames.specs.declared.Frame.{Frame}
 use Rattle.turns.specs.declared.Turns.{Turns}
 use Rattle.slots.specs.Slot.{writtenLength, writtenBytes}
-use Rattle.writer.specs.Slots.{packetsOf, leftFrom, allWritten, validSending, Queued, Held}
+use Rattle.queues.specs.Written.{allWritten, validSending}
+use Rattle.writer.specs.Slots.{packetsOf, leftFrom, Queued, Held}
 use Rattle.writer.specs.Sending.{begun, sentFrom, restedSlot, restedSent}
 use Rattle.slots.specs.declared.Slot.{Slot}
 use Rattle.writer.specs.declared.Sending.{Sending}

@@ -8,6 +8,7 @@ use caption::Refusal;
 use caption::Truth;
 use frames::Frame;
 use packet::DTVCCPacket;
+use queues::slots_written;
 use slots::Slot;
 use turns::PairQueue;
 use turns::Turns;
@@ -15,8 +16,7 @@ ghost use mathlib.Core.Path.{_≡_};
 ghost use mathlib.Core.Bool.{cond, _&&_};
 ghost use mathlib.Core.List.{[], _∷_, _++_};
 ghost use Prim.Native.Nat.{ℕ, _+_, _-_, _*_, _/_, _%_, _≤_, _<_, min, max};
-ghost use lib.Dec.{ltb};
-ghost use lib.ListN.{length, getD, take, drop};
+ghost use lib.ListN.{length, take};
 ghost use lib.Seq.{sets};
 ghost use Rattle.model.specs.Said.{gave, saysWith, measured, checked, mapped, after};
 ghost use Rattle.model.specs.Frame.{flat};
@@ -29,15 +29,12 @@ ghost use Rattle.writer.specs.Calls.{Answers, saidMicros, fresh, withPad
 ghost use mathlib.Core.Bool.{true, false};
 ghost use Rattle.turns.specs.Queue.{slid};
 ghost use Rattle.slots.specs.Slot.{writtenBytes};
-ghost use Rattle.writer.specs.Slots.{allWritten, writtenIf, sendsWhole, packetsOf, leftFrom, Queued, Held};
+ghost use Rattle.writer.specs.Slots.{packetsOf, leftFrom, Queued, Held};
 ghost use Rattle.writer.specs.Writer.{means, Ok, validWriter, afterFrame, madeOf, unmadeOf, Builds, turnsOf, padded, filled, Room};
 ghost use Rattle.writer.specs.Sending.{sentFrom, finished, restedSlot, restedSent};
 
 // The packets that wait, beside the one being sent.
 const MOST_PACKETS: usize = 16;
-
-// The bytes of the longest packet.
-const MOST_PACKET: usize = 128;
 
 // The pairs that wait, of each field.
 const MOST_QUEUED: usize = 64;
@@ -372,84 +369,6 @@ fn unplaced(answer: Answer) -> Placed
     }
 }
 
-// Whether `sent` bytes can have left of a packet of `len`: an even number, and no more than there are.
-fn sends_whole(len: usize, sent: usize) -> bool
-    ensures { λ r. ⌜ r ≡ sendsWhole len sent ⌝ }
-{
-    if MOST_PACKET < len {
-        return false;
-    }
-    if sent % 2 == 0 {
-        return sent <= len + len % 2;
-    }
-    false
-}
-
-// Whether a slot is a written packet, if it is taken.
-fn written_if(taken: bool, slot: Slot) -> bool
-    ensures { λ r. ⌜ r ≡ writtenIf taken slot ⌝ }
-{
-    if taken {
-        return slot.is_written();
-    }
-    true
-}
-
-// Whether a slot, if it is taken, and the slots of the queue are written packets. The first four stand at constant places, where they are read
-// without a copy of the queue; only a longer queue is copied.
-fn row_written(taken: bool, slot: Slot, packets: [Slot; 16], count: usize) -> bool
-    requires { ⌜ count ≤ 16 ⌝ }
-    ensures { λ r. ⌜ r ≡ (writtenIf taken slot && allWritten (take count packets)) ⌝ }
-{
-    if 4 < count {
-        if !row_written(taken, slot, packets, 4) {
-            return false;
-        }
-        return others_written(packets, count);
-    }
-    let a = packets[0];
-    let b = packets[1];
-    let c = packets[2];
-    let d = packets[3];
-    four_written(taken, slot, count, a, b, c, d)
-}
-
-// The same of the slots behind the first four.
-fn others_written(packets: [Slot; 16], count: usize) -> bool
-    requires { ⌜ (4 ≤ count) × (count ≤ 16) ⌝ }
-    ensures { λ r. ⌜ r ≡ allWritten (drop 4 (take count packets)) ⌝ }
-{
-    let mut i: usize = 4;
-    while i < count {
-        let slot = packets[i];
-        if slot.is_written() {
-            i += 1;
-        } else {
-            return false;
-        }
-    }
-    true
-}
-
-// The same of a slot and the first four of the queue.
-fn four_written(taken: bool, slot: Slot, count: usize, a: Slot, b: Slot, c: Slot, d: Slot) -> bool
-    ensures { λ r. ⌜ r ≡ (writtenIf taken slot && (writtenIf (ltb 0 count) a && (writtenIf (ltb 1 count) b && (writtenIf (ltb 2 count) c && writtenIf (ltb 3 count) d)))) ⌝ }
-{
-    if !written_if(taken, slot) {
-        return false;
-    }
-    if !written_if(0 < count, a) {
-        return false;
-    }
-    if !written_if(1 < count, b) {
-        return false;
-    }
-    if !written_if(2 < count, c) {
-        return false;
-    }
-    written_if(3 < count, d)
-}
-
 impl CCDataWriter {
     // Whether the state is within its limits.
     fn is_valid(self) -> bool
@@ -458,20 +377,14 @@ impl CCDataWriter {
         let field1 = self.field1;
         let field2 = self.field2;
         let slot = self.sending;
-        if MOST_PACKETS < self.packet_count {
-            return false;
-        }
         if MOST_QUEUED < field1.count {
             return false;
         }
         if MOST_QUEUED < field2.count {
             return false;
         }
-        if sends_whole(slot.len, self.sent) {
-            let packets = self.packets;
-            return row_written(0 < slot.len, slot, packets, self.packet_count);
-        }
-        false
+        let packets = self.packets;
+        slots_written(slot, self.sent, packets, self.packet_count)
     }
 
     // A multiplexer with nothing queued, and no padding.

@@ -3,7 +3,7 @@ use mathlib.Core.Path.{_≡_, refl, sym, _∙_}
 use mathlib.Core.Bool.{true}
 use mathlib.Core.List.{[]}
 use native.Mathlib.Omega.{arith}
-use Rattle.writer.proofs.Sends.{length-mapped}
+use Rattle.queues.proofs.Written.{length-mapped}
 use Rattle.writer.proofs.Valid.{valid-ok}
 use Rattle.writer.proofs.Calls.{sane, wrote-rate, wrote-short, wrote-done, wrote-value, unmade-makes}
 use Rattle.writer.specs.Writer.{Ok}

@@ -3,7 +3,7 @@ use mathlib.Core.Path.{_≡_, refl, sym, _∙_}
 use mathlib.Core.Bool.{true, false, false≢true}
 use native.Mathlib.Omega.{arith}
 use Rattle.packet.proofs.Holds.{Places}
-use Rattle.writer.proofs.Sends.{length-mapped}
+use Rattle.queues.proofs.Written.{length-mapped}
 use Rattle.writer.proofs.Valid.{valid-ok}
 use Rattle.writer.proofs.Packs.{counted-given, counted-refused, refused-both, refused-packet, accepted-empty, refused-full, accepted-packet, written-bytes, unplaced-stores}
 use Rattle.writer.specs.Writer.{Ok}

@@ -1,7 +1,7 @@
 -- `writer::CCDataWriter::queue_pair` meets its contract: one law of `Calls` for each way out. Assumes nothing.
 use mathlib.Core.Path.{_≡_, refl, sym, _∙_}
 use mathlib.Core.Bool.{true}
-use Rattle.writer.proofs.Sends.{length-mapped}
+use Rattle.queues.proofs.Written.{length-mapped}
 use Rattle.writer.proofs.Valid.{valid-ok}
 use Rattle.writer.proofs.Calls.{pushed-first, pushed-second, refused-value}
 use Rattle.writer.specs.Writer.{Ok}

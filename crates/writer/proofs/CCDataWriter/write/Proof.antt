@@ -5,7 +5,7 @@ use Prim.Native.Nat.{_-_, _<_}
 use native.Mathlib.Omega.{arith}
 use lib.ListN.{length}
 use borrow.Author.Needs.{needs}
-use Rattle.writer.proofs.Sends.{length-mapped}
+use Rattle.queues.proofs.Written.{length-mapped}
 use Rattle.writer.proofs.Moves.{Moving, moving-none, moving-first, moving-more, moving-done}
 use Rattle.writer.proofs.CCDataWriter.write.Statement.{statement}
 use Rattle.writer.proofs.CCDataWriter.write.Tie as tie

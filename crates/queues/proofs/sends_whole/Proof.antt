@@ -1,11 +1,11 @@
--- `writer::sends_whole` meets its contract: the tests are those of the definition. Assumes nothing.
+-- `queues::sends_whole` meets its contract: the tests are those of the definition. Assumes nothing.
 use borrow.Author.Tests.{eq-eqb, ne-eqb, le-leb, lt-leb}
-use Rattle.writer.specs.Slots.{sendsWhole}
+use Rattle.queues.specs.Written.{sendsWhole}
 use borrow.Author.Needs.{needs}
-use Rattle.writer.proofs.sends_whole.Statement.{statement}
-use Rattle.writer.proofs.sends_whole.Tie as tie
-use Rattle.writer.proofs.sends_whole.Reads as reads
-use Rattle.writer.proofs.sends_whole.Lts as lts
+use Rattle.queues.proofs.sends_whole.Statement.{statement}
+use Rattle.queues.proofs.sends_whole.Tie as tie
+use Rattle.queues.proofs.sends_whole.Reads as reads
+use Rattle.queues.proofs.sends_whole.Lts as lts
 
 returns : tie.Need-returns
 unfolding sendsWhole

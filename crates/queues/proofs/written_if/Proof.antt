@@ -1,11 +1,9 @@
--- `writer::written_if` meets its contract: a slot that is not taken passes. Assumes nothing.
-use mathlib.Core.Path.{_∙_}
-use mathlib.Core.Path.{_≡_}
+-- `queues::written_if` meets its contract: a slot that is not taken passes. Assumes nothing.
 use borrow.Author.Needs.{needs}
-use Rattle.writer.proofs.written_if.Statement.{statement}
-use Rattle.writer.proofs.written_if.Tie as tie
-use Rattle.writer.proofs.written_if.Reads as reads
-use Rattle.writer.proofs.written_if.Lts as lts
+use Rattle.queues.proofs.written_if.Statement.{statement}
+use Rattle.queues.proofs.written_if.Tie as tie
+use Rattle.queues.proofs.written_if.Reads as reads
+use Rattle.queues.proofs.written_if.Lts as lts
 use Rattle.slots.proofs.Slot.is_written.Reads as is-written-reads
 
 is-written-requires : tie.Need-is-written-requires

@@ -1,16 +1,15 @@
--- `writer::others_written` meets its contract: what is left of the queue decides. Assumes nothing.
+-- `queues::others_written` meets its contract: what is left of the queue decides. Assumes nothing.
 use mathlib.Core.Path.{_≡_, refl, sym, _∙_}
 use Prim.Native.Nat.{_-_, _≤_}
 use native.Mathlib.Omega.{arith}
 use lib.ListN.{length, take, drop}
-use Rattle.writer.specs.Slots.{allWritten}
-use Rattle.writer.proofs.Sends.{length-mapped}
-use Rattle.writer.proofs.Valid.{written-next, written-not, written-all}
+use Rattle.queues.specs.Written.{allWritten}
+use Rattle.queues.proofs.Written.{length-mapped, written-next, written-not, written-all}
 use borrow.Author.Needs.{needs}
-use Rattle.writer.proofs.others_written.Statement.{statement}
-use Rattle.writer.proofs.others_written.Tie as tie
-use Rattle.writer.proofs.others_written.Reads as reads
-use Rattle.writer.proofs.others_written.Lts as lts
+use Rattle.queues.proofs.others_written.Statement.{statement}
+use Rattle.queues.proofs.others_written.Tie as tie
+use Rattle.queues.proofs.others_written.Reads as reads
+use Rattle.queues.proofs.others_written.Lts as lts
 use Rattle.slots.proofs.Slot.is_written.Reads as is-written-reads
 
 abbrev Inv-loop : tie.InvT-loop

@@ -1,0 +1,28 @@
+-- `queues::slots_written` meets its contract: one law of `Written` for each way out. Assumes nothing.
+use Rattle.queues.proofs.Written.{over-packets, bad-sending, all-packets}
+use borrow.Author.Needs.{needs}
+use Rattle.queues.proofs.slots_written.Statement.{statement}
+use Rattle.queues.proofs.slots_written.Tie as tie
+use Rattle.queues.proofs.slots_written.Reads as reads
+use Rattle.queues.proofs.slots_written.Lts as lts
+use Rattle.queues.proofs.row_written.Reads as row-written-reads
+use Rattle.queues.proofs.sends_whole.Reads as sends-whole-reads
+
+returns : tie.Need-returns
+returns c = search (needs, over-packets)
+
+sends-whole-requires : tie.Need-sends-whole-requires
+sends-whole-requires c κs = search needs
+
+row-written-requires : tie.Need-row-written-requires
+row-written-requires c κs = search needs
+
+returns-2 : tie.Need-returns-2
+returns-2 c = search (needs, all-packets)
+
+returns-3 : tie.Need-returns-3
+returns-3 c = search (needs, bad-sending)
+
+pub slots-written-spec : {M : Type 1} → statement M
+slots-written-spec =
+    tie.close (tie.spec returns sends-whole-requires row-written-requires returns-2 returns-3)
