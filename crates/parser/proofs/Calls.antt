@@ -36,24 +36,6 @@ module _ (p q : CCDataParser) (b : Bool) (tested : b ≡ valid p) where
   pub call-refused : (r : ParserAnswer) → b ≡ false → r ≡ fed (refusedFor BadValue) p → Answers (saidCall p) (afterCall p q) r
   call-refused r e w = rw (← tested, e, w) (record { answer = refl; parser = refl })
 
--- 608 turned on
-pub call-turned : (p : CCDataParser) (b : Bool) → b ≡ valid p → b ≡ true
-    → Answers (saidCall p) (afterCall p (turnedOn p)) (record {
-      answer = Accepted;
-      parser = record {
-        «cea608_on» = true;
-        «pair_count» = 0;
-        pairs = p .pairs;
-        «pending_len» = p .«pending_len»;
-        pending = p .pending;
-        «waiting_first» = p .«waiting_first»;
-        «waiting_count» = p .«waiting_count»;
-        waiting = p .waiting;
-      };
-    })
-unfolding turnedOn
-call-turned p b tested e = call-accepted p (turnedOn p) b tested _ e refl
-
 -- how many wait
 pub pairs-length : (n : ℕ) (l : List ℕ) → length (pairsOf n l) ≡ n
 unfolding pairsOf

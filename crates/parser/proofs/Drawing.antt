@@ -2,7 +2,7 @@
 use mathlib.Core.Path.{_≡_, refl, sym, ap, _∙_}
 use mathlib.Core.List.{List, _∷_}
 use mathlib.Core.Bool.{Bool, true, false}
-use Prim.Native.Nat.{_+_, _-_, _*_, _%_, _≤_}
+use Prim.Native.Nat.{ℕ, _+_, _-_, _*_, _%_, _≤_}
 use native.Mathlib.Omega.{arith}
 use lib.ListN.{length, getD}
 use lib.Dec.{eqb}
@@ -26,6 +26,7 @@ use Rattle.parser.specs.declared.Drawn.{Drawn}
 use Rattle.parser.specs.declared.Took.{Took}
 use Rattle.parser.specs.declared.Item.the-variants.{Nothing, Refused}
 use Rattle.caption.specs.declared.Refusal.the-variants as refusal
+use Rattle.gather.proofs.Slots.{RingFine}
 use Rattle.parser.proofs.Valids.{Fine, fine-facts, facts-fine}
 use Rattle.parser.proofs.Pushes.{tested-valid}
 use Rattle.parser.proofs.Firsts.{slid-length, pairs-drawn, fields-drawn, pair-drawn, ring-drawn, slot-read, slot-short}
@@ -56,6 +57,12 @@ module _ (p : CCDataParser) (v : Fine (countsOf p) (p .pairs) (p .pending) (p .w
         shaped = record { pairs = slid-length (p .pairs) (p .«pair_count» - 1) (omega (arith, n)) ∙ s .pairs; pending = s .pending; waiting = s .waiting };
       })
 
+  -- once no pair is left, the state is within the limits if its ring is
+  no-pair-fine : (first waiting : ℕ) → RingFine first waiting (p .waiting)
+      → fine (record { on = p .«cea608_on»; pairs = 0; pending = p .«pending_len»; first = first; waiting = waiting }) (p .pairs) (p .pending) (p .waiting) ≡ true
+  unfolding fieldsFine
+  no-pair-fine first waiting ring = facts-fine _ _ _ _ (record { few = omega arith; fields = refl; waits = v .waits; ring = ring })
+
   -- the slots that wait, by the first
   module _ (n : p .«waiting_count» ≡ 0 → ⊥) where
     -- the first slot
@@ -85,14 +92,7 @@ module _ (p : CCDataParser) (v : Fine (countsOf p) (p .pairs) (p .pending) (p .w
           said = refl;
           packet = refl;
           means = refl;
-          valid =
-              facts-fine _ _ _ _
-              (record {
-                few = omega arith;
-                fields = refl;
-                waits = v .waits;
-                ring = record { first = omega arith; count = omega (arith, v .ring .count); reading = reading .1 };
-              });
+          valid = no-pair-fine _ _ (record { first = omega arith; count = omega (arith, v .ring .count); reading = reading .1 });
           shaped = record { pairs = s .pairs; pending = s .pending; waiting = s .waiting };
         })
 
@@ -105,14 +105,7 @@ module _ (p : CCDataParser) (v : Fine (countsOf p) (p .pairs) (p .pending) (p .w
         said = refl;
         packet = refl;
         means = refl;
-        valid =
-            facts-fine _ _ _ _
-            (record {
-              few = omega arith;
-              fields = refl;
-              waits = v .waits;
-              ring = record { first = v .ring .first; count = omega arith; reading = refl };
-            });
+        valid = no-pair-fine _ _ (record { first = v .ring .first; count = omega arith; reading = refl });
         shaped = record { pairs = s .pairs; pending = s .pending; waiting = s .waiting };
       })
 

@@ -1,5 +1,6 @@
 -- `parser::CCDataParser::handle_cea608` meets its contract: one law of `Calls` for each way out. Assumes nothing.
-use Rattle.parser.proofs.Calls.{call-refused, call-turned}
+use Rattle.parser.proofs.Calls.{call-accepted, call-refused}
+use Rattle.parser.specs.Means.{turnedOn}
 use borrow.Author.Needs.{needs}
 use Rattle.parser.proofs.CCDataParser.handle_cea608.Statement.{statement}
 use Rattle.parser.proofs.CCDataParser.handle_cea608.Tie as tie
@@ -8,7 +9,8 @@ is-valid-requires : tie.Need-is-valid-requires
 is-valid-requires c κs = search needs
 
 returns : tie.Need-returns
-returns c = search (needs, call-turned)
+unfolding turnedOn
+returns c = search (needs, call-accepted)
 
 refused-requires : tie.Need-refused-requires
 refused-requires c κs = search needs
