@@ -11,7 +11,7 @@ use Rattle.caption.specs.Answers.{saidAnswer, saidCounted}
 use Rattle.model.specs.Said.{measured}
 use Rattle.triples.specs.Pairs.{pairsOf}
 use Rattle.parser.specs.Valid.{countsOf, valid}
-use Rattle.parser.specs.Means.{means, Shaped, Answers, saidPush, saidCall, afterCall, turnedOn}
+use Rattle.parser.specs.Means.{means, Shaped, Answers, saidPush, saidCall, afterCall}
 use Rattle.parser.specs.Push.{fed, refusedFor, pushed}
 use Rattle.parser.specs.declared.CCDataParser.{CCDataParser}
 use Rattle.parser.specs.declared.ParserAnswer.{ParserAnswer}
