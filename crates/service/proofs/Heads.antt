@@ -2,20 +2,21 @@
 use mathlib.Core.Path.{_≡_, refl, sym, _∙_}
 use mathlib.Core.Bool.{Bool, true, false, cond, not, _&&_}
 use mathlib.Core.List.{List, []}
-use Prim.Native.Nat.{ℕ, suc, _+_, _-_, _*_, _/_, _%_, _≤_, _<_}
+use Prim.Native.Nat.{ℕ, suc, _+_, _-_, _*_, _/_, _%_, _≤_, _<_, min}
 use native.Mathlib.Nat.{add-zero}
 use native.Mathlib.Numerals.{add-one}
 use native.Mathlib.Omega.{arith}
 use lib.Dec.{eqb, ltb}
-use lib.ListN.{length, take, drop, getD, set, length-drop, drop-of-length-le, length-set}
-use lib.Seq.{sets, getD-drop, set-out}
+use lib.ListN.{length, take, drop, getD, set, length-take, length-drop, drop-of-length-le, length-set}
+use lib.Seq.{sets, getD-take, getD-drop, set-out}
 use borrow.Author.Tests.{eq-eqb, ne-eqb, lt-ltb, le-ltb, ltb-false}
 use Rattle.model.specs.Block.{Block, topNumber, blockSize, headerLength, numberIn, needed, isShort, blockIn, partIn, writtenHeader, writtenBlock}
 use Rattle.model.proofs.Cases.{by-cond}
 use Rattle.model.proofs.Blocks.{header-one, header-two, header-bare, header-written}
 use Rattle.model.proofs.Limits.{all-there}
+use Rattle.service.specs.declared.Head.{Head}
 use Rattle.service.specs.declared.Head.the-variants.{Whole, Short}
-use Rattle.service.specs.Head.{headOf}
+use Rattle.service.specs.Head.{headOf, HeadBy}
 use Rattle.service.proofs.Runs.{sets-append}
 
 -- the header's own length
@@ -35,47 +36,64 @@ pub header-least : (h : ℕ) → 1 ≤ headerLength h
 unfolding headerLength
 header-least h = by-cond (λ n. 1 ≤ n) (eqb (topNumber h) 7 && not (eqb (blockSize h) 0)) (λ _. omega arith) (λ _. omega arith)
 
--- bytes from a place on
-module _ (d : List ℕ) (at : ℕ) where
-  -- the first of them
-  first-of : getD (drop at d) 0 0 ≡ getD d at 0
-  first-of = getD-drop at d 0 0 ∙ rw add-zero
+-- nor are there more than two
+pub header-most : (h : ℕ) → headerLength h ≤ 2
+unfolding headerLength
+header-most h = by-cond (λ n. n ≤ 2) (eqb (topNumber h) 7 && not (eqb (blockSize h) 0)) (λ _. omega arith) (λ _. omega arith)
 
-  -- the second of them
-  second-of : getD (drop at d) 1 0 ≡ getD d (at + 1) 0
-  second-of = getD-drop at d 1 0
+-- bytes of this many that begin so
+module _ (d : List ℕ) (n h second start : ℕ) (is : length d ≡ n) (first : h ≡ getD d 0 0) (e : start ≡ headerLength h) where
+  -- the header is cut
+  pub head-cut : n < start → Short start ≡ headOf d
+  unfolding headOf isShort needed
+  head-cut k = rw (← first, ← e, is) (simp (lt-ltb _ _ k))
 
-  -- the number, by the header's length
-  pub number-second : (start : ℕ) → start ≡ headerLength (getD d at 0) → start ≡ 2 → getD d (at + 1) 0 % 64 ≡ numberIn (drop at d)
-  unfolding numberIn
-  number-second start e t = rw (first-of, second-of, ← e, t)
+  module _ (k : start ≤ n) where
+    -- the body is cut
+    pub body-cut : n < start + h % 32 → Short (start + h % 32) ≡ headOf d
+    unfolding headOf isShort needed
+    body-cut m = rw (← first, ← e, is) (simp (le-ltb _ _ k, lt-ltb _ _ m))
 
-  -- one byte: the number is its top bits
-  pub number-first : (start : ℕ) → start ≡ headerLength (getD d at 0) → (start ≡ 2 → ⊥) → getD d at 0 / 32 % 8 ≡ numberIn (drop at d)
-  unfolding numberIn
-  number-first start e t = rw (first-of, ← e, ne-eqb start 2 t)
+    module _ (m : start + h % 32 ≤ n) where
+      -- two bytes: the second gives the number
+      pub head-two : (2 ≤ n → second ≡ getD d 1 0) → start ≡ 2 → Whole (second % 64) start (h % 32) ≡ headOf d
+      unfolding headOf isShort needed numberIn
+      head-two next t = rw (← first, ← e, is, ← next (omega arith)) (simp (le-ltb _ _ k, le-ltb _ _ m, eq-eqb _ _ t))
+
+      -- one byte: its top bits do
+      pub head-one : (start ≡ 2 → ⊥) → Whole (h / 32 % 8) start (h % 32) ≡ headOf d
+      unfolding headOf isShort needed numberIn
+      head-one t = rw (← first, ← e, is) (simp (le-ltb _ _ k, le-ltb _ _ m, ne-eqb _ _ t))
+
+-- bytes from a place on, of which the header is told by the first two
+module _ (d : List ℕ) (at : ℕ) (r : Head) where
+  -- nothing there
+  pub none-at : length d ≤ at → HeadBy 0 0 0 r → r ≡ headOf (drop at d)
+  none-at h by = rw (drop-of-length-le d h) (by [] refl refl (λ _. refl))
+
+  -- some
+  pub some-at : (h second n : ℕ) → length d - at ≡ n → h ≡ getD d at 0 → (2 ≤ n → second ≡ getD d (at + 1) 0) → HeadBy h second n r → r ≡ headOf (drop at d)
+  some-at h second n is first next by =
+      by (drop at d) (length-drop at d ∙ is) (first ∙ sym (getD-drop at d 0 0 ∙ rw add-zero)) (λ k. next k ∙ sym (getD-drop at d 1 0))
+
+  -- one
+  pub one-at : (h second n : ℕ) → length d - at ≡ n → n ≡ 1 → h ≡ getD d at 0 → HeadBy h second 1 r → r ≡ headOf (drop at d)
+  one-at h second n is one first by = some-at h second 1 (is ∙ one) first (λ k. absurd (omega arith)) by
+
+-- the first `end` bytes, from a place on
+module _ (b : List ℕ) (at end n : ℕ) (r : Head) (most : n ≡ min end (length b)) where
+  so-many : length (take end b) ≡ n
+  so-many = length-take end b ∙ sym most
 
   -- nothing there
-  pub head-none : length d ≤ at → Short 1 ≡ headOf (drop at d)
-  unfolding headOf isShort needed headerLength
-  head-none h = rw (drop-of-length-le d h)
+  pub none-in : n ≤ at → HeadBy 0 0 0 r → r ≡ headOf (drop at (take end b))
+  none-in h by = none-at (take end b) at r (omega (arith, so-many)) by
 
-  module _ (start : ℕ) (e : start ≡ headerLength (getD d at 0)) where
-    -- the header is cut
-    pub head-cut : length d - at < start → Short start ≡ headOf (drop at d)
-    unfolding headOf isShort needed
-    head-cut h = rw (first-of, ← e, length-drop at d) (simp (lt-ltb _ _ h))
-
-    -- the body is cut
-    pub body-cut : start ≤ length d - at → length d - at < start + getD d at 0 % 32 → Short (start + getD d at 0 % 32) ≡ headOf (drop at d)
-    unfolding headOf isShort needed
-    body-cut k h = rw (first-of, ← e, length-drop at d) (simp (le-ltb _ _ k, lt-ltb _ _ h))
-
-    -- all is there
-    pub head-whole : (number : ℕ) → start ≤ length d - at → start + getD d at 0 % 32 ≤ length d - at → number ≡ numberIn (drop at d)
-        → Whole number start (getD d at 0 % 32) ≡ headOf (drop at d)
-    unfolding headOf isShort needed
-    head-whole number k h q = rw (first-of, ← e, length-drop at d, ← q) (simp (le-ltb _ _ k, le-ltb _ _ h))
+  -- some: where there is a second, it stands behind the first
+  pub some-in : length b ≡ 128 → at < n → HeadBy (getD b at 0) (getD b ((at + 1) % 128) 0) (n - at) r → r ≡ headOf (drop at (take end b))
+  some-in is h by =
+      some-at (take end b) at r (getD b at 0) (getD b ((at + 1) % 128) 0) (n - at) (rw so-many) (sym (getD-take end b at 0 (omega arith)))
+      (λ k. let e : (at + 1) % 128 ≡ at + 1 = omega arith in rw e (sym (getD-take end b (at + 1) 0 (omega arith)))) by
 
 -- a header laid into a list: of one byte, of two, and of two where there is room for one
 module _ (l : List ℕ) (at number size : ℕ) where
@@ -101,10 +119,6 @@ unfolding writtenBlock
 laid-block b l at start size p q =
     let n : length (writtenHeader (b .number) (length (b .payload))) ≡ start = header-written (b .number) (length (b .payload)) ∙ sym p in
     rw q (sym (sets-append (writtenHeader (b .number) (length (b .payload))) (b .payload) l at ∙ rw n))
-
--- a header that is there has a first byte
-pub first-there : (h start at n : ℕ) → start ≡ headerLength h → at + start ≤ n → at < n
-first-there h start at n e k = omega (arith, header-least h)
 
 -- what is known where a header was read
 pub record Headed (d : List ℕ) (n st sz : ℕ) : Type 0 where

@@ -1,9 +1,10 @@
 -- What the header of a block says, as an answer of the code. Assumes nothing.
+use mathlib.Core.Path.{_≡_}
 use mathlib.Core.Bool.{cond}
 use mathlib.Core.List.{List}
-use Prim.Native.Nat.{ℕ, _+_}
+use Prim.Native.Nat.{ℕ, _+_, _≤_}
 use lib.Dec.{eqb, ltb}
-use lib.ListN.{getD}
+use lib.ListN.{length, getD}
 use Rattle.model.specs.Said.{Said, badValue, lengthMismatch}
 use Rattle.model.specs.Block.{headerLength, blockSize, numberIn, needed, isShort}
 use Rattle.service.specs.declared.Head.{Head}
@@ -12,6 +13,10 @@ use Rattle.service.specs.declared.Head.the-variants.{Whole, Short}
 -- "On reading, bytes missing give 1 with the count needed"; else the number, where the payload starts and its size
 unfoldable pub headOf : List ℕ → Head
 headOf d = cond (isShort d) (Short (needed d)) (Whole (numberIn d) (headerLength (getD d 0 0)) (blockSize (getD d 0 0)))
+
+-- an answer is the header of all bytes that are so many and begin so; without a second byte any may stand for it
+abbrev pub HeadBy : ℕ → ℕ → ℕ → Head → Type 0
+HeadBy first second n r = (d : List ℕ) → length d ≡ n → first ≡ getD d 0 0 → (2 ≤ n → second ≡ getD d 1 0) → r ≡ headOf d
 
 -- the length of a block by its number and the size of its payload
 unfoldable pub lengthFor : ℕ → ℕ → ℕ

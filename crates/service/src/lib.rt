@@ -1,14 +1,14 @@
 // A service block: its number, its payload, how it is read, written and pushed to.
 ghost use mathlib.Core.Path.{_≡_};
-ghost use Prim.Native.Nat.{ℕ, _+_, _%_, _≤_, min};
-ghost use lib.ListN.{length, getD, drop};
+ghost use Prim.Native.Nat.{_%_, min};
+ghost use lib.ListN.{length, take, drop};
 ghost use lib.Seq.{sets};
 ghost use mathlib.Core.Bool.{cond};
 ghost use lib.Dec.{eqb, ltb};
 ghost use Rattle.caption.specs.Answers.{saidRefusal, saidAnswer, saidCounted, saidTruth};
 ghost use Rattle.model.specs.Said.{mapped, measured};
-ghost use Rattle.model.specs.Block.{headerLength, numberIn, partIn, writtenHeader, writtenBlock, newBlock, readBlock, blockLength, blockRoom};
-ghost use Rattle.service.specs.Head.{headOf, lengthFor, saidShort};
+ghost use Rattle.model.specs.Block.{headerLength, partIn, writtenHeader, writtenBlock, newBlock, readBlock, blockLength, blockRoom};
+ghost use Rattle.service.specs.Head.{headOf, HeadBy, lengthFor, saidShort};
 ghost use Rattle.service.specs.Service.{Answers, Writes, blockOf, laid, blank, validService, pushed};
 use caption::Answer;
 use caption::Counted;
@@ -83,27 +83,10 @@ fn header_length(h: u8) -> usize
     1
 }
 
-// The number that the header at `at`, of `start` bytes, gives.
-fn header_number(data: &[u8], at: usize, start: usize) -> u8
-    requires { ⌜ (start ≡ headerLength (getD (now «data») at 0)) × (at + start ≤ length (now «data»)) ⌝ }
-    ensures { λ r. ⌜ r ≡ numberIn (drop at (now («data» .entry))) ⌝ }
+// The header of `n` bytes, of which these are the first two; the first is 0 where there is none.
+fn head_by(h: u8, second: u8, n: usize) -> Head
+    ensures { λ r. ⌜ HeadBy h second n r ⌝ }
 {
-    if start == 2 {
-        return data[at + 1] % 64;
-    }
-    data[at] / 32 % 8
-}
-
-// The header of the block that begins at `at`.
-pub fn read_head(data: &[u8], at: usize) -> Head
-    ensures { λ r. ⌜ r ≡ headOf (drop at (now («data» .entry))) ⌝ }
-{
-    let len = data.len();
-    if len <= at {
-        return Head::Short { needed: 1 };
-    }
-    let n = len - at;
-    let h = data[at];
     let start = header_length(h);
     let size = (h % 32) as usize;
     if n < start {
@@ -114,12 +97,46 @@ pub fn read_head(data: &[u8], at: usize) -> Head
             needed: start + size,
         };
     }
-    let number = header_number(data, at, start);
+    if start == 2 {
+        return Head::Whole {
+            number: second % 64,
+            start,
+            size,
+        };
+    }
     Head::Whole {
-        number,
+        number: h / 32 % 8,
         start,
         size,
     }
+}
+
+// The header of the block that begins at `at`.
+pub fn read_head(data: &[u8], at: usize) -> Head
+    ensures { λ r. ⌜ r ≡ headOf (drop at (now («data» .entry))) ⌝ }
+{
+    let len = data.len();
+    if len <= at {
+        return head_by(0, 0, 0);
+    }
+    let n = len - at;
+    if n == 1 {
+        return head_by(data[at], 0, 1);
+    }
+    head_by(data[at], data[at + 1], n)
+}
+
+// The header of the block that begins at `at`, of the first `end` bytes.
+pub fn head_in(bytes: &[u8; 128], at: usize, end: usize) -> Head
+    ensures { λ r. ⌜ r ≡ headOf (drop at (take end (now (bytes .entry)))) ⌝ }
+{
+    let all = &bytes[..];
+    let n = lesser(end, all.len());
+    if n <= at {
+        return head_by(0, 0, 0);
+    }
+    // Behind the last byte any other may stand: a header of one byte has no second.
+    head_by(bytes[at], bytes[(at + 1) % 128], n - at)
 }
 
 // Why a block is refused whose header is short, `present` bytes being there.

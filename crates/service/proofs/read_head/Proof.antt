@@ -1,54 +1,54 @@
--- `service::read_head` meets its contract: one law of `Heads` for each way out, in the order of the tests: no byte, header cut, body cut, whole. Assumes nothing.
+-- `service::read_head` meets its contract: what is left has no byte, one, or two and more, and `head_by` tells its header. Assumes nothing.
+use Rattle.service.proofs.Heads.{none-at, one-at, some-at}
 use borrow.Author.Needs.{needs}
-use Rattle.service.proofs.Heads.{head-none, head-cut, body-cut, head-whole}
 use Rattle.service.proofs.read_head.Statement.{statement}
 use Rattle.service.proofs.read_head.Tie as tie
 
+head-by-requires : tie.Need-head-by-requires
+head-by-requires c κs = search needs
+
 returns : tie.Need-returns
-returns c = search (needs, head-none)
+returns c = search (needs, none-at)
 
 sub-n : tie.Need-sub-n
 sub-n c = search needs
 
-shared-slice-read-h : tie.Need-shared-slice-read-h
-shared-slice-read-h c = search needs
+shared-slice-read-head-by : tie.Need-shared-slice-read-head-by
+shared-slice-read-head-by c = search needs
 
-header-length-requires : tie.Need-header-length-requires
-header-length-requires c κs = search needs
-
-cast-size : tie.Need-cast-size
-cast-size c = search needs
+head-by-requires-2 : tie.Need-head-by-requires-2
+head-by-requires-2 c κs = search needs
 
 returns-2 : tie.Need-returns-2
-returns-2 c = search (needs, head-cut)
+returns-2 c = search (needs, one-at)
 
-add-if3 : tie.Need-add-if3
-add-if3 c = search needs
+shared-slice-read-head-by-2 : tie.Need-shared-slice-read-head-by-2
+shared-slice-read-head-by-2 c = search needs
 
-add-t13 : tie.Need-add-t13
-add-t13 c = search needs
+add-head-by : tie.Need-add-head-by
+add-head-by c = search needs
+
+shared-slice-read-head-by-3 : tie.Need-shared-slice-read-head-by-3
+shared-slice-read-head-by-3 c = search needs
+
+head-by-requires-3 : tie.Need-head-by-requires-3
+head-by-requires-3 c κs = search needs
 
 returns-3 : tie.Need-returns-3
-returns-3 c = search (needs, body-cut)
-
-header-number-requires : tie.Need-header-number-requires
-header-number-requires c κs = search needs
-
-returns-4 : tie.Need-returns-4
-returns-4 c = search (needs, head-whole)
+returns-3 c = search (needs, some-at)
 
 pub read-head-spec : {M : Type 1} → statement M
 read-head-spec =
     tie.close
     (tie.spec
+    head-by-requires
     returns
     sub-n
-    shared-slice-read-h
-    header-length-requires
-    cast-size
+    shared-slice-read-head-by
+    head-by-requires-2
     returns-2
-    add-if3
-    add-t13
-    returns-3
-    header-number-requires
-    returns-4)
+    shared-slice-read-head-by-2
+    add-head-by
+    shared-slice-read-head-by-3
+    head-by-requires-3
+    returns-3)
