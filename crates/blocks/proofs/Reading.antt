@@ -1,20 +1,16 @@
 -- How the blocks of a packet are read into their places, step by step. Assumes nothing.
 use mathlib.Core.Path.{_≡_, refl, sym, ap, _∙_}
-use mathlib.Core.Bool.{Bool, true, false, cond, not, _&&_}
+use mathlib.Core.Bool.{Bool, true, false, cond}
 use mathlib.Core.List.{List, [], _∷_, _++_, map, append-assoc, append-nil}
-use Prim.Native.Nat.{ℕ, _+_, _-_, _*_, _≤_, _<_}
+use Prim.Native.Nat.{ℕ, zero, suc, _+_, _-_, _*_, _≤_, _<_}
 use native.Mathlib.Nat.{add-zero}
 use native.Mathlib.Omega.{arith}
 use lib.Dec.{eqb, ltb}
 use lib.ListN.{length, take, drop, getD, set, length-append, length-map, length-drop, drop-of-length-le}
-use lib.Seq.{sets, drop-drop, length-take-le}
+use lib.Seq.{sets, drop-drop, length-take-le, take-take, take-nil}
 use borrow.Author.Tests.{eq-eqb, ne-eqb, eqb-true, eqb-false, ltb-false}
-use Rattle.caption.specs.declared.Refusal.{Refusal}
-use Rattle.caption.specs.declared.Counted.{Counted}
-use Rattle.caption.specs.declared.Counted.the-variants.{Count, Refused}
-use Rattle.caption.specs.Answers.{saidRefusal}
 use Rattle.model.specs.Said.{Outcome, gave, refused, isGiven, mapped, lengthMismatch}
-use Rattle.model.specs.Block.{Block, topNumber, blockSize, headerLength, needed, isShort, blockIn, readBlock, blockLength}
+use Rattle.model.specs.Block.{Block, needed, isShort, blockIn, readBlock, blockLength}
 use Rattle.model.specs.Packet.{plainMove, tidyMove, kept, blocksFrom}
 use Rattle.model.proofs.Cases.{by-test, by-cond, mapped-by}
 use Rattle.model.proofs.Blocks.{block-length, written-length}
@@ -22,12 +18,12 @@ use Rattle.model.proofs.Walk.{blocks-next, blocks-none}
 use Rattle.model.proofs.Limits.{Moves, read-from}
 use Rattle.service.specs.declared.Head.{Head}
 use Rattle.service.specs.declared.Head.the-variants.{Whole, Short}
-use Rattle.service.specs.Head.{headOf, saidShort}
-use Rattle.service.proofs.Heads.{Headed, headed, head-short, header-least}
+use Rattle.service.specs.Head.{headOf}
+use Rattle.service.proofs.Heads.{Headed, headed, head-short, header-least, header-most}
 use Rattle.service.proofs.Runs.{sets-append}
 use Rattle.blocks.specs.declared.Kept.{Kept}
 use Rattle.entries.specs.Fields.{numbersOf, sizesOf, payloadsOf, blockFrom}
-use Rattle.blocks.specs.Reading.{moveBy, moveFor, keptFor, Laid, behind, Stored, Room, KeepRoom}
+use Rattle.blocks.specs.Reading.{moveBy, moveFor, keptFor, Laid, behind, Stored, Stops, Room, KeepRoom}
 
 -- what is laid behind other blocks
 pub payloads-append : (bs cs : List Block) → payloadsOf (bs ++ cs) ≡ payloadsOf bs ++ payloadsOf cs
@@ -55,18 +51,12 @@ module _ (bs : List Block) (at : Kept) (n₀ s₀ p₀ n₁ s₁ p₁ : List ℕ
       }
 
   -- blocks stored, and then those of an outcome
-  stored-append : (o : Outcome (List Block)) (r : Counted) → Stored o (behind bs at) r n₁ s₁ p₁ n₂ s₂ p₂ → Stored (mapped (λ cs. bs ++ cs) o) at r n₀ s₀ p₀ n₂ s₂ p₂
+  stored-append : (o : Outcome (List Block)) (r : ℕ) → Stored o (behind bs at) r n₁ s₁ p₁ n₂ s₂ p₂ → Stored (mapped (λ cs. bs ++ cs) o) at r n₀ s₀ p₀ n₂ s₂ p₂
   unfolding Stored
   stored-append (gave cs) r k =
       let n : at .count + length bs + length cs ≡ at .count + length (bs ++ cs) = omega (arith, length-append bs cs) in
-      (k .0 ∙ ap Count n, laid-append cs (k .1))
+      (k .0 ∙ n, k .1, laid-append cs (k .2))
   stored-append (refused why) r k = k
-
--- no bytes are left
-pub stored-none : (move : List ℕ → ℕ) (d : List ℕ) (here : ℕ) (at : Kept) (n s p : List ℕ) → length d ≤ here → Stored (blocksFrom move 0 (drop here d)) at (Count (at .count)) n s p n s p
-unfolding Stored
-stored-none move d here at n s p h =
-    rw (drop-of-length-le d h, blocks-none move) (ap Count (sym (add-zero (at .count))), record { numbers = refl; sizes = refl; payload = refl })
 
 -- bytes whose header was read
 module _ (d : List ℕ) (n st sz : ℕ) (h : Headed d n st sz) where
@@ -146,11 +136,6 @@ module _ (tidy : Bool) (d : List ℕ) (here : ℕ) (left : here < length d) wher
       let s = head-short (drop here d) k e in
       blocks-next (moveBy tidy) (drop here d) some-left (move-least tidy (drop here d)) ∙ rw (s .0, s .1, length-drop here d)
 
-  pub stored-short : (head : Head) (k : ℕ) (why : Refusal) (at : Kept) (n₀ s₀ p₀ n₁ s₁ p₁ : List ℕ) → head ≡ headOf (drop here d) → head ≡ Short k
-      → saidRefusal why ≡ saidShort head (length d - here) → Stored (blocksFrom (moveBy tidy) 0 (drop here d)) at (Refused why) n₀ s₀ p₀ n₁ s₁ p₁
-  unfolding Stored
-  stored-short head k why at n₀ s₀ p₀ n₁ s₁ p₁ e q w = rw (refused-at k (sym e ∙ q)) (why, refl, w ∙ rw q)
-
   -- a header that is whole
   module _ (n st sz : ℕ) (e : headOf (drop here d) ≡ Whole n st sz) where
     abbrev body : List ℕ
@@ -162,17 +147,11 @@ module _ (tidy : Bool) (d : List ℕ) (here : ℕ) (left : here < length d) wher
     body-is : take sz (drop st (drop here d)) ≡ body
     body-is = rw (drop-drop st here d)
 
-    pub next-is : blocksFrom (moveBy tidy) 0 (drop here d) ≡ mapped (λ cs. keptFor n body ++ cs) (blocksFrom (moveBy tidy) 0 (drop (here + moveFor tidy n st sz) d))
+    next-is : blocksFrom (moveBy tidy) 0 (drop here d) ≡ mapped (λ cs. keptFor n body ++ cs) (blocksFrom (moveBy tidy) 0 (drop (here + moveFor tidy n st sz) d))
     next-is =
         blocks-next (moveBy tidy) (drop here d) some-left (move-least tidy (drop here d))
         ∙ rw (read-is (drop here d) n st sz header, ← move-is (drop here d) n st sz header tidy, drop-drop (moveFor tidy n st sz) here d)
         (mapped-by (λ cs. kept-is (drop here d) n st sz header cs ∙ rw body-is) (blocksFrom (moveBy tidy) 0 (drop (here + moveFor tidy n st sz) d)))
-
-    pub stored-next : (m : ℕ) (at next : Kept) (r : Counted) (n₀ s₀ p₀ n₁ s₁ p₁ n₂ s₂ p₂ : List ℕ) → m ≡ moveFor tidy n st sz → next ≡ behind (keptFor n body) at → Laid (keptFor n body) at n₀ s₀ p₀ n₁ s₁ p₁
-        → Stored (blocksFrom (moveBy tidy) 0 (drop (here + m) d)) next r n₁ s₁ p₁ n₂ s₂ p₂ → Stored (blocksFrom (moveBy tidy) 0 (drop here d)) at r n₀ s₀ p₀ n₂ s₂ p₂
-    stored-next m at next r n₀ s₀ p₀ n₁ s₁ p₁ n₂ s₂ p₂ em en l k =
-        let k′ : Stored (blocksFrom (moveBy tidy) 0 (drop (here + moveFor tidy n st sz) d)) (behind (keptFor n body) at) r n₁ s₁ p₁ n₂ s₂ p₂ = rw (← em, ← en) k in
-        rw next-is (stored-append (keptFor n body) at n₀ s₀ p₀ n₁ s₁ p₁ l n₂ s₂ p₂ (blocksFrom (moveBy tidy) 0 (drop (here + moveFor tidy n st sz) d)) r k′)
 
     -- the room that is there
     move-bounds : Moves (moveFor tidy n st sz) (length d - here) (blockLength (blockIn (drop here d)))
@@ -183,15 +162,6 @@ module _ (tidy : Bool) (d : List ℕ) (here : ℕ) (left : here < length d) wher
 
     fits-here : st + sz ≤ length d - here
     fits-here = rw (← length-drop here d) (header .fits)
-
-    pub keep-room : (at : Kept) → Room at here (length d) → KeepRoom at (here + st) sz (length d)
-    keep-room at room =
-        record {
-          there = omega (arith, fits-here);
-          small = header .small;
-          block = omega (arith, fits-here, header .some, room .blocks, room .short);
-          bytes = omega (arith, fits-here, header .some, room .bytes, room .short);
-        }
 
     -- a block that is kept moves by more than its payload
     move-covers : (n ≡ 0 → ⊥) → (sz ≡ 0 → ⊥) → 1 + sz ≤ moveFor tidy n st sz
@@ -205,49 +175,126 @@ module _ (tidy : Bool) (d : List ℕ) (here : ℕ) (left : here < length d) wher
     room-kept at room bs h k =
         record { within = omega (arith, move-bounds .most); short = room .short; blocks = omega (arith, room .blocks); bytes = omega (arith, room .bytes) }
 
-    pub room-next : (m : ℕ) (at next : Kept) → m ≡ moveFor tidy n st sz → next ≡ behind (keptFor n body) at → Room at here (length d) → Room next (here + m) (length d)
+    room-behind : (at : Kept) → Room at here (length d) → Room (behind (keptFor n body) at) (here + moveFor tidy n st sz) (length d)
     unfolding keptFor
-    room-next m at next em en room =
-        rw (em, en)
-        (by-cond (λ (bs : List Block). Room (behind bs at) (here + moveFor tidy n st sz) (length d)) (eqb n 0) (λ _. none)
+    room-behind at room =
+        by-cond (λ (bs : List Block). Room (behind bs at) (here + moveFor tidy n st sz) (length d)) (eqb n 0) (λ _. none)
         (λ a. by-cond (λ (bs : List Block). Room (behind bs at) (here + moveFor tidy n st sz) (length d)) (eqb (length body) 0) (λ _. none)
         (λ b. let c : 1 + sz ≤ moveFor tidy n st sz = move-covers (eqb-false _ _ a) (λ z. eqb-false _ _ b (body-length ∙ z)) in
         let l : length (body ++ []) ≡ sz = ap length (append-nil body) ∙ body-length in
         let s : 1 ≤ sz = omega (arith, body-length, eqb-false (length body) 0 b) in
-        room-kept at room (record { number = n; payload = body } ∷ []) (omega arith) (omega arith))))
+        room-kept at room (record { number = n; payload = body } ∷ []) (omega arith) (omega arith)))
       where
         none : Room (behind [] at) (here + moveFor tidy n st sz) (length d)
         none = room-kept at room [] (omega arith) (omega arith)
 
 -- what a header that was read leaves room for
 pub head-room : (d : List ℕ) (head : Head) (n st sz : ℕ) → head ≡ headOf d → head ≡ Whole n st sz → (st ≤ 2) × (sz ≤ 31)
-unfolding headerLength
-head-room d head n st sz e q =
-    let h = headed d n st sz (sym e ∙ q) in
-    (rw (← h .start) (by-cond (λ k. k ≤ 2) (eqb (topNumber (getD d 0 0)) 7 && not (eqb (blockSize (getD d 0 0)) 0)) (λ _. omega arith) (λ _. omega arith)), h .small)
+head-room d head n st sz e q = let h = headed d n st sz (sym e ∙ q) in (omega (arith, h .start, header-most (getD d 0 0)), h .small)
 
--- the next place is within the bytes, and further on
-pub move-within : (tidy : Bool) (d : List ℕ) (here : ℕ) (head : Head) (n st sz m : ℕ) → here < length d → head ≡ headOf (drop here d) → head ≡ Whole n st sz → m ≡ moveFor tidy n st sz
-    → (here + m ≤ length d) × (1 ≤ m)
-move-within tidy d here head n st sz m left e q em = let b = move-bounds tidy d here left n st sz (sym e ∙ q) in rw em (omega (arith, b .most), b .least)
+-- an outcome and what is made of it stop at the same place
+stops-mapped : (f : List Block → List Block) (o : Outcome (List Block)) (d : List ℕ) (r : ℕ) → Stops o d r → Stops (mapped f o) d r
+unfolding Stops
+stops-mapped f (gave bs) d r h = h
+stops-mapped f (refused why) d r h = h
 
--- whether blocks read, told by the reader that stores nothing
+-- a part of the front is a part of the whole
+part-front : (b : List ℕ) (end from size : ℕ) → from + size ≤ end → take size (drop from (take end b)) ≡ take size (drop from b)
+part-front b end zero size h = take-take size end b (omega arith)
+part-front [] end (suc from) size h = rw (take-nil end)
+part-front (x ∷ b) zero (suc from) size h = absurd (omega arith)
+part-front (x ∷ b) (suc end) (suc from) size h = part-front b end from size (omega arith)
+
+-- the first `end` of some bytes
+module _ (b : List ℕ) (end : ℕ) (fits : end ≤ length b) where
+  abbrev front : List ℕ
+  front = take end b
+
+  pub long : length front ≡ end
+  long = length-take-le end b fits
+
+  -- the blocks from `here` on
+  module _ (tidy : Bool) (here : ℕ) where
+    abbrev from : ℕ → Outcome (List Block)
+    from place = blocksFrom (moveBy tidy) 0 (drop place front)
+
+    -- no bytes are left
+    from-none : end ≤ here → from here ≡ gave []
+    from-none h = let e : length front ≤ here = omega (arith, long) in rw (drop-of-length-le front e, blocks-none (moveBy tidy))
+
+    pub stops-none : end ≤ here → Stops (from here) front here
+    unfolding Stops
+    stops-none h = rw (from-none h) (omega (arith, long))
+
+    pub stored-none : (at : Kept) (n s p : List ℕ) → end ≤ here → Room at here end → Stored (from here) at (at .count) n s p n s p
+    unfolding Stored
+    stored-none at n s p h room =
+        rw (from-none h) (sym (add-zero (at .count)), omega (arith, room .within, room .short, room .blocks), record { numbers = refl; sizes = refl; payload = refl })
+
+    -- some are left
+    module _ (left : here < end) (head : Head) (is : head ≡ headOf (drop here front)) where
+      in-front : here < length front
+      in-front = omega (arith, long)
+
+      -- a header that is short
+      pub stops-short : (k : ℕ) → head ≡ Short k → Stops (from here) front here
+      unfolding Stops
+      stops-short k q = rw (refused-at tidy front here in-front k (sym is ∙ q)) (in-front, rw (← is, q))
+
+      pub stored-short : (k : ℕ) (at : Kept) (n₀ s₀ p₀ n₁ s₁ p₁ : List ℕ) → head ≡ Short k → Stored (from here) at 64 n₀ s₀ p₀ n₁ s₁ p₁
+      unfolding Stored
+      stored-short k at n₀ s₀ p₀ n₁ s₁ p₁ q = rw (refused-at tidy front here in-front k (sym is ∙ q))
+
+      -- one that is whole
+      module _ (n st sz : ℕ) (q : head ≡ Whole n st sz) where
+        whole : headOf (drop here front) ≡ Whole n st sz
+        whole = sym is ∙ q
+
+        pub reach : here + st + sz ≤ end
+        reach = omega (arith, fits-here tidy front here in-front n st sz whole, long)
+
+        pub keep-room : (at : Kept) → Room at here end → KeepRoom at (here + st) sz (length b)
+        keep-room at room =
+            let h = headed (drop here front) n st sz whole in
+            record {
+              there = omega (arith, reach);
+              small = h .small;
+              block = omega (arith, reach, h .some, room .blocks, room .short);
+              bytes = omega (arith, reach, h .some, room .bytes, room .short);
+            }
+
+        module _ (m : ℕ) (em : m ≡ moveFor tidy n st sz) where
+          -- the next place is within the bytes, and further on
+          pub move-within : (here + m ≤ end) × (1 ≤ m)
+          move-within = let w = move-bounds tidy front here in-front n st sz whole in (omega (arith, w .most, long, em), omega (arith, w .least, em))
+
+          pub stops-next : (r : ℕ) → Stops (from (here + m)) front r → Stops (from here) front r
+          stops-next r k =
+              rw (next-is tidy front here in-front n st sz whole)
+              (stops-mapped _ (from (here + moveFor tidy n st sz)) front r (rw (← em) k))
+
+          module _ (at next : Kept) (en : next ≡ behind (keptFor n (take sz (drop (here + st) b))) at) where
+            abbrev kept-here : List Block
+            kept-here = keptFor n (take sz (drop (here + st) front))
+
+            next-kept : next ≡ behind kept-here at
+            next-kept = rw (part-front b end (here + st) sz reach) en
+
+            pub room-next : Room at here end → Room next (here + m) end
+            room-next room = let k : Room at here (length front) = rw long room in rw (em, next-kept) (rw long at (room-behind tidy front here in-front n st sz whole at k))
+
+            pub stored-next : (r : ℕ) (n₀ s₀ p₀ n₁ s₁ p₁ n₂ s₂ p₂ : List ℕ) → Laid (keptFor n (take sz (drop (here + st) b))) at n₀ s₀ p₀ n₁ s₁ p₁
+                → Stored (from (here + m)) next r n₁ s₁ p₁ n₂ s₂ p₂ → Stored (from here) at r n₀ s₀ p₀ n₂ s₂ p₂
+            stored-next r n₀ s₀ p₀ n₁ s₁ p₁ n₂ s₂ p₂ l k =
+                let k′ : Stored (from (here + moveFor tidy n st sz)) (behind kept-here at) r n₁ s₁ p₁ n₂ s₂ p₂ = rw (← em, ← next-kept) k in
+                let l′ : Laid kept-here at n₀ s₀ p₀ n₁ s₁ p₁ = rw (part-front b end (here + st) sz reach) l in
+                rw (next-is tidy front here in-front n st sz whole)
+                (stored-append kept-here at n₀ s₀ p₀ n₁ s₁ p₁ l′ n₂ s₂ p₂ (from (here + moveFor tidy n st sz)) r k′)
+
+-- whether blocks read
 pub given-mapped : {A B : Type 0} (f : A → B) (o : Outcome A) → isGiven (mapped f o) ≡ isGiven o
 given-mapped f (gave x) = refl
 given-mapped f (refused why) = refl
-
-module _ (d : List ℕ) (here : ℕ) where
-  pub reads-none : length d ≤ here → true ≡ isGiven (blocksFrom plainMove 0 (drop here d))
-  reads-none h = rw (drop-of-length-le d h, blocks-none plainMove)
-
-  pub reads-short : (head : Head) (k : ℕ) → here < length d → head ≡ headOf (drop here d) → head ≡ Short k → false ≡ isGiven (blocksFrom plainMove 0 (drop here d))
-  reads-short head k left e q = sym (ap isGiven (refused-at false d here left k (sym e ∙ q)))
-
-  pub reads-next : (head : Head) (n st sz m : ℕ) (r : Bool) → here < length d → head ≡ headOf (drop here d) → head ≡ Whole n st sz → m ≡ moveFor false n st sz
-      → r ≡ isGiven (blocksFrom plainMove 0 (drop (here + m) d)) → r ≡ isGiven (blocksFrom plainMove 0 (drop here d))
-  reads-next head n st sz m r left e q em k =
-      let w : headOf (drop here d) ≡ Whole n st sz = sym e ∙ q in
-      k ∙ ap (λ j. isGiven (blocksFrom plainMove 0 (drop (here + j) d))) em ∙ sym (ap isGiven (next-is false d here left n st sz w) ∙ given-mapped _ (blocksFrom plainMove 0 (drop (here + moveFor false n st sz) d)))
 
 -- a block laid in its place
 pub entry-laid : (number k : ℕ) (run : List ℕ) (at : Kept) (n s p p₁ : List ℕ) → k ≡ length run → p₁ ≡ sets p (at .used) run

@@ -2,9 +2,9 @@
 use mathlib.Core.Path.{_≡_}
 use mathlib.Core.Bool.{Bool, cond, not}
 use mathlib.Core.List.{List, [], _∷_}
-use Prim.Native.Nat.{ℕ, _+_, _*_, _≤_}
+use Prim.Native.Nat.{ℕ, _+_, _-_, _*_, _≤_, _<_}
 use lib.Dec.{eqb, ltb}
-use lib.ListN.{length, replicate}
+use lib.ListN.{length, drop, replicate}
 use lib.Seq.{sets}
 use Rattle.caption.specs.declared.Refusal.{Refusal}
 use Rattle.caption.specs.declared.Counted.{Counted}
@@ -13,6 +13,7 @@ use Rattle.caption.specs.Answers.{saidRefusal}
 use Rattle.model.specs.Said.{Outcome, gave, refused}
 use Rattle.model.specs.Block.{Block}
 use Rattle.model.specs.Packet.{Packet, plainMove, tidyMove, readPacket, readTidy}
+use Rattle.service.specs.Head.{headOf, saidShort}
 use Rattle.blocks.specs.declared.Kept.{Kept}
 use Rattle.entries.specs.Fields.{numbersOf, sizesOf, payloadsOf}
 
@@ -45,14 +46,23 @@ pub record Laid (bs : List Block) (at : Kept) (n₀ s₀ p₀ n₁ s₁ p₁ : L
 abbrev pub behind : List Block → Kept → Kept
 behind bs at = record { count = at .count + length bs; used = at .used + length (payloadsOf bs) }
 
--- the blocks of an outcome are laid and counted, or its refusal is told
-unfoldable pub Stored : Outcome (List Block) → Kept → Counted → List ℕ → List ℕ → List ℕ → List ℕ → List ℕ → List ℕ → Type 0
-Stored (gave bs) at r n₀ s₀ p₀ n₁ s₁ p₁ = (r ≡ Count (at .count + length bs)) × Laid bs at n₀ s₀ p₀ n₁ s₁ p₁
-Stored (refused why) at r n₀ s₀ p₀ n₁ s₁ p₁ = (e : Refusal) × (r ≡ Refused e) × (saidRefusal e ≡ why)
+-- so many blocks are kept, with so many bytes of payload
+abbrev pub soFar : ℕ → ℕ → Kept
+soFar count used = record { count = count; used = used }
+
+-- the blocks of an outcome are laid, and counted: at most 63 in all, as a block that is kept takes two of 127 bytes; a refusal is counted as 64
+unfoldable pub Stored : Outcome (List Block) → Kept → ℕ → List ℕ → List ℕ → List ℕ → List ℕ → List ℕ → List ℕ → Type 0
+Stored (gave bs) at r n₀ s₀ p₀ n₁ s₁ p₁ = (r ≡ at .count + length bs) × (r ≤ 63) × Laid bs at n₀ s₀ p₀ n₁ s₁ p₁
+Stored (refused why) at r n₀ s₀ p₀ n₁ s₁ p₁ = r ≡ 64
+
+-- where reading the blocks of these bytes ends: behind the last byte, or at the header that is short, which tells the refusal
+unfoldable pub Stops : Outcome (List Block) → List ℕ → ℕ → Type 0
+Stops (gave bs) d r = length d ≤ r
+Stops (refused why) d r = (r < length d) × (saidShort (headOf (drop r d)) (length d - r) ≡ why)
 
 -- a packet that was read: its blocks are laid from the first place on, and counted; or its refusal is told, and zeros are left
 unfoldable pub Read : Outcome Packet → Counted → List ℕ → List ℕ → List ℕ → List ℕ → List ℕ → List ℕ → Type 0
-Read (gave p) r n₀ s₀ p₀ n₁ s₁ p₁ = (r ≡ Count (length (p .blocks))) × Laid (p .blocks) (record { count = 0; used = 0 }) n₀ s₀ p₀ n₁ s₁ p₁
+Read (gave p) r n₀ s₀ p₀ n₁ s₁ p₁ = (r ≡ Count (length (p .blocks))) × Laid (p .blocks) (soFar 0 0) n₀ s₀ p₀ n₁ s₁ p₁
 Read (refused why) r n₀ s₀ p₀ n₁ s₁ p₁ = (e : Refusal) × (r ≡ Refused e) × (saidRefusal e ≡ why) × (n₁ ≡ replicate 63 0) × (s₁ ≡ replicate 63 0) × (p₁ ≡ replicate 127 0)
 
 -- how many bytes the blocks kept so far were read from

@@ -12,16 +12,16 @@ use Rattle.blocks.proofs.keep_block.Tie as tie
 
 -- the payload that the header says
 abbrev P : tie.Start → List ℕ
-P c = take (c .args .size) (drop (c .args .from) (now (c .args .«data»)))
+P c = take (c .args .size) (drop (c .args .from) (now (c .args .bytes)))
 
 part-length : (c : tie.Start) → length (P c) ≡ c .args .size
-part-length c = part-of (now (c .args .«data»)) (c .args .from) (c .args .size) (c .pre .there)
+part-length c = part-of (now (c .args .bytes)) (c .args .from) (c .args .size) (c .pre .there)
 
 returns : tie.Need-returns
 returns c = keep-null _ _ _ _ _ _ (c .if1 .taken)
 
 returns-2 : tie.Need-returns-2
-returns-2 c = keep-empty _ _ _ _ _ _ (c .before .if1 .left) (part-length (c .before .before .before) ∙ c .if2 .taken)
+returns-2 c = keep-empty _ _ _ _ _ _ (c .before .if1 .left) (part-length (c .before .before) ∙ c .if2 .taken)
 
 add-end : tie.Need-add-end
 add-end c = search needs
@@ -47,14 +47,14 @@ part-put-bytes-end c = search needs
 put-bytes-requires : tie.Need-put-bytes-requires
 put-bytes-requires c κs = search needs
 
-add-t22 : tie.Need-add-t22
-add-t22 c = search needs
+add-t24 : tie.Need-add-t24
+add-t24 c = search needs
 
-add-t25 : tie.Need-add-t25
-add-t25 c = search needs
+add-t27 : tie.Need-add-t27
+add-t27 c = search needs
 
 returns-3 : tie.Need-returns-3
-returns-3 c = let s = c .before .before .before .before .before .before in keep-some _ (P s) _ _ _ _ (s .args .size) _ (c .before .before .before .before .if1 .left) (c .before .before .before .if2 .left) (part-length s) (c .put-bytes .ensures ∙ rw add-sub-cancel-left)
+returns-3 c = let s = c .before .before .before .before .before .before in keep-some _ (P s) _ _ _ _ (s .args .size) _ (c .before .before .before .before .before .if1 .left) (c .before .before .before .before .if2 .left) (part-length s) (c .put-bytes .ensures ∙ rw add-sub-cancel-left)
 
 pub keep-block-spec : {M : Type 1} → statement M
 keep-block-spec =
@@ -70,6 +70,6 @@ keep-block-spec =
     part-put-bytes-start
     part-put-bytes-end
     put-bytes-requires
-    add-t22
-    add-t25
+    add-t24
+    add-t27
     returns-3)
