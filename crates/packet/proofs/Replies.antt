@@ -5,10 +5,9 @@ use mathlib.Core.List.{List, [], _∷_}
 use Prim.Native.Nat.{ℕ}
 use native.Mathlib.Omega.{arith}
 use lib.ListN.{length, getD, replicate}
-use Rattle.caption.specs.declared.Refusal.{Refusal}
+use Rattle.caption.specs.declared.Answer.{Answer}
 use Rattle.caption.specs.declared.Counted.{Counted}
-use Rattle.caption.specs.declared.Counted.the-variants.{Count, Refused}
-use Rattle.caption.specs.Answers.{saidRefusal, saidAnswer}
+use Rattle.caption.specs.Answers.{saidAnswer}
 use Rattle.model.specs.Said.{Said, Outcome, gave, refused, says, after, mapped, accepted}
 use Rattle.model.specs.Packet.{Packet, sequenceIn}
 use Rattle.service.specs.declared.Service.{Service}
@@ -18,8 +17,9 @@ use Rattle.blocks.specs.Reading.{Read}
 use Rattle.pushes.specs.Pushing.{Stores, Pushes}
 use Rattle.pushes.specs.Pushing as pushes
 use Rattle.packet.specs.declared.DTVCCPacket.{DTVCCPacket}
+use Rattle.packet.specs.declared.Lead.{Lead}
 use Rattle.packet.specs.declared.PacketAnswer.{PacketAnswer}
-use Rattle.packet.specs.Packet.{Answers, fieldsOf, packetWith, over, laid, answerOf, pushedRun, pushedBlock}
+use Rattle.packet.specs.Packet.{Answers, fieldsOf, packetWith, ledBy, leadOf, answerTo, over, blank, laid, answerOf, pushedRun, pushedBlock}
 use Rattle.packet.proofs.Holds.{Places}
 
 -- an answer that refuses, and one that gives
@@ -29,21 +29,23 @@ refuses o beside why r e a s = record { answer = a ∙ ap says (sym e); packet =
 pub gives : (o : Outcome DTVCCPacket) (beside given : DTVCCPacket) (r : PacketAnswer) → o ≡ gave given → saidAnswer (r .answer) ≡ accepted [] → r .packet ≡ given → Answers o beside r
 gives o beside given r e a s = record { answer = a ∙ ap says (sym e); packet = s ∙ ap (after beside) (sym e) }
 
--- a packet that was read: its blocks are in their places, over zeros
-module _ (r : Counted) (n s p : List ℕ) where
+-- a packet that was read: its blocks are in their places, over zeros; or zeros are left
+module _ (r : Counted) (n s p : List ℕ) (q : ℕ) (l : Lead) (lead : l ≡ leadOf r q) where
   abbrev Filled : Outcome Packet → Type 0
   Filled o = Read o r (replicate 63 0) (replicate 63 0) (replicate 127 0) n s p
 
-  pub read-gave : (o : Outcome Packet) (q k : ℕ) → ((x : Packet) → o ≡ gave x → x .sequence ≡ q) → Filled o → r ≡ Count k
-      → mapped laid o ≡ gave (record { «seq_no» = q; count = k; numbers = n; sizes = s; payload = p })
+  pub read-packet : (o : Outcome Packet) → ((x : Packet) → o ≡ gave x → x .sequence ≡ q) → Filled o → ledBy l n s p ≡ after blank (mapped laid o)
   unfolding Read over places.over
-  read-gave (gave x) q k first (e, l) z = let c : k ≡ length (x .blocks) = cc in rw (c, l .numbers, l .sizes, l .payload, ← first x refl)
-  read-gave (refused why) q k first (e, x, m, a, b, c) z = let z : _≡_ {A = ℕ} 0 1 = cc in absurd (omega arith)
+  read-packet (gave x) first (e, k) = rw (lead, e, k .numbers, k .sizes, k .payload, ← first x refl)
+  read-packet (refused why) first (e, k, m, a, b, c) = rw (lead, k, a, b, c)
 
-  pub read-refused : (o : Outcome Packet) (why : Refusal) → Filled o → r ≡ Refused why → mapped laid o ≡ refused (saidRefusal why)
+  pub read-answer : (a : Answer) → a ≡ answerTo r → (o : Outcome Packet) → ((x : Packet) → o ≡ gave x → x .sequence ≡ q) → Filled o → Answers (mapped laid o) blank (record { answer = a; packet = ledBy l n s p })
   unfolding Read
-  read-refused (refused x) why (e, q, m, a, b, c) z = let y : e ≡ why = cc in ap refused (sym m ∙ ap saidRefusal y)
-  read-refused (gave x) why (e, l) z = let z : _≡_ {A = ℕ} 0 1 = cc in absurd (omega arith)
+  read-answer a is o first k = record { answer = ap saidAnswer is ∙ says-so o k; packet = read-packet o first k }
+    where
+      says-so : (o : Outcome Packet) → Filled o → saidAnswer (answerTo r) ≡ says (mapped laid o)
+      says-so (gave x) (e, k) = rw e
+      says-so (refused why) (e, k, m, a, b, c) = rw k m
 
 -- what a push left
 module _ (p : DTVCCPacket) (places : Places p) (r : Counted) (n s d : List ℕ) (a : PacketAnswer) (is : a ≡ answerOf p r n s d) where

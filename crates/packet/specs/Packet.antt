@@ -6,6 +6,7 @@ use Prim.Native.Nat.{ℕ}
 use lib.ListN.{replicate}
 use Rattle.caption.specs.declared.Counted.{Counted}
 use Rattle.caption.specs.declared.Counted.the-variants.{Count, Refused}
+use Rattle.caption.specs.declared.Answer.{Answer}
 use Rattle.caption.specs.declared.Answer.the-variants as answer
 use Rattle.caption.specs.Answers.{saidAnswer}
 use Rattle.model.specs.Said.{Outcome, says, after, mapped}
@@ -17,6 +18,7 @@ use Rattle.entries.specs.Fields as places
 use Rattle.entries.specs.Extent.{extentAs}
 use Rattle.pushes.specs.Pushing as pushes
 use Rattle.packet.specs.declared.DTVCCPacket.{DTVCCPacket}
+use Rattle.packet.specs.declared.Lead.{Lead}
 use Rattle.packet.specs.declared.PacketAnswer.{PacketAnswer}
 
 -- its places, and the packet of places
@@ -25,6 +27,20 @@ fieldsOf p = fields (p .«seq_no») (p .count) (p .numbers) (p .sizes) (p .paylo
 
 abbrev pub packetWith : Fields → DTVCCPacket
 packetWith f = record { «seq_no» = f .«seq_no»; count = f .count; numbers = f .numbers; sizes = f .sizes; payload = f .payload }
+
+-- the packet of what stands before its arrays and of these
+abbrev pub ledBy : Lead → List ℕ → List ℕ → List ℕ → DTVCCPacket
+ledBy l numbers sizes payload = record { «seq_no» = l .«seq_no»; count = l .count; numbers = numbers; sizes = sizes; payload = payload }
+
+-- what stands before the arrays by how many blocks were read; zeros where reading is refused
+abbrev pub leadOf : Counted → ℕ → Lead
+leadOf (Count k) sequence = record { «seq_no» = sequence; count = k }
+leadOf (Refused why) sequence = record { «seq_no» = 0; count = 0 }
+
+-- and what is answered
+abbrev pub answerTo : Counted → Answer
+answerTo (Count k) = answer.Accepted
+answerTo (Refused why) = answer.Refused why
 
 -- a packet laid over the places of another: those behind it stay
 unfoldable pub over : DTVCCPacket → Packet → DTVCCPacket

@@ -1,17 +1,17 @@
 // A DTVCC packet: its sequence number and its blocks, how it is read, written and pushed to.
 ghost use mathlib.Core.Path.{_≡_};
 ghost use mathlib.Core.Bool.{true, false, cond};
-ghost use lib.ListN.{length, getD};
+ghost use lib.ListN.{length, getD, take};
 ghost use lib.Dec.{eqb};
 ghost use Rattle.caption.specs.Answers.{saidRefusal, saidAnswer, saidCounted, saidTruth};
-ghost use Rattle.model.specs.Said.{mapped, measured};
+ghost use Rattle.model.specs.Said.{after, mapped, measured};
 ghost use Rattle.model.specs.Packet.{packetSize, sequenceIn, readPacket, readTidy, newPacket, packetLength, packetRoom, writtenPacket};
 ghost use Rattle.model.specs.Packet as model;
 ghost use Rattle.service.specs.Service.{Writes};
 ghost use Rattle.service.specs.Service as service;
 ghost use Rattle.blocks.specs.Reading.{readAs};
 ghost use Rattle.packet.specs.Header.{headerOf};
-ghost use Rattle.packet.specs.Packet.{Answers, packetOf, laid, blank, validDTVCC, extentOf, pushedBlock, pushedRun, answerOf};
+ghost use Rattle.packet.specs.Packet.{Answers, packetOf, ledBy, leadOf, answerTo, laid, blank, validDTVCC, extentOf, pushedBlock, pushedRun, answerOf};
 ghost use Rattle.packet.specs.Place.{Placed, blocksAt};
 use caption::Answer;
 use caption::Counted;
@@ -30,6 +30,12 @@ pub struct DTVCCPacket {
     pub numbers: [u8; 63],
     pub sizes: [u8; 63],
     pub payload: [u8; 127],
+}
+
+// What stands before a packet's arrays.
+pub struct Lead {
+    pub seq_no: u8,
+    pub count: usize,
 }
 
 // An answer, and the packet beside it.
@@ -81,6 +87,13 @@ pub fn reads(data: &[u8]) -> bool
     blocks::reads(data)
 }
 
+// Whether the first `len` bytes read as a packet; at most 128 are there.
+pub fn reads_in(bytes: &[u8; 128], len: usize) -> bool
+    ensures { λ r. ⌜ r ≡ model.reads (take len (now (bytes .entry))) ⌝ }
+{
+    blocks::reads_in(bytes, len)
+}
+
 // A refusal of reading, beside an empty packet.
 fn unread(why: Refusal) -> PacketAnswer
     ensures { λ r. ⌜ (saidAnswer (r .answer) ≡ saidRefusal why) × (r .packet ≡ blank) ⌝ }
@@ -107,6 +120,46 @@ fn sequence_in(data: &[u8]) -> u8
     data[0] / 64 % 4
 }
 
+// What stands before the arrays of a packet that was read with this sequence number, or was refused.
+fn lead_of(r: Counted, seq_no: u8) -> Lead
+    ensures { λ l. ⌜ l ≡ leadOf r «seq_no» ⌝ }
+{
+    match r {
+        Counted::Refused(_) => Lead {
+            seq_no: 0,
+            count: 0,
+        },
+        Counted::Count(count) => Lead { seq_no, count },
+    }
+}
+
+// What is answered beside a packet that was read, or was refused.
+fn answer_to(r: Counted) -> Answer
+    ensures { λ a. ⌜ a ≡ answerTo r ⌝ }
+{
+    match r {
+        Counted::Refused(why) => Answer::Refused(why),
+        Counted::Count(_) => Answer::Accepted,
+    }
+}
+
+// Reads the packet that the first `len` bytes are into the arrays, all places of them; zeros where they do not read.
+pub fn read_into(
+    bytes: &[u8; 128],
+    len: usize,
+    numbers: &mut [u8; 63],
+    sizes: &mut [u8; 63],
+    payload: &mut [u8; 127],
+) -> Lead
+    ensures { λ r. ⌜ ledBy r (now (numbers .exit)) (now (sizes .exit)) (now (payload .exit)) ≡ after blank (mapped laid (readPacket (take len (now (bytes .entry))))) ⌝ }
+{
+    *numbers = [0u8; 63];
+    *sizes = [0u8; 63];
+    *payload = [0u8; 127];
+    let r = blocks::read_in(bytes, len, false, numbers, sizes, payload);
+    lead_of(r, bytes[0] / 64 % 4)
+}
+
 // Reads a packet, plainly or tidily.
 fn read_packet(data: &[u8], tidy: bool) -> PacketAnswer
     ensures { λ r. ⌜ Answers (mapped laid (readAs tidy (now («data» .entry)))) blank r ⌝ }
@@ -115,17 +168,17 @@ fn read_packet(data: &[u8], tidy: bool) -> PacketAnswer
     let mut sizes = [0u8; 63];
     let mut payload = [0u8; 127];
     let r = blocks::read(data, tidy, &mut numbers, &mut sizes, &mut payload);
-    match r {
-        Counted::Refused(why) => unread(why),
-        Counted::Count(count) => PacketAnswer {
-            answer: Answer::Accepted,
-            packet: DTVCCPacket {
-                seq_no: sequence_in(data),
-                count,
-                numbers,
-                sizes,
-                payload,
-            },
+    let lead = lead_of(r, sequence_in(data));
+    let seq_no = lead.seq_no;
+    let count = lead.count;
+    PacketAnswer {
+        answer: answer_to(r),
+        packet: DTVCCPacket {
+            seq_no,
+            count,
+            numbers,
+            sizes,
+            payload,
         },
     }
 }

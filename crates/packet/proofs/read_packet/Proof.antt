@@ -1,7 +1,7 @@
--- What is read into the three arrays is the packet laid over zeros; its sequence number is in the first byte. Assumes nothing.
-use mathlib.Core.Path.{refl, sym, _∙_}
+-- The packet is laid over zeros, and its sequence number is in the first byte; a refusal leaves zeros. Assumes nothing.
+use mathlib.Core.Path.{sym, _∙_}
 use Rattle.blocks.proofs.Readers.{read-sequence}
-use Rattle.packet.proofs.Replies.{refuses, gives, read-refused, read-gave}
+use Rattle.packet.proofs.Replies.{read-answer}
 use borrow.Author.Needs.{needs}
 use Rattle.packet.proofs.read_packet.Statement.{statement}
 use Rattle.packet.proofs.read_packet.Tie as tie
@@ -9,32 +9,19 @@ use Rattle.packet.proofs.read_packet.Tie as tie
 read-requires : tie.Need-read-requires
 read-requires c κs = search needs
 
-enum-known-r : tie.Need-enum-known-r
-enum-known-r c = search needs
-
-unread-requires : tie.Need-unread-requires
-unread-requires c κs = search needs
-
-enum-known-r-2 : tie.Need-enum-known-r-2
-enum-known-r-2 c = search needs
-
 sequence-in-requires : tie.Need-sequence-in-requires
 sequence-in-requires c κs = search needs
 
-returns : tie.Need-returns
-returns c = refuses _ _ _ _ (read-refused _ _ _ _ _ _ (c .before .before .before .before .read .ensures) (c .before .before .r .given .1)) (c .unread .ensures .0) (c .unread .ensures .1)
+lead-of-requires : tie.Need-lead-of-requires
+lead-of-requires c κs = search needs
 
-returns-2 : tie.Need-returns-2
-returns-2 c = gives _ _ _ _ (read-gave _ _ _ _ _ _ _ (λ x e. read-sequence _ _ x e ∙ sym (c .sequence-in .ensures)) (c .before .before .before .before .read .ensures) (c .before .before .r2 .given .1)) refl refl
+answer-to-requires : tie.Need-answer-to-requires
+answer-to-requires c κs = search needs
+
+returns : tie.Need-returns
+returns c = read-answer _ _ _ _ _ _ (c .before .lead-of .ensures) _ (c .answer-to .ensures) _ (λ x e. read-sequence _ _ x e ∙ sym (c .before .before .sequence-in .ensures)) (c .before .before .before .read .ensures)
 
 pub read-packet-spec : {M : Type 1} → statement M
 read-packet-spec =
     tie.close
-    (tie.spec
-    read-requires
-    enum-known-r
-    unread-requires
-    enum-known-r-2
-    sequence-in-requires
-    returns
-    returns-2)
+    (tie.spec read-requires sequence-in-requires lead-of-requires answer-to-requires returns)

@@ -1,0 +1,27 @@
+-- What is read into the three arrays is the packet laid over zeros; its sequence number is in the first byte. Assumes nothing.
+use mathlib.Core.Bool.{false}
+use denote.Ref.{now}
+use lib.ListN.{take}
+use Rattle.blocks.specs.Reading.{readAs}
+use Rattle.blocks.proofs.Readers.{front-sequence}
+use Rattle.packet.proofs.Replies.{read-packet}
+use borrow.Author.Needs.{needs}
+use Rattle.packet.proofs.read_into.Statement.{statement}
+use Rattle.packet.proofs.read_into.Tie as tie
+
+read-in-requires : tie.Need-read-in-requires
+read-in-requires c κs = search needs
+
+element-copy-out-lead-of : tie.Need-element-copy-out-lead-of
+element-copy-out-lead-of c = search needs
+
+lead-of-requires : tie.Need-lead-of-requires
+lead-of-requires c κs = search needs
+
+returns : tie.Need-returns
+unfolding readAs
+returns c = let s = c .before .before .before .before .before .before .before .before .before in read-packet _ _ _ _ _ _ (c .lead-of .ensures) (readAs false (take (s .args .len) (now (s .args .bytes)))) (λ x e. front-sequence false (now (s .args .bytes)) (s .args .len) x e) (c .before .before .read-in .ensures)
+
+pub read-into-spec : {M : Type 1} → statement M
+read-into-spec =
+    tie.close (tie.spec read-in-requires element-copy-out-lead-of lead-of-requires returns)
