@@ -6,6 +6,7 @@ use contract.Lifetimes.{Lfts}
 use denote.Ref.{now}
 use Rattle.gather.specs.Gather.{Left, takenBy}
 use Rattle.gather.specs.declared.Gathered.{Gathered}
+use Rattle.gather.proofs.slot_good.Reads as slot_good
 use Rattle.gather.proofs.oldest.Reads as Oldest
 use Rattle.gather.proofs.pending_good.Reads as pending_good
 use Rattle.gather.proofs.gather_by.Reads as gather_by
@@ -19,6 +20,10 @@ gatheredIn x = record { pending = x .pending; waiting = x .ring .count; slots = 
 -- packets gathered, with the pending bytes in a lent place
 gathers : {A E : Type 0} {left : A → Left} {lent : E → List ℕ} → DeterminesLent lent (λ (a : A) (r : Gathered) (e : E). takenBy r (lent e) ≡ left a)
 gathers = record { result = λ a r q e f h k. ap gatheredIn (h ∙ sym k); contents = λ a r q e f h k. ap (λ (x : Left). x .bytes) (h ∙ sym k) }
+
+-- `slot_good(slot)`
+pub slot-good : Determines (slot_good.Post (tt {0}))
+slot-good = equal
 
 -- `oldest(slots, first, n)`
 pub oldest : Determines (Oldest.Post (tt {0}))

@@ -1,8 +1,8 @@
 -- Laws of slots and pending bytes within the limits, and of gathering if asked, one for each way out of a function. Assumes nothing.
-use mathlib.Core.Path.{_≡_, sym, _∙_}
+use mathlib.Core.Path.{_≡_, refl, sym, _∙_}
 use mathlib.Core.List.{List}
 use mathlib.Core.Bool.{and-true, Bool, true, false, _&&_}
-use Prim.Native.Nat.{ℕ, suc, _+_, _-_, _%_, _≤_, _<_}
+use Prim.Native.Nat.{ℕ, zero, suc, _+_, _-_, _%_, _≤_, _<_}
 use native.Mathlib.Omega.{arith}
 use lib.ListN.{getD, take}
 use lib.Dec.{leb, ltb}
@@ -11,7 +11,7 @@ use Rattle.model.specs.Packet.{packetSize, reads}
 use Rattle.model.proofs.Cases.{both}
 use Rattle.slots.specs.declared.Slot.{Slot}
 use Rattle.triples.specs.Walk.{seenFrom}
-use Rattle.gather.specs.Ring.{slotFine, slotsFine, ringFrom, noSlot, ringFine, oldestOf}
+use Rattle.gather.specs.Ring.{slotFine, slotsFine, ringFrom, noSlot, ringFine, headFine, behindFine, oldestOf}
 use Rattle.gather.specs.Gather.{pendingFine, Ring, Left, gathered, pendingHeld, readyFor, gatheredBy}
 
 module _ (s : Slot) where
@@ -66,36 +66,76 @@ module _ (n : ℕ) (l : List ℕ) where
     unfolding pendingFine
     fine-even z o e = simp (ne-eqb _ _ some, eq-eqb _ _ o, e)
 
--- the whole ring
+-- the ring behind its head
 module _ (f n : ℕ) (l : List Slot) where
   -- a place that is not one of 32
-  pub ring-first : 32 ≤ f → false ≡ ringFine f n l
-  unfolding ringFine
-  ring-first h = rw (lt-leb f 31 h)
+  pub behind-first : 32 ≤ f → false ≡ behindFine f n l
+  unfolding behindFine
+  behind-first h = rw (lt-leb f 31 h)
 
   module _ (within : f < 32) where
     -- too many
-    pub ring-count : 32 < n → false ≡ ringFine f n l
-    unfolding ringFine
-    ring-count h = rw (le-leb f 31 (omega arith), lt-leb n 32 h)
+    pub behind-count : 32 < n → false ≡ behindFine f n l
+    unfolding behindFine
+    behind-count h = rw (le-leb f 31 (omega arith), lt-leb n 32 h)
 
     -- all are left
-    pub ring-start : n ≤ 32 → ringFine f n l ≡ slotsFine (ringFrom (f + 0) (n - 0) l)
-    unfolding ringFine
-    ring-start h =
-        let z : n - 0 ≡ n = omega arith in
-        let w : f + 0 ≡ f = omega arith in
-        rw (z, w, le-leb f 31 (omega arith), le-leb n 32 h)
+    pub behind-start : n ≤ 32 → behindFine f n l ≡ slotsFine (ringFrom (f + 1) (n - 1) l)
+    unfolding behindFine
+    behind-start h = rw (le-leb f 31 (omega arith), le-leb n 32 h)
 
-  -- the slot at the place, and the answer for the ring
-  pub front-is : (b : Bool) (s : Slot) → b ≡ ringFine f n l → s ≡ getD l (f % 32) noSlot → record { good = b; slot = s } ≡ oldestOf f n l
+    -- none are there
+    pub behind-none : n < 2 → true ≡ behindFine f n l
+    unfolding slotsFine ringFrom
+    behind-none h = let z : n - 1 ≡ 0 = omega arith in sym (rw z at (behind-start (omega arith)))
+
+    -- one is there
+    pub behind-one : n ≡ 2 → (b : Bool) → b ≡ slotFine (getD l ((f + 1) % 32) noSlot) → b ≡ behindFine f n l
+    unfolding slotsFine ringFrom
+    behind-one two b e =
+        let z : n - 1 ≡ suc 0 = omega arith in
+        e ∙ sym ((rw z at (behind-start (omega arith))) ∙ and-true _)
+
+  -- the slot at the head, and the answer for the ring behind it
+  pub front-is : (b : Bool) (s : Slot) → b ≡ behindFine f n l → s ≡ getD l (f % 32) noSlot → record { good = b; slot = s } ≡ oldestOf f n l
   unfolding oldestOf
   front-is b s e q = rw (e, q)
 
+  -- a head at a place that is named
+  module _ (at : ℕ) (e : f ≡ at) (h : at < 31) where
+    here : getD l at noSlot ≡ getD l (f % 32) noSlot
+    here = let z : f % 32 ≡ at = omega arith in rw z
+
+    -- with none behind it
+    pub front-alone : n < 2 → record { good = true; slot = getD l at noSlot } ≡ oldestOf f n l
+    front-alone k = front-is true (getD l at noSlot) (behind-none (omega arith) k) here
+
+    -- with one behind it
+    pub front-followed : n ≡ 2 → (b : Bool) → b ≡ slotFine (getD l (at + 1) noSlot) → record { good = b; slot = getD l at noSlot } ≡ oldestOf f n l
+    front-followed k b q =
+        let z : (f + 1) % 32 ≡ at + 1 = omega arith in
+        front-is b (getD l at noSlot) (behind-one (omega arith) k b (rw z q)) here
+
 -- no slots
-pub ring-empty : (f : ℕ) (l : List Slot) → leb f 31 ≡ ringFine f 0 l
-unfolding ringFine slotsFine ringFrom
-ring-empty f l = sym (and-true (leb f 31))
+pub behind-empty : (f : ℕ) (l : List Slot) → leb f 31 ≡ behindFine f 0 l
+unfolding behindFine slotsFine ringFrom
+behind-empty f l = sym (and-true (leb f 31))
+
+-- the ring is its head and what is behind it
+module _ (f : ℕ) (l : List Slot) where
+  parts : (a b h t : Bool) → a && (b && (h && t)) ≡ (a && (b && t)) && h
+  parts false b h t = refl
+  parts true false h t = refl
+  parts true true true t = sym (and-true t)
+  parts true true false true = refl
+  parts true true false false = refl
+
+  pub ring-parts : (n : ℕ) → ringFine f n l ≡ behindFine f n l && headFine n (getD l (f % 32) noSlot)
+  unfolding ringFine behindFine headFine slotsFine ringFrom
+  ring-parts zero = sym (and-true _)
+  ring-parts (suc n) =
+      let z : suc n - 1 ≡ n = omega arith in
+      rw (z, ne-eqb (suc n) 0 (λ e. omega arith)) (parts (leb f 31) (leb (suc n) 32) (slotFine (getD l (f % 32) noSlot)) (slotsFine (ringFrom (f + 1) n l)))
 
 -- what a ring within the limits keeps
 pub record RingFine (f n : ℕ) (l : List Slot) : Type 0 where

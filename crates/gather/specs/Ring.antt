@@ -1,9 +1,9 @@
 -- The ring of waiting slots: 32 places, going round. Assumes nothing.
 use mathlib.Core.List.{List, [], _∷_, _++_}
-use mathlib.Core.Bool.{Bool, true, _&&_}
-use Prim.Native.Nat.{ℕ, zero, suc, _+_, _%_}
+use mathlib.Core.Bool.{Bool, true, cond, _&&_}
+use Prim.Native.Nat.{ℕ, zero, suc, _+_, _-_, _%_}
 use lib.ListN.{getD, take}
-use lib.Dec.{leb}
+use lib.Dec.{eqb, leb}
 use Rattle.model.specs.Packet.{Packet, reads}
 use Rattle.model.specs.Demux.{closed}
 use Rattle.slots.specs.declared.Slot.{Slot}
@@ -31,9 +31,17 @@ slotsFine (s ∷ l) = slotFine s && slotsFine l
 unfoldable pub ringFine : ℕ → ℕ → List Slot → Bool
 ringFine f n l = leb f 31 && (leb n 32 && slotsFine (ringFrom f n l))
 
--- the slot at a place, going round, and whether the ring from there on is within its limits
+-- the slot at the ring's head, if there is one, is read by whoever takes it
+unfoldable pub headFine : ℕ → Slot → Bool
+headFine n s = cond (eqb n 0) true (slotFine s)
+
+-- the ring but for its head
+unfoldable pub behindFine : ℕ → ℕ → List Slot → Bool
+behindFine f n l = leb f 31 && (leb n 32 && slotsFine (ringFrom (f + 1) (n - 1) l))
+
+-- the slot at the head, and whether the ring behind it is within its limits
 unfoldable pub oldestOf : ℕ → ℕ → List Slot → Front
-oldestOf f n l = record { good = ringFine f n l; slot = getD l (f % 32) noSlot }
+oldestOf f n l = record { good = behindFine f n l; slot = getD l (f % 32) noSlot }
 
 -- the packets that slots hold
 unfoldable pub packetsIn : List Slot → List Packet

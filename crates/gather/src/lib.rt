@@ -29,7 +29,7 @@ pub struct Gathered {
     pub slots: [Slot; 32],
 }
 
-// A slot of the ring, and whether the ring is within its limits.
+// The slot at the head of the ring, and whether the ring behind it is within its limits.
 pub struct Front {
     pub good: bool,
     pub slot: Slot,
@@ -86,15 +86,6 @@ fn run_of(bytes: &[u8; 128], len: usize) -> Run
     }
 }
 
-// Whether the first `len` bytes read as a packet.
-fn run_reads(bytes: &[u8; 128], len: usize) -> bool
-    requires { ⌜ len ≤ 128 ⌝ }
-    ensures { λ r. ⌜ r ≡ reads (take len (now (bytes .entry))) ⌝ }
-{
-    let s = &bytes[..];
-    packet::reads(&s[0..len])
-}
-
 // Whether a triple closes gathered bytes that read as a packet.
 fn closes(c: u8, bytes: &[u8; 128], len: usize) -> bool
     requires { ⌜ len ≤ 128 ⌝ }
@@ -103,7 +94,7 @@ fn closes(c: u8, bytes: &[u8; 128], len: usize) -> bool
     if c % 8 < 7 {
         return false;
     }
-    run_reads(bytes, len)
+    packet::reads_in(bytes, len)
 }
 
 // Whether a packet is complete at the frame's end, and reads.
@@ -115,7 +106,7 @@ fn completes(s: Run, bytes: &[u8; 128]) -> bool
     if s.need != 0 {
         return false;
     }
-    run_reads(bytes, len)
+    packet::reads_in(bytes, len)
 }
 
 // How many bytes are pending after the frame's end.
@@ -170,7 +161,7 @@ fn gather_frame(
 }
 
 // Whether a slot reads as a packet.
-fn slot_good(slot: Slot) -> bool
+pub fn slot_good(slot: Slot) -> bool
     ensures { λ r. ⌜ r ≡ slotFine slot ⌝ }
 {
     let len = slot.len;
@@ -178,12 +169,11 @@ fn slot_good(slot: Slot) -> bool
     if MOST_PACKET < len {
         return false;
     }
-    run_reads(&bytes, len)
+    packet::reads_in(&bytes, len)
 }
 
-// The slot at `first`, going round, and whether each of `n` slots from there on reads as a packet; there are at most 32. One call for both:
-// an array of slots that is handed on is copied.
-pub fn oldest(slots: [Slot; 32], first: usize, n: usize) -> Front
+// The slot at `first`, going round, and whether each of the `n - 1` slots behind it reads as a packet; there are at most 32.
+fn oldest_round(slots: [Slot; 32], first: usize, n: usize) -> Front
     ensures { λ r. ⌜ r ≡ oldestOf first n slots ⌝ }
 {
     let slot = slots[first % 32];
@@ -193,7 +183,7 @@ pub fn oldest(slots: [Slot; 32], first: usize, n: usize) -> Front
     if MOST_WAITING < n {
         return Front { good: false, slot };
     }
-    let mut i = 0;
+    let mut i = 1;
     while i < n {
         let s = slots[(first + i) % 32];
         if slot_good(s) {
@@ -203,6 +193,31 @@ pub fn oldest(slots: [Slot; 32], first: usize, n: usize) -> Front
         }
     }
     Front { good: true, slot }
+}
+
+// The slot at the head of the ring, and whether the ring behind it is within its limits. Few slots stand at the first two places, which are
+// named: an array that is looked at by a number is copied.
+pub fn oldest(slots: [Slot; 32], first: usize, n: usize) -> Front
+    ensures { λ r. ⌜ r ≡ oldestOf first n slots ⌝ }
+{
+    if n < 2 {
+        if first == 0 {
+            let slot = slots[0];
+            return Front { good: true, slot };
+        }
+        if first == 1 {
+            let slot = slots[1];
+            return Front { good: true, slot };
+        }
+    }
+    if n == 2 {
+        if first == 0 {
+            let slot = slots[0];
+            let good = slot_good(slots[1]);
+            return Front { good, slot };
+        }
+    }
+    oldest_round(slots, first, n)
 }
 
 // Whether the pending bytes are none, or a part of a packet.

@@ -8,7 +8,7 @@ use lib.ListN.{length, getD, replicate}
 use Rattle.caption.specs.declared.Answer.{Answer}
 use Rattle.caption.specs.declared.Counted.{Counted}
 use Rattle.caption.specs.Answers.{saidAnswer}
-use Rattle.model.specs.Said.{Said, Outcome, gave, refused, says, after, mapped, accepted}
+use Rattle.model.specs.Said.{Said, Outcome, gave, refused, isGiven, says, after, mapped, accepted}
 use Rattle.model.specs.Packet.{Packet, sequenceIn}
 use Rattle.service.specs.declared.Service.{Service}
 use Rattle.entries.specs.Fields.{Fields}
@@ -38,6 +38,12 @@ module _ (r : Counted) (n s p : List ℕ) (q : ℕ) (l : Lead) (lead : l ≡ lea
   unfolding Read over places.over
   read-packet (gave x) first (e, k) = rw (lead, e, k .numbers, k .sizes, k .payload, ← first x refl)
   read-packet (refused why) first (e, k, m, a, b, c) = rw (lead, k, a, b, c)
+
+  -- whether it was
+  pub read-good : (o : Outcome Packet) → Filled o → l .good ≡ isGiven o
+  unfolding Read
+  read-good (gave x) (e, k) = rw (lead, e)
+  read-good (refused why) (e, k, m, a, b, c) = rw (lead, k)
 
   pub read-answer : (a : Answer) → a ≡ answerTo r → (o : Outcome Packet) → ((x : Packet) → o ≡ gave x → x .sequence ≡ q) → Filled o → Answers (mapped laid o) blank (record { answer = a; packet = ledBy l n s p })
   unfolding Read

@@ -1,6 +1,6 @@
 -- What a `DTVCCPacket` holds, and what its functions answer. Assumes nothing.
 use mathlib.Core.Path.{_≡_}
-use mathlib.Core.Bool.{Bool}
+use mathlib.Core.Bool.{Bool, true, false}
 use mathlib.Core.List.{List}
 use Prim.Native.Nat.{ℕ}
 use lib.ListN.{replicate}
@@ -34,8 +34,8 @@ ledBy l numbers sizes payload = record { «seq_no» = l .«seq_no»; count = l .
 
 -- what stands before the arrays by how many blocks were read; zeros where reading is refused
 abbrev pub leadOf : Counted → ℕ → Lead
-leadOf (Count k) sequence = record { «seq_no» = sequence; count = k }
-leadOf (Refused why) sequence = record { «seq_no» = 0; count = 0 }
+leadOf (Count k) sequence = record { good = true; «seq_no» = sequence; count = k }
+leadOf (Refused why) sequence = record { good = false; «seq_no» = 0; count = 0 }
 
 -- and what is answered
 abbrev pub answerTo : Counted → Answer

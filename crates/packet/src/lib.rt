@@ -32,8 +32,9 @@ pub struct DTVCCPacket {
     pub payload: [u8; 127],
 }
 
-// What stands before a packet's arrays.
+// What stands before a packet's arrays, and whether they were read.
 pub struct Lead {
+    pub good: bool,
     pub seq_no: u8,
     pub count: usize,
 }
@@ -126,10 +127,15 @@ fn lead_of(r: Counted, seq_no: u8) -> Lead
 {
     match r {
         Counted::Refused(_) => Lead {
+            good: false,
             seq_no: 0,
             count: 0,
         },
-        Counted::Count(count) => Lead { seq_no, count },
+        Counted::Count(count) => Lead {
+            good: true,
+            seq_no,
+            count,
+        },
     }
 }
 
@@ -151,6 +157,7 @@ pub fn read_into(
     sizes: &mut [u8; 63],
     payload: &mut [u8; 127],
 ) -> Lead
+    ensures { λ r. ⌜ r .good ≡ model.reads (take len (now (bytes .entry))) ⌝ }
     ensures { λ r. ⌜ ledBy r (now (numbers .exit)) (now (sizes .exit)) (now (payload .exit)) ≡ after blank (mapped laid (readPacket (take len (now (bytes .entry))))) ⌝ }
 {
     *numbers = [0u8; 63];

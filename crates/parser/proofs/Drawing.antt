@@ -1,12 +1,12 @@
 -- Drawing gives what the model's demultiplexer gives, and keeps the state within the limits. Assumes nothing.
 use mathlib.Core.Path.{_≡_, refl, sym, ap, _∙_}
 use mathlib.Core.List.{List, _∷_}
-use mathlib.Core.Bool.{Bool, true, false}
+use mathlib.Core.Bool.{Bool, true, false, _&&_}
 use Prim.Native.Nat.{ℕ, _+_, _-_, _*_, _%_, _≤_}
 use native.Mathlib.Omega.{arith}
 use lib.ListN.{length, getD}
-use lib.Dec.{eqb}
-use borrow.Author.Tests.{eqb-true, eqb-false}
+use lib.Dec.{eqb, leb}
+use borrow.Author.Tests.{eqb-true, eqb-false, leb-true}
 use Rattle.model.specs.Said.{accepted}
 use Rattle.model.specs.Demux as model
 use Rattle.model.specs.Demux.{closed}
@@ -14,11 +14,13 @@ use Rattle.model.proofs.Cases.{by-test, both}
 use Rattle.packet.specs.Packet.{blank}
 use Rattle.slots.specs.declared.Slot.{Slot}
 use Rattle.triples.specs.Pairs.{pairsOf}
-use Rattle.gather.specs.Ring.{noSlot, ringFrom, slotFine, slotsFine}
-use Rattle.parser.specs.Valid.{fieldsFine, countsOf, fine, valid}
+use Rattle.gather.specs.Ring.{noSlot, ringFrom, slotFine, slotsFine, headFine, behindFine}
+use Rattle.gather.specs.Gather.{pendingFine}
+use Rattle.gather.specs.declared.Front.{Front}
+use Rattle.parser.specs.Valid.{fieldsFine, listFine, countsOf, fine, valid}
 use Rattle.gather.specs.Ring.{packetsIn}
 use Rattle.parser.specs.Means.{means, Shaped}
-use Rattle.parser.specs.Draw.{packetAt, takePair, takePacket, takeNone, takeItem, Takes, drawnBy, drawn}
+use Rattle.parser.specs.Draw.{packetAt, placeBehind, takePair, takePacket, takeNone, takeItem, Takes, takenBy, drawnBy, drawn}
 use Rattle.parser.specs.Items.{pairValues, saidItem, itemValues, packetOfItem, Draws}
 use Rattle.parser.specs.declared.Counts.{Counts}
 use Rattle.parser.specs.declared.CCDataParser.{CCDataParser}
@@ -27,9 +29,9 @@ use Rattle.parser.specs.declared.Took.{Took}
 use Rattle.parser.specs.declared.Item.the-variants.{Nothing, Refused}
 use Rattle.caption.specs.declared.Refusal.the-variants as refusal
 use Rattle.gather.proofs.Slots.{RingFine}
-use Rattle.parser.proofs.Valids.{Fine, fine-facts, facts-fine}
+use Rattle.parser.proofs.Valids.{Fine, fine-facts, facts-fine, behind-fine}
 use Rattle.parser.proofs.Pushes.{tested-valid}
-use Rattle.parser.proofs.Firsts.{slid-length, pairs-drawn, fields-drawn, pair-drawn, ring-drawn, slot-read, slot-short}
+use Rattle.parser.proofs.Firsts.{slid-length, pairs-drawn, fields-drawn, pair-drawn, ring-drawn, behind-within, slot-read}
 
 -- what is told of an item drawn from a state within the limits
 pub record Tells (x : Drawn) (d : model.Drawn) : Type 0 where
@@ -71,7 +73,7 @@ module _ (p : CCDataParser) (v : Fine (countsOf p) (p .pairs) (p .pending) (p .w
 
     -- the others
     abbrev others : List Slot
-    others = ringFrom ((p .«waiting_first» + 1) % 32) (p .«waiting_count» - 1) (p .waiting)
+    others = ringFrom (placeBehind (p .«waiting_first») (p .«waiting_count»)) (p .«waiting_count» - 1) (p .waiting)
 
     -- the ring is these
     ring-is : ringFrom (p .«waiting_first») (p .«waiting_count») (p .waiting) ≡ slot ∷ others
@@ -83,7 +85,7 @@ module _ (p : CCDataParser) (v : Fine (countsOf p) (p .pairs) (p .pending) (p .w
     reading = both (slotFine slot) (slotsFine others) (ap slotsFine (sym ring-is) ∙ v .ring .reading)
 
     -- a packet
-    told-packet : p .«pair_count» ≡ 0 → Tells (drawnBy p (takePacket (countsOf p) (p .pairs) (p .waiting))) (model.draw (means p))
+    told-packet : p .«pair_count» ≡ 0 → Tells (drawnBy p (takePacket (countsOf p) (p .pairs) slot)) (model.draw (means p))
     unfolding drawnBy takePacket model.draw means fieldsFine packetsIn closed packetAt pairsOf
     told-packet z =
         let q = slot-read slot (reading .0) in
@@ -92,7 +94,7 @@ module _ (p : CCDataParser) (v : Fine (countsOf p) (p .pairs) (p .pending) (p .w
           said = refl;
           packet = refl;
           means = refl;
-          valid = no-pair-fine _ _ (record { first = omega arith; count = omega (arith, v .ring .count); reading = reading .1 });
+          valid = no-pair-fine _ _ (record { first = behind-within (p .waiting) (p .«waiting_first») (p .«waiting_count») n (v .ring .first); count = omega (arith, v .ring .count); reading = reading .1 });
           shaped = record { pairs = s .pairs; pending = s .pending; waiting = s .waiting };
         })
 
@@ -110,7 +112,7 @@ module _ (p : CCDataParser) (v : Fine (countsOf p) (p .pairs) (p .pending) (p .w
       })
 
   -- whichever comes
-  told-item : Tells (drawnBy p (takeItem true (countsOf p) (p .pairs) (p .waiting))) (model.draw (means p))
+  told-item : Tells (drawnBy p (takeItem true (countsOf p) (p .pairs) (getD (p .waiting) (p .«waiting_first») noSlot))) (model.draw (means p))
   unfolding takeItem
   told-item =
       by-test (eqb (p .«pair_count») 0)
@@ -139,47 +141,56 @@ module _ (p : CCDataParser) where
       (λ e. let t = drawn-tells p e s in record { item = rw e (t .said); packet = rw e (t .packet); parser = refl })
       (λ e. record { item = rw (drawn-bad e, e); packet = rw (drawn-bad e, e); parser = refl })
 
-  -- by the numbers of the state and what was taken
-  module _ (c : Counts) (counted : c ≡ countsOf p) (b : Bool) (tested : b ≡ fine c (p .pairs) (p .pending) (p .waiting)) (s : Shaped p) where
+  -- by the numbers of the state, the slot that has waited longest, and what was taken
+  module _ (c : Counts) (counted : c ≡ countsOf p) (o : Front)
+      (found : (o .good ≡ behindFine (c .first) (c .waiting) (p .waiting)) × ((c .waiting ≡ 0 → ⊥) → o .slot ≡ getD (p .waiting) (c .first % 32) noSlot))
+      (b : Bool) (tested : b ≡ (listFine (c .pairs) (p .pairs) && (pendingFine (c .pending) (p .pending) && o .good))) where
+    -- what a taker asks
+    pub takes : b ≡ true → Takes c
+    unfolding listFine behindFine
+    takes t =
+        let f = both (listFine (c .pairs) (p .pairs)) (pendingFine (c .pending) (p .pending) && o .good) (sym tested ∙ t) in
+        let g = both (pendingFine (c .pending) (p .pending)) (o .good) (f .1) in
+        let h = both (leb (c .first) 31) (leb (c .waiting) 32 && slotsFine (ringFrom (c .first + 1) (c .waiting - 1) (p .waiting))) (sym (found .0) ∙ g .1) in
+        record { pairs = leb-true _ _ (both (leb (c .pairs) 31) (fieldsFine (c .pairs) (p .pairs)) (f .0) .0); first = leb-true _ _ (h .0) }
+
+    -- whether the state is within the limits
+    whole : b && headFine (c .waiting) (o .slot) ≡ valid p
+    whole = tested-valid p c (b && headFine (c .waiting) (o .slot)) counted (behind-fine c (p .pairs) (p .pending) (p .waiting) o found b tested)
+
+    -- the slot is the one at the first place, if one waits
+    slot-is : takeItem (valid p) c (p .pairs) (o .slot) ≡ takeItem (valid p) c (p .pairs) (getD (p .waiting) (p .«waiting_first») noSlot)
+    unfolding takeItem
+    slot-is =
+        by-test (eqb (c .waiting) 0)
+        (λ e. rw e)
+        (λ e. by-test (valid p)
+        (λ t. let h : p .«waiting_first» ≤ 31 = fine-facts (countsOf p) (p .pairs) (p .pending) (p .waiting) t .ring .first in
+        let z : p .«waiting_first» % 32 ≡ p .«waiting_first» = omega arith in
+        rw (found .1 (eqb-false _ _ e), counted, z))
+        (λ t. rw t))
+
     -- what was taken gives what drawing answers
-    pub taken-draws : (t : Took) → t ≡ takeItem b c (p .pairs) (p .waiting)
-        → Draws p
-        (record {
-          item = t .item;
-          packet = t .packet;
-          parser = record {
-            «cea608_on» = c .on;
-            «pair_count» = t .pairs;
-            pairs = t .places;
-            «pending_len» = c .pending;
-            pending = p .pending;
-            «waiting_first» = t .first;
-            «waiting_count» = t .waiting;
-            waiting = p .waiting;
-          };
-        })
-    unfolding drawn drawnBy
-    taken-draws t q = rw (q, tested-valid p c b counted tested, counted) (drawn-draws s)
+    module _ (t : Took) (l m s y : List ℕ) (q : takenBy t l m s y ≡ takeItem (b && headFine (c .waiting) (o .slot)) c (p .pairs) (o .slot)) where
+      by-taken : drawnBy p (takenBy t l m s y) ≡ drawn p
+      unfolding drawn
+      by-taken = ap (drawnBy p) (q ∙ ap (λ (v : Bool). takeItem v c (p .pairs) (o .slot)) whole ∙ slot-is ∙ rw counted)
 
-    -- the slot that has waited longest
-    module _ (k : Slot) (first : (c .waiting ≡ 0 → ⊥) → k ≡ getD (p .waiting) (c .first % 32) noSlot) where
-      -- the facts of a state within the limits
-      facts : b ≡ true → Fine (countsOf p) (p .pairs) (p .pending) (p .waiting)
-      facts t = fine-facts (countsOf p) (p .pairs) (p .pending) (p .waiting) (sym (tested-valid p c b counted tested) ∙ t)
-
-      -- it stands at the first place
-      pub oldest-first : b ≡ true → (c .waiting ≡ 0 → ⊥) → k ≡ getD (p .waiting) (c .first) noSlot
-      oldest-first t n =
-          let h : p .«waiting_first» ≤ 31 = facts t .ring .first in
-          let z : p .«waiting_first» % 32 ≡ p .«waiting_first» = omega arith in
-          rw counted (rw (counted, z) at (first n))
-
-      -- what a taker asks
-      pub takes : b ≡ true → Takes c k
-      takes t =
-          let v = facts t in
-          record {
-            pairs = rw counted (v .few);
-            first = rw counted (v .ring .first);
-            slot = λ n. rw (oldest-first t n, counted) (slot-short _ (reading p v s (rw counted at n) .0));
-          }
+      pub taken-draws : Shaped p
+          → Draws p
+          (record {
+            item = t .item;
+            packet = record { «seq_no» = t .«seq_no»; count = t .count; numbers = m; sizes = s; payload = y };
+            parser = record {
+              «cea608_on» = c .on;
+              «pair_count» = t .pairs;
+              pairs = l;
+              «pending_len» = c .pending;
+              pending = p .pending;
+              «waiting_first» = t .first;
+              «waiting_count» = t .waiting;
+              waiting = p .waiting;
+            };
+          })
+      unfolding drawnBy
+      taken-draws shaped = rw (counted, by-taken) (drawn-draws shaped)

@@ -1,24 +1,28 @@
 -- Laws of drawing an item, one for each way out of a function. Assumes nothing.
 use mathlib.Core.Path.{_≡_, refl, sym, ap, _∙_}
 use mathlib.Core.List.{List, _∷_, _++_}
-use mathlib.Core.Bool.{Bool, true, false}
+use mathlib.Core.Bool.{Bool, true, false, _&&_}
 use Prim.Native.Nat.{ℕ, suc, _+_, _-_, _*_, _%_, _≤_, _<_}
 use native.Mathlib.Numerals.{add-one}
 use native.Mathlib.Omega.{arith}
-use lib.ListN.{length, getD, take, drop, set, length-take, length-drop}
+use lib.ListN.{length, getD, take, drop, set, replicate, length-take, length-drop}
+use lib.Dec.{eqb}
 use lib.Seq.{drop-cons, take-suc, append-snoc, set-at, getD-drop, getD-append-add}
 use borrow.Author.Tests.{eq-eqb, ne-eqb}
 use Rattle.caption.specs.declared.Cea608.{Cea608}
 use Rattle.caption.specs.declared.Cea608.the-variants.{Field1, Field2}
 use Rattle.caption.specs.declared.Refusal.the-variants as refusal
-use Rattle.model.specs.Said.{mapped}
-use Rattle.model.specs.Packet.{readPacket}
-use Rattle.packet.specs.Packet.{Answers, laid, blank}
-use Rattle.slots.specs.declared.Slot.{Slot}
+use Rattle.model.specs.Said.{Outcome, gave, refused, isGiven, mapped, after}
+use Rattle.model.specs.Packet.{readPacket, reads}
+use Rattle.model.specs.Packet as model
+use Rattle.model.proofs.Cases.{by-test}
+use Rattle.packet.specs.Packet.{laid, blank, ledBy}
 use Rattle.packet.specs.declared.DTVCCPacket.{DTVCCPacket}
-use Rattle.packet.specs.declared.PacketAnswer.{PacketAnswer}
-use Rattle.gather.specs.Ring.{noSlot}
-use Rattle.parser.specs.Draw.{slid, firstPair, packetAt, slotPacket, takePair, takePacket, takeNone, takeItem}
+use Rattle.packet.specs.declared.Lead.{Lead}
+use Rattle.slots.specs.declared.Slot.{Slot}
+use Rattle.gather.specs.Ring.{headFine}
+use Rattle.gather.proofs.Slots.{slot-long, slot-within}
+use Rattle.parser.specs.Draw.{slid, firstPair, packetAt, placeBehind, Taken, takenBy, Zeros, takePair, takePacket, takeNone, noneTook, takeItem, takeHead, takeBehind}
 use Rattle.parser.specs.declared.Counts.{Counts}
 use Rattle.parser.specs.declared.Took.{Took}
 use Rattle.parser.specs.declared.Item.{Item}
@@ -90,48 +94,88 @@ slid-none k l = refl
 pub slid-done : {A : Type 0} (k : ℕ) (l a : List A) (i n : ℕ) → a ≡ slid k i l → i ≤ n → n ≤ i → a ≡ slid k n l
 slid-done k l a i n e h j = let q : i ≡ n = omega arith in rw q at e
 
--- the packet of bytes
-pub packet-read : (n : ℕ) (l : List ℕ) (r : PacketAnswer) → Answers (mapped laid (readPacket (take (n - 0) (drop 0 l)))) blank r → r .packet ≡ packetAt (take n l)
-unfolding packetAt
-packet-read n l r e = let z : n - 0 ≡ n = omega arith in rw z at (e .packet)
+-- what was not read is blank
+not-given : (o : Outcome model.Packet) → isGiven o ≡ false → after blank (mapped laid o) ≡ blank
+not-given (refused why) e = refl
+not-given (gave p) e = let z : _≡_ {A = ℕ} 0 1 = cc in absurd (omega arith)
 
 -- what is taken
 module _ (c : Counts) (l : List ℕ) where
   -- nothing
-  pub took-none : (item : Item) (p : DTVCCPacket) → p ≡ blank
-      → record { item = item; packet = p; pairs = c .pairs; places = l; first = c .first; waiting = c .waiting } ≡ takeNone item c l
-  took-none item p e = rw e
+  pub none-taken : (item : Item) (t : Took) (n s p : List ℕ) → t ≡ noneTook item c → Zeros n s p → takenBy t l n s p ≡ takeNone item c l
+  none-taken item t n s p e z = rw (e, z .0, z .1, z .2)
 
   -- a pair
-  pub took-pair : (x : Cea608) (k : List ℕ) (p : DTVCCPacket) → x ≡ firstPair l → k ≡ slid 3 (3 * (c .pairs - 1)) l → p ≡ blank
-      → record { item = Pair x; packet = p; pairs = c .pairs - 1; places = k; first = c .first; waiting = c .waiting } ≡ takePair c l
+  pub pair-taken : (x : Cea608) (k : List ℕ) → x ≡ firstPair l → k ≡ slid 3 (3 * (c .pairs - 1)) l
+      → takenBy (record { item = Pair x; «seq_no» = 0; count = 0; pairs = c .pairs - 1; first = c .first; waiting = c .waiting }) k (replicate 63 0) (replicate 63 0) (replicate 127 0) ≡ takePair c l
   unfolding takePair
-  took-pair x k p e q w = rw (e, q, w)
+  pair-taken x k e q = rw (e, q)
 
-  -- a packet
-  pub took-packet : (slots : List Slot) (s : Slot) (p : DTVCCPacket) → s ≡ getD slots (c .first) noSlot → p ≡ slotPacket s
-      → record { item = Packet; packet = p; pairs = c .pairs; places = l; first = (c .first + 1) % 32; waiting = c .waiting - 1 } ≡ takePacket c l slots
-  unfolding takePacket
-  took-packet slots s p q e = rw (e, q)
+  -- what the slot at the head gives
+  module _ (slot : Slot) where
+    -- longer than its places
+    pub head-long : 128 < slot .len → (t : Took) (n s p : List ℕ) → t ≡ noneTook (Refused refusal.BadValue) c → Zeros n s p → takenBy t l n s p ≡ takeHead c l slot
+    unfolding takeHead
+    head-long h t n s p e z = rw (← slot-long slot h) (none-taken (Refused refusal.BadValue) t n s p e z)
 
-module _ (b : Bool) (c : Counts) (l : List ℕ) (slots : List Slot) (r : Took) where
-  -- a state outside the limits
-  pub take-bad : b ≡ false → r ≡ takeNone (Refused refusal.BadValue) c l → r ≡ takeItem b c l slots
-  unfolding takeItem
-  take-bad e q = rw (e, q)
+    -- within them
+    module _ (h : slot .len ≤ 128) (b : Bool) (read : b ≡ reads (take (slot .len) (slot .bytes))) where
+      module _ (k : Lead) (n s p : List ℕ) (led : ledBy k n s p ≡ after blank (mapped laid (readPacket (take (slot .len) (slot .bytes))))) where
+        -- a packet
+        pub head-packet : b ≡ true → (f : ℕ) → f ≡ placeBehind (c .first) (c .waiting)
+            → takenBy (record { item = Packet; «seq_no» = k .«seq_no»; count = k .count; pairs = c .pairs; first = f; waiting = c .waiting - 1 }) l n s p ≡ takeHead c l slot
+        unfolding takeHead takePacket packetAt
+        head-packet t f q = rw (← slot-within slot b h read, t, ← led, q)
+
+        -- none: the arrays have zeros
+        unread : b ≡ false → Zeros n s p
+        unfolding reads
+        unread f =
+            let e = led ∙ not-given (readPacket (take (slot .len) (slot .bytes))) (sym read ∙ f) in
+            (ap (λ (x : DTVCCPacket). x .numbers) e, ap (λ (x : DTVCCPacket). x .sizes) e, ap (λ (x : DTVCCPacket). x .payload) e)
+
+        pub head-unread : b ≡ false → (t : Took) → t ≡ noneTook (Refused refusal.BadValue) c → takenBy t l n s p ≡ takeHead c l slot
+        unfolding takeHead
+        head-unread f t e = rw (← slot-within slot b h read, f) (none-taken (Refused refusal.BadValue) t n s p e (unread f))
+
+    -- what comes once no pair is left: nothing
+    pub behind-nothing : c .waiting ≡ 0 → (t : Took) (n s p : List ℕ) → t ≡ noneTook Nothing c → Zeros n s p → takenBy t l n s p ≡ takeBehind c l slot
+    unfolding takeBehind
+    behind-nothing z t n s p e y = rw (eq-eqb _ _ z) (none-taken Nothing t n s p e y)
+
+    -- or what the slot at the head gives
+    pub behind-head : (c .waiting ≡ 0 → ⊥) → (t : Taken) → t ≡ takeHead c l slot → t ≡ takeBehind c l slot
+    unfolding takeBehind
+    behind-head z t e = rw (ne-eqb _ _ z) e
+
+-- what comes next, by whether the state but for the slot at the head is within the limits
+module _ (b : Bool) (c : Counts) (l : List ℕ) (slot : Slot) where
+  -- the item, by both
+  abbrev next : Taken
+  next = takeItem (b && headFine (c .waiting) slot) c l slot
+
+  -- it is not
+  module _ (t : Took) (n s p : List ℕ) (none : t ≡ noneTook (Refused refusal.BadValue) c) (z : Zeros n s p) where
+    pub take-bad : b ≡ false → takenBy t l n s p ≡ next
+    unfolding takeItem
+    take-bad e = rw e (none-taken c l (Refused refusal.BadValue) t n s p none z)
+
+    -- or the slot is not
+    pub take-unread : b ≡ true → (h : Bool) → h ≡ headFine (c .waiting) slot → h ≡ false → takenBy t l n s p ≡ next
+    unfolding takeItem
+    take-unread ok h e f = rw (ok, ← e, f) (none-taken c l (Refused refusal.BadValue) t n s p none z)
 
   module _ (ok : b ≡ true) where
     -- pairs wait
-    pub take-first : (c .pairs ≡ 0 → ⊥) → r ≡ takePair c l → r ≡ takeItem b c l slots
+    pub take-first : (c .pairs ≡ 0 → ⊥) → (h : Bool) → h ≡ headFine (c .waiting) slot → h ≡ true → (t : Took) (k n s p : List ℕ) → Zeros n s p
+        → takenBy t k (replicate 63 0) (replicate 63 0) (replicate 127 0) ≡ takePair c l → takenBy t k n s p ≡ next
     unfolding takeItem
-    take-first n e = rw (ok, ne-eqb _ _ n, e)
+    take-first some h e f t k n s p z q = rw (ok, ← e, f, ne-eqb _ _ some, z .0, z .1, z .2) q
 
-    -- packets wait
-    pub take-next : c .pairs ≡ 0 → (c .waiting ≡ 0 → ⊥) → r ≡ takePacket c l slots → r ≡ takeItem b c l slots
-    unfolding takeItem
-    take-next z n e = rw (ok, eq-eqb _ _ z, ne-eqb _ _ n, e)
-
-    -- nothing waits
-    pub take-none : c .pairs ≡ 0 → c .waiting ≡ 0 → r ≡ takeNone Nothing c l → r ≡ takeItem b c l slots
-    unfolding takeItem
-    take-none z n e = rw (ok, eq-eqb _ _ z, eq-eqb _ _ n, e)
+    -- no pair waits
+    pub take-next : c .pairs ≡ 0 → (t : Took) (n s p : List ℕ) → takenBy t l n s p ≡ takeBehind c l slot → takenBy t l n s p ≡ next
+    unfolding takeItem takeBehind takeHead headFine
+    take-next z t n s p q =
+        q ∙ by-test (eqb (c .waiting) 0)
+        (λ e. rw (ok, e, eq-eqb _ _ z))
+        (λ e. rw (ok, e, eq-eqb _ _ z))

@@ -7,18 +7,18 @@ use native.Mathlib.Omega.{arith}
 use lib.ListN.{length, getD, take, drop, length-drop, length-append, take-append-drop}
 use lib.Seq.{length-take-le}
 use lib.Dec.{eqb, leb}
-use borrow.Author.Tests.{leb-true}
+use borrow.Author.Tests.{eqb-true, leb-true}
 use Rattle.caption.specs.declared.Cea608.the-variants.{Field1, Field2}
 use Rattle.caption.specs.Pairs.{cea608Of}
 use Rattle.model.specs.Said.{Outcome, gave, refused, isGiven}
 use Rattle.model.specs.Packet.{Packet, readPacket, reads}
 use Rattle.model.specs.Frame.{field1, field2, pair}
-use Rattle.model.proofs.Cases.{both}
+use Rattle.model.proofs.Cases.{by-test, both}
 use Rattle.slots.specs.declared.Slot.{Slot}
 use Rattle.triples.specs.Pairs.{pairAt, pairsOf}
 use Rattle.gather.specs.Ring.{noSlot, ringFrom, slotFine}
 use Rattle.parser.specs.Valid.{fieldsFine}
-use Rattle.parser.specs.Draw.{slid, firstPair}
+use Rattle.parser.specs.Draw.{slid, firstPair, placeBehind}
 use Rattle.gather.proofs.Rings.{ring-round}
 
 -- the first n pairs stand in the first 3n places
@@ -92,12 +92,19 @@ pair-drawn l = by (eqb (getD l 0 0) 0)
 -- a ring without its first slot
 module _ (l : List Slot) (first n : ℕ) (some : n ≡ 0 → ⊥) (within : first ≤ 31) where
   -- the slots are the first one and the others
-  pub ring-drawn : ringFrom first n l ≡ getD l first noSlot ∷ ringFrom ((first + 1) % 32) (n - 1) l
-  unfolding ringFrom
+  pub ring-drawn : ringFrom first n l ≡ getD l first noSlot ∷ ringFrom (placeBehind first n) (n - 1) l
+  unfolding ringFrom placeBehind
   ring-drawn =
-      let e : n ≡ suc (n - 1) = omega (arith, some) in
       let z : first % 32 ≡ first = omega arith in
-      ap (λ (k : ℕ). ringFrom first k l) e ∙ rw (z, ring-round (n - 1) (first + 1) ((first + 1) % 32) l (omega arith))
+      by-test (eqb n 1)
+      (λ t. let e : n ≡ suc 0 = eqb-true n 1 t in rw (e, z))
+      (λ t. let e : n ≡ suc (n - 1) = omega (arith, some) in
+      rw t (ap (λ (k : ℕ). ringFrom first k l) e ∙ rw (z, ring-round (n - 1) (first + 1) ((first + 1) % 32) l (omega arith))))
+
+  -- and the next place is one of 32
+  pub behind-within : placeBehind first n ≤ 31
+  unfolding placeBehind
+  behind-within = by-test (eqb n 1) (λ t. rw t (omega arith)) (λ t. rw t (omega arith))
 
 -- bytes that read are a packet
 given : (o : Outcome Packet) → isGiven o ≡ true → (q : Packet) × (o ≡ gave q)

@@ -1,19 +1,19 @@
 -- Laws of the limits, one for each way out of a function, and the facts of a state within them. Assumes nothing.
-use mathlib.Core.Path.{_≡_, sym}
+use mathlib.Core.Path.{_≡_, refl, sym, _∙_}
 use mathlib.Core.List.{List}
 use mathlib.Core.Bool.{Bool, true, false, _&&_}
 use Prim.Native.Nat.{ℕ, suc, _+_, _-_, _*_, _%_, _≤_, _<_}
 use native.Mathlib.Omega.{arith}
 use lib.ListN.{getD, drop}
 use lib.Seq.{getD-drop, drop-drop}
-use lib.Dec.{leb}
-use borrow.Author.Tests.{lt-leb, le-leb, leb-true}
-use Rattle.model.proofs.Cases.{both}
+use lib.Dec.{eqb, leb}
+use borrow.Author.Tests.{eq-eqb, ne-eqb, eqb-false, lt-leb, le-leb, leb-true}
+use Rattle.model.proofs.Cases.{by-test, both}
 use Rattle.slots.specs.declared.Slot.{Slot}
 use Rattle.gather.specs.Gather.{pendingFine}
-use Rattle.gather.specs.Ring.{noSlot, ringFine, oldestOf}
+use Rattle.gather.specs.Ring.{noSlot, slotFine, ringFine, headFine, behindFine, oldestOf}
 use Rattle.gather.specs.declared.Front.{Front}
-use Rattle.gather.proofs.Slots.{RingFine, ring-facts, facts-ring, ring-empty}
+use Rattle.gather.proofs.Slots.{RingFine, ring-facts, facts-ring, behind-empty, ring-parts}
 use Rattle.parser.specs.Valid.{fieldsFine, listFine, fine}
 use Rattle.parser.specs.declared.Counts.{Counts}
 
@@ -54,15 +54,15 @@ module _ (a : Bool) (l : List ℕ) (n i : ℕ) (e : a ≡ fieldsFine (n - i) (dr
     pub fields-bad : 1 < getD l (3 * i) 0 → false ≡ a
     fields-bad k = sym (rw (lt-leb _ _ k) at fields-here)
 
--- the ring, by the slot that has waited longest
+-- the ring behind its head, by the slot there
 module _ (f n : ℕ) (slots : List Slot) where
   -- of an empty ring only the place is tested
-  pub front-none : n ≡ 0 → leb f 31 ≡ ringFine f n slots
-  front-none z = rw z (ring-empty f slots)
+  pub front-none : n ≡ 0 → leb f 31 ≡ behindFine f n slots
+  front-none z = rw z (behind-empty f slots)
 
   module _ (r : Front) (e : r ≡ oldestOf f n slots) where
-    -- the ring
-    pub front-good : r .good ≡ ringFine f n slots
+    -- the ring behind it
+    pub front-good : r .good ≡ behindFine f n slots
     unfolding oldestOf
     front-good = rw e
 
@@ -71,23 +71,42 @@ module _ (f n : ℕ) (slots : List Slot) where
     unfolding oldestOf
     front-slot = rw e
 
--- the whole
-module _ (c : Counts) (pairs pending : List ℕ) (slots : List Slot) (b : Bool) (listed : b ≡ listFine (c .pairs) pairs) where
-  -- the list is not
-  pub bad-list : b ≡ false → false ≡ fine c pairs pending slots
+-- the head of an empty ring, and of any other
+module _ (n : ℕ) (s : Slot) where
+  pub head-none : n ≡ 0 → true ≡ headFine n s
+  unfolding headFine
+  head-none z = rw (eq-eqb _ _ z)
+
+  pub head-some : (n ≡ 0 → ⊥) → (b : Bool) → b ≡ slotFine s → b ≡ headFine n s
+  unfolding headFine
+  head-some z b e = rw (ne-eqb _ _ z) e
+
+-- a state, by what was found of its ring: the slot at the head, and whether the ring behind it is within its limits
+module _ (c : Counts) (pairs pending : List ℕ) (slots : List Slot) (o : Front)
+    (found : (o .good ≡ behindFine (c .first) (c .waiting) slots) × ((c .waiting ≡ 0 → ⊥) → o .slot ≡ getD slots (c .first % 32) noSlot)) where
+  -- of an empty ring the slot says nothing
+  head-is : headFine (c .waiting) (o .slot) ≡ headFine (c .waiting) (getD slots (c .first % 32) noSlot)
+  unfolding headFine
+  head-is = by-test (eqb (c .waiting) 0) (λ e. rw e) (λ e. rw (found .1 (eqb-false _ _ e)))
+
+  -- the whole ring
+  ring-whole : o .good && headFine (c .waiting) (o .slot) ≡ ringFine (c .first) (c .waiting) slots
+  ring-whole = rw (found .0, head-is) (sym (ring-parts (c .first) slots (c .waiting)))
+
+  -- the whole ring is tested, and then the rest
+  pub tested-fine : (ring b : Bool) → ring ≡ (o .good && headFine (c .waiting) (o .slot)) → b ≡ (listFine (c .pairs) pairs && (pendingFine (c .pending) pending && ring)) → b ≡ fine c pairs pending slots
   unfolding fine
-  bad-list t = rw (← listed, t)
+  tested-fine ring b e q = q ∙ rw (e, ring-whole)
 
-  module _ (t : b ≡ true) (e : Bool) (waits : e ≡ pendingFine (c .pending) pending) where
-    -- the pending bytes are not
-    pub bad-pending : e ≡ false → false ≡ fine c pairs pending slots
-    unfolding fine
-    bad-pending v = rw (← listed, t, ← waits, v)
+  apart : (x y z h : Bool) → (x && (y && z)) && h ≡ x && (y && (z && h))
+  apart false y z h = refl
+  apart true false z h = refl
+  apart true true z h = refl
 
-    -- the slots decide
-    pub fine-slots : (r : Bool) → e ≡ true → r ≡ ringFine (c .first) (c .waiting) slots → r ≡ fine c pairs pending slots
-    unfolding fine
-    fine-slots r v q = rw (← listed, t, ← waits, v) q
+  -- all but the slot at the head is tested, and then that slot
+  pub behind-fine : (b : Bool) → b ≡ (listFine (c .pairs) pairs && (pendingFine (c .pending) pending && o .good)) → b && headFine (c .waiting) (o .slot) ≡ fine c pairs pending slots
+  unfolding fine
+  behind-fine b q = rw (q, apart (listFine (c .pairs) pairs) (pendingFine (c .pending) pending) (o .good) (headFine (c .waiting) (o .slot)), ring-whole)
 
 -- the facts of a state within the limits
 pub record Fine (c : Counts) (pairs pending : List ℕ) (slots : List Slot) : Type 0 where

@@ -3,7 +3,7 @@ use mathlib.Core.Path.{_≡_}
 use mathlib.Core.List.{List, _++_}
 use mathlib.Core.Bool.{Bool, cond}
 use Prim.Native.Nat.{ℕ, _+_, _-_, _*_, _%_, _≤_}
-use lib.ListN.{getD, take, drop}
+use lib.ListN.{getD, take, drop, replicate}
 use lib.Dec.{eqb}
 use Rattle.caption.specs.declared.Cea608.{Cea608}
 use Rattle.caption.specs.declared.Cea608.the-variants.{Field1, Field2}
@@ -13,7 +13,7 @@ use Rattle.model.specs.Packet.{readPacket}
 use Rattle.packet.specs.Packet.{laid, blank}
 use Rattle.slots.specs.declared.Slot.{Slot}
 use Rattle.packet.specs.declared.DTVCCPacket.{DTVCCPacket}
-use Rattle.gather.specs.Ring.{noSlot}
+use Rattle.gather.specs.Ring.{noSlot, slotFine}
 use Rattle.parser.specs.Valid.{countsOf, valid}
 use Rattle.parser.specs.declared.Counts.{Counts}
 use Rattle.parser.specs.declared.Took.{Took}
@@ -38,8 +38,37 @@ packetAt g = after blank (mapped laid (readPacket g))
 abbrev pub slotPacket : Slot → DTVCCPacket
 slotPacket s = packetAt (take (s .len) (s .bytes))
 
+-- the place of the ring's head once the slot there is taken; a ring that is emptied starts again at its first place
+unfoldable pub placeBehind : ℕ → ℕ → ℕ
+placeBehind first waiting = cond (eqb waiting 1) 0 ((first + 1) % 32)
+
+-- what is taken out of a state: an item, the packet beside it, and the list and the counts afterwards
+pub record Taken : Type 0 where
+  pub item : Item
+  pub packet : DTVCCPacket
+  pub pairs : ℕ
+  pub places : List ℕ
+  pub first : ℕ
+  pub waiting : ℕ
+
+-- by what a taker answers and the arrays that it leaves
+abbrev pub takenBy : Took → List ℕ → List ℕ → List ℕ → List ℕ → Taken
+takenBy t places numbers sizes payload =
+    record {
+      item = t .item;
+      packet = record { «seq_no» = t .«seq_no»; count = t .count; numbers = numbers; sizes = sizes; payload = payload };
+      pairs = t .pairs;
+      places = places;
+      first = t .first;
+      waiting = t .waiting;
+    }
+
+-- arrays that no packet was read into
+abbrev pub Zeros : List ℕ → List ℕ → List ℕ → Type 0
+Zeros numbers sizes payload = (numbers ≡ replicate 63 0) × (sizes ≡ replicate 63 0) × (payload ≡ replicate 127 0)
+
 -- "the list's pairs in order .. each removed": the first pair, and the others moved down
-unfoldable pub takePair : Counts → List ℕ → Took
+unfoldable pub takePair : Counts → List ℕ → Taken
 takePair c l =
     record {
       item = Pair (firstPair l);
@@ -50,37 +79,48 @@ takePair c l =
       waiting = c .waiting;
     }
 
--- "then packets, oldest first, each removed": the first packet of the ring
-unfoldable pub takePacket : Counts → List ℕ → List Slot → Took
-takePacket c l slots =
+-- "then packets, oldest first, each removed": the packet at the ring's head
+unfoldable pub takePacket : Counts → List ℕ → Slot → Taken
+takePacket c l slot =
     record {
       item = Packet;
-      packet = slotPacket (getD slots (c .first) noSlot);
+      packet = slotPacket slot;
       pairs = c .pairs;
       places = l;
-      first = (c .first + 1) % 32;
+      first = placeBehind (c .first) (c .waiting);
       waiting = c .waiting - 1;
     }
 
 -- nothing taken
-abbrev pub takeNone : Item → Counts → List ℕ → Took
+abbrev pub takeNone : Item → Counts → List ℕ → Taken
 takeNone item c l = record { item = item; packet = blank; pairs = c .pairs; places = l; first = c .first; waiting = c .waiting }
 
+-- as a taker answers it
+abbrev pub noneTook : Item → Counts → Took
+noneTook item c = record { item = item; «seq_no» = 0; count = 0; pairs = c .pairs; first = c .first; waiting = c .waiting }
+
 -- "first the list's pairs in order, then packets, oldest first"; "with none left it says so"
-unfoldable pub takeItem : Bool → Counts → List ℕ → List Slot → Took
-takeItem valid c l slots =
+unfoldable pub takeItem : Bool → Counts → List ℕ → Slot → Taken
+takeItem valid c l slot =
     cond valid
-    (cond (eqb (c .pairs) 0) (cond (eqb (c .waiting) 0) (takeNone Nothing c l) (takePacket c l slots)) (takePair c l))
+    (cond (eqb (c .pairs) 0) (cond (eqb (c .waiting) 0) (takeNone Nothing c l) (takePacket c l slot)) (takePair c l))
     (takeNone (Refused refusal.BadValue) c l)
 
--- what a state within the limits, with the slot that has waited longest, gives to a taker
-pub record Takes (c : Counts) (s : Slot) : Type 0 where
+-- the packet at the head, if its slot reads as one
+unfoldable pub takeHead : Counts → List ℕ → Slot → Taken
+takeHead c l slot = cond (slotFine slot) (takePacket c l slot) (takeNone (Refused refusal.BadValue) c l)
+
+-- what comes once no pair is left
+unfoldable pub takeBehind : Counts → List ℕ → Slot → Taken
+takeBehind c l slot = cond (eqb (c .waiting) 0) (takeNone Nothing c l) (takeHead c l slot)
+
+-- what a state within the limits gives to a taker
+pub record Takes (c : Counts) : Type 0 where
   pub pairs : c .pairs ≤ 31
   pub first : c .first ≤ 31
-  pub slot : (c .waiting ≡ 0 → ⊥) → s .len ≤ 128
 
 -- the state by what was taken
-unfoldable pub drawnBy : CCDataParser → Took → Drawn
+unfoldable pub drawnBy : CCDataParser → Taken → Drawn
 drawnBy p t =
     record {
       item = t .item;
@@ -99,4 +139,4 @@ drawnBy p t =
 
 -- drawing, from any state
 unfoldable pub drawn : CCDataParser → Drawn
-drawn p = drawnBy p (takeItem (valid p) (countsOf p) (p .pairs) (p .waiting))
+drawn p = drawnBy p (takeItem (valid p) (countsOf p) (p .pairs) (getD (p .waiting) (p .«waiting_first») noSlot))

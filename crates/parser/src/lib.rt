@@ -1,18 +1,19 @@
 // The demultiplexer: frames of `cc_data` in, caption pairs and packets out.
 ghost use mathlib.Core.Path.{_≡_};
-ghost use mathlib.Core.Bool.{true};
+ghost use mathlib.Core.Bool.{true, cond, _&&_};
 ghost use mathlib.Core.List.{List};
-ghost use Prim.Native.Nat.{_%_, _≤_};
-ghost use lib.ListN.{length, getD, take};
+ghost use Prim.Native.Nat.{ℕ, _%_, _≤_};
+ghost use lib.ListN.{length, getD, replicate};
+ghost use lib.Dec.{eqb};
 ghost use Rattle.caption.specs.Answers.{saidCounted};
 ghost use Rattle.model.specs.Said.{measured};
-ghost use Rattle.packet.specs.Packet.{blank};
-ghost use Rattle.gather.specs.Ring.{noSlot, ringFine};
-ghost use Rattle.parser.specs.Valid.{listFine, countsOf, fine, valid};
+ghost use Rattle.gather.specs.Ring.{noSlot, slotFine, headFine, behindFine};
+ghost use Rattle.gather.specs.Gather.{pendingFine};
+ghost use Rattle.parser.specs.Valid.{listFine, countsOf, valid};
 ghost use Rattle.parser.specs.Fresh.{fresh};
 ghost use Rattle.parser.specs.Means.{means, Answers, saidPush, saidCall, afterCall, turnedOn};
 ghost use Rattle.parser.specs.Push.{fed, refusedFor, pushed};
-ghost use Rattle.parser.specs.Draw.{firstPair, slid, packetAt, takePair, takePacket, takeNone, takeItem, Takes};
+ghost use Rattle.parser.specs.Draw.{firstPair, slid, placeBehind, takenBy, Zeros, takePair, takeNone, takeHead, takeBehind, takeItem, noneTook, Takes};
 ghost use Rattle.parser.specs.Items.{Draws};
 use caption::Answer;
 use caption::Cea608;
@@ -26,6 +27,9 @@ use slots::Slot;
 const MOST_PAIRS: usize = 31;
 
 const MOST_WAITING: usize = 32;
+
+// The most bytes of a packet.
+const MOST_PACKET: usize = 128;
 
 // A demultiplexer. The first `pair_count` pairs of the last frame not yet drawn stand in `pairs`, three places each: the field (0 or 1) and
 // two bytes. The first `pending_len` bytes of `pending` are of a packet that is not complete. `waiting_count` slots from `waiting_first` on,
@@ -75,12 +79,12 @@ pub struct Counts {
     pub waiting: usize,
 }
 
-// What was taken, and the list and the counts afterwards.
+// What was taken, the numbers of the packet beside it, and the counts afterwards. The arrays of the packet are lent: no array is copied.
 pub struct Took {
     pub item: Item,
-    pub packet: DTVCCPacket,
+    pub seq_no: u8,
+    pub count: usize,
     pub pairs: usize,
-    pub places: [u8; 93],
     pub first: usize,
     pub waiting: usize,
 }
@@ -102,9 +106,10 @@ fn list_good(pairs: &[u8; 93], n: usize) -> bool
     true
 }
 
-// The slot that has waited longest, and whether the ring is within its limits. Of an empty ring only the place is looked at: no slot is copied.
+// The slot that has waited longest, and whether the ring behind it is within its limits. Of an empty ring only the place is looked at: no
+// slot is copied.
 fn oldest(c: Counts, slots: [Slot; 32]) -> Front
-    ensures { λ r. ⌜ r .good ≡ ringFine (c .first) (c .waiting) slots ⌝ }
+    ensures { λ r. ⌜ r .good ≡ behindFine (c .first) (c .waiting) slots ⌝ }
     ensures { λ r. ⌜ ((c .waiting ≡ 0 → ⊥) → r .slot ≡ getD slots (c .first % 32) noSlot) ⌝ }
 {
     if c.waiting == 0 {
@@ -116,9 +121,30 @@ fn oldest(c: Counts, slots: [Slot; 32]) -> Front
     gather::oldest(slots, c.first, c.waiting)
 }
 
+// Whether the slot that has waited longest, if there is one, reads as a packet.
+fn head_good(waiting: usize, slot: Slot) -> bool
+    ensures { λ r. ⌜ r ≡ headFine waiting slot ⌝ }
+{
+    if waiting == 0 {
+        return true;
+    }
+    gather::slot_good(slot)
+}
+
+// Whether the ring is within its limits, its head too.
+fn ring_good(waiting: usize, o: Front) -> bool
+    ensures { λ r. ⌜ r ≡ (o .good && headFine waiting (o .slot)) ⌝ }
+{
+    let slot = o.slot;
+    if o.good {
+        return head_good(waiting, slot);
+    }
+    false
+}
+
 // Whether a state is within the limits, `ring` telling it of the waiting slots.
 fn good<'a>(c: Counts, pairs: &'a [u8; 93], pending: &'a [u8; 128], ring: bool) -> bool
-    ensures { λ r. ⌜ ((slots : List Slot) → ring ≡ ringFine (c .first) (c .waiting) slots → r ≡ fine c (now (pairs .entry)) (now (pending .entry)) slots) ⌝ }
+    ensures { λ r. ⌜ r ≡ (listFine (c .pairs) (now (pairs .entry)) && (pendingFine (c .pending) (now (pending .entry)) && ring)) ⌝ }
 {
     if !list_good(pairs, c.pairs) {
         return false;
@@ -127,19 +153,6 @@ fn good<'a>(c: Counts, pairs: &'a [u8; 93], pending: &'a [u8; 128], ring: bool) 
         return false;
     }
     ring
-}
-
-// No packet.
-fn no_packet() -> DTVCCPacket
-    ensures { λ r. ⌜ r ≡ blank ⌝ }
-{
-    DTVCCPacket {
-        seq_no: 0,
-        count: 0,
-        numbers: [0u8; 63],
-        sizes: [0u8; 63],
-        payload: [0u8; 127],
-    }
 }
 
 // The first pair of the list.
@@ -167,95 +180,126 @@ fn shift_pairs(all: [u8; 93], n: usize) -> [u8; 93]
     pairs
 }
 
-// The packet that the first `len` bytes are read as.
-fn run_packet(bytes: &[u8; 128], len: usize) -> DTVCCPacket
-    requires { ⌜ len ≤ 128 ⌝ }
-    ensures { λ r. ⌜ r ≡ packetAt (take len (now (bytes .entry))) ⌝ }
+// The place of the ring's head once the slot at `first` is taken: a ring that is emptied starts again at its first place.
+fn place_behind(first: usize, waiting: usize) -> usize
+    requires { ⌜ first ≤ 31 ⌝ }
+    ensures { λ r. ⌜ r ≡ placeBehind first waiting ⌝ }
 {
-    let s = &bytes[..];
-    let r = DTVCCPacket::parse(&s[0..len]);
-    r.packet
-}
-
-// The packet that a slot holds.
-fn slot_packet(slot: Slot) -> DTVCCPacket
-    requires { ⌜ slot .len ≤ 128 ⌝ }
-    ensures { λ r. ⌜ r ≡ packetAt (take (slot .len) (slot .bytes)) ⌝ }
-{
-    let len = slot.len;
-    let bytes = slot.bytes;
-    run_packet(&bytes, len)
-}
-
-// Takes the first pair of the list.
-fn take_pair(c: Counts, pairs: [u8; 93]) -> Took
-    requires { ⌜ (c .pairs ≡ 0 → ⊥) ⌝ }
-    requires { ⌜ c .pairs ≤ 31 ⌝ }
-    ensures { λ r. ⌜ r ≡ takePair c pairs ⌝ }
-{
-    let n = c.pairs - 1;
-    let pair = first_pair(&pairs);
-    let places = shift_pairs(pairs, 3 * n);
-    let packet = no_packet();
-    Took {
-        item: Item::Pair(pair),
-        packet,
-        pairs: n,
-        places,
-        first: c.first,
-        waiting: c.waiting,
+    if waiting == 1 {
+        return 0;
     }
-}
-
-// Takes the packet that has waited longest, given its slot.
-fn take_packet(c: Counts, pairs: [u8; 93], slot: Slot) -> Took
-    requires { ⌜ (c .waiting ≡ 0 → ⊥) ⌝ }
-    requires { ⌜ c .first ≤ 31 ⌝ }
-    requires { ⌜ slot .len ≤ 128 ⌝ }
-    ensures { λ r. ⌜ ((slots : List Slot) → slot ≡ getD slots (c .first) noSlot → r ≡ takePacket c pairs slots) ⌝ }
-{
-    let at = c.first;
-    let packet = slot_packet(slot);
-    Took {
-        item: Item::Packet,
-        packet,
-        pairs: c.pairs,
-        places: pairs,
-        first: (at + 1) % 32,
-        waiting: c.waiting - 1,
-    }
+    (first + 1) % 32
 }
 
 // Takes nothing.
-fn take_none(item: Item, c: Counts, pairs: [u8; 93]) -> Took
-    ensures { λ r. ⌜ r ≡ takeNone item c pairs ⌝ }
+fn take_none(item: Item, c: Counts) -> Took
+    ensures { λ r. ⌜ r ≡ noneTook item c ⌝ }
 {
-    let packet = no_packet();
     Took {
         item,
-        packet,
+        seq_no: 0,
+        count: 0,
         pairs: c.pairs,
-        places: pairs,
         first: c.first,
         waiting: c.waiting,
     }
 }
 
-// Takes the next item, if the state is within the limits and there is one, given the slot that has waited longest.
-fn take_item(valid: bool, c: Counts, pairs: [u8; 93], slot: Slot) -> Took
-    requires { ⌜ (valid ≡ true → Takes c slot) ⌝ }
-    ensures { λ r. ⌜ ((slots : List Slot) → (valid ≡ true → (c .waiting ≡ 0 → ⊥) → slot ≡ getD slots (c .first) noSlot) → r ≡ takeItem valid c pairs slots) ⌝ }
+// Takes the first pair of the list.
+fn take_pair(c: Counts, pairs: &mut [u8; 93]) -> Took
+    requires { ⌜ (c .pairs ≡ 0 → ⊥) ⌝ }
+    requires { ⌜ c .pairs ≤ 31 ⌝ }
+    ensures { λ r. ⌜ takenBy r (now (pairs .exit)) (replicate 63 0) (replicate 63 0) (replicate 127 0) ≡ takePair c (now (pairs .entry)) ⌝ }
 {
-    if valid {
-        if c.pairs != 0 {
+    let n = c.pairs - 1;
+    let pair = first_pair(pairs);
+    let all = *pairs;
+    *pairs = shift_pairs(all, 3 * n);
+    Took {
+        item: Item::Pair(pair),
+        seq_no: 0,
+        count: 0,
+        pairs: n,
+        first: c.first,
+        waiting: c.waiting,
+    }
+}
+
+// Takes the packet that has waited longest into the arrays, if its slot reads as one.
+fn take_packet(
+    c: Counts,
+    slot: Slot,
+    numbers: &mut [u8; 63],
+    sizes: &mut [u8; 63],
+    payload: &mut [u8; 127],
+) -> Took
+    requires { ⌜ (c .waiting ≡ 0 → ⊥) ⌝ }
+    requires { ⌜ c .first ≤ 31 ⌝ }
+    requires { ⌜ Zeros (now numbers) (now sizes) (now payload) ⌝ }
+    ensures { λ r. ⌜ ((l : List ℕ) → takenBy r l (now (numbers .exit)) (now (sizes .exit)) (now (payload .exit)) ≡ takeHead c l slot) ⌝ }
+{
+    let len = slot.len;
+    let bytes = slot.bytes;
+    if MOST_PACKET < len {
+        return take_none(Item::Refused(Refusal::BadValue), c);
+    }
+    let lead = packet::read_into(&bytes, len, numbers, sizes, payload);
+    if lead.good {
+        return Took {
+            item: Item::Packet,
+            seq_no: lead.seq_no,
+            count: lead.count,
+            pairs: c.pairs,
+            first: place_behind(c.first, c.waiting),
+            waiting: c.waiting - 1,
+        };
+    }
+    take_none(Item::Refused(Refusal::BadValue), c)
+}
+
+// Takes the packet that has waited longest, if one waits; no pair does.
+fn take_behind(
+    c: Counts,
+    slot: Slot,
+    numbers: &mut [u8; 63],
+    sizes: &mut [u8; 63],
+    payload: &mut [u8; 127],
+) -> Took
+    requires { ⌜ c .first ≤ 31 ⌝ }
+    requires { ⌜ Zeros (now numbers) (now sizes) (now payload) ⌝ }
+    ensures { λ r. ⌜ ((l : List ℕ) → takenBy r l (now (numbers .exit)) (now (sizes .exit)) (now (payload .exit)) ≡ takeBehind c l slot) ⌝ }
+{
+    if c.waiting == 0 {
+        return take_none(Item::Nothing, c);
+    }
+    take_packet(c, slot, numbers, sizes, payload)
+}
+
+// Takes the next item, if the state is within the limits and there is one, given the slot that has waited longest: `behind` says whether
+// the state but for that slot is.
+fn take_item(
+    behind: bool,
+    c: Counts,
+    pairs: &mut [u8; 93],
+    slot: Slot,
+    numbers: &mut [u8; 63],
+    sizes: &mut [u8; 63],
+    payload: &mut [u8; 127],
+) -> Took
+    requires { ⌜ (behind ≡ true → Takes c) ⌝ }
+    requires { ⌜ Zeros (now numbers) (now sizes) (now payload) ⌝ }
+    ensures { λ r. ⌜ takenBy r (now (pairs .exit)) (now (numbers .exit)) (now (sizes .exit)) (now (payload .exit)) ≡ takeItem (behind && headFine (c .waiting) slot) c (now (pairs .entry)) slot ⌝ }
+{
+    if behind {
+        if c.pairs == 0 {
+            return take_behind(c, slot, numbers, sizes, payload);
+        }
+        if head_good(c.waiting, slot) {
             return take_pair(c, pairs);
         }
-        if c.waiting != 0 {
-            return take_packet(c, pairs, slot);
-        }
-        return take_none(Item::Nothing, c, pairs);
+        return take_none(Item::Refused(Refusal::BadValue), c);
     }
-    take_none(Item::Refused(Refusal::BadValue), c, pairs)
+    take_none(Item::Refused(Refusal::BadValue), c)
 }
 
 impl CCDataParser {
@@ -311,7 +355,8 @@ impl CCDataParser {
         let slots = self.waiting;
         let c = self.counts();
         let o = oldest(c, slots);
-        good(c, &pairs, &pending, o.good)
+        let ring = ring_good(c.waiting, o);
+        good(c, &pairs, &pending, ring)
     }
 
     // Turns 608 on: the pairs of frames are listed from now on, and the list is empty.
@@ -368,24 +413,39 @@ impl CCDataParser {
     pub fn draw(self) -> Drawn
         ensures { λ r. ⌜ Draws self r ⌝ }
     {
-        let pairs = self.pairs;
+        let mut pairs = self.pairs;
         let pending = self.pending;
         let waiting = self.waiting;
+        let mut numbers = [0u8; 63];
+        let mut sizes = [0u8; 63];
+        let mut payload = [0u8; 127];
         let c = self.counts();
         let o = oldest(c, waiting);
-        let ok = good(c, &pairs, &pending, o.good);
+        let behind = good(c, &pairs, &pending, o.good);
         let slot = o.slot;
-        let r = take_item(ok, c, pairs, slot);
+        let r = take_item(
+            behind,
+            c,
+            &mut pairs,
+            slot,
+            &mut numbers,
+            &mut sizes,
+            &mut payload,
+        );
         let item = r.item;
-        let packet = r.packet;
-        let places = r.places;
         Drawn {
             item,
-            packet,
+            packet: DTVCCPacket {
+                seq_no: r.seq_no,
+                count: r.count,
+                numbers,
+                sizes,
+                payload,
+            },
             parser: CCDataParser {
                 cea608_on: c.on,
                 pair_count: r.pairs,
-                pairs: places,
+                pairs,
                 pending_len: c.pending,
                 pending,
                 waiting_first: r.first,
@@ -404,7 +464,8 @@ impl CCDataParser {
         let slots = self.waiting;
         let c = self.counts();
         let o = oldest(c, slots);
-        if good(c, &pairs, &pending, o.good) {
+        let ring = ring_good(c.waiting, o);
+        if good(c, &pairs, &pending, ring) {
             let plan = triples::plan_of(frame);
             let n = triples::list_by(plan.lists, c.on, &mut pairs, frame);
             let g = gather::gather_by(

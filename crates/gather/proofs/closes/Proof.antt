@@ -7,11 +7,11 @@ use Rattle.gather.proofs.closes.Tie as tie
 returns : tie.Need-returns
 returns c = search (needs, closes-not)
 
-run-reads-requires : tie.Need-run-reads-requires
-run-reads-requires c κs = search needs
+reads-in-requires : tie.Need-reads-in-requires
+reads-in-requires c κs = search needs
 
 returns-2 : tie.Need-returns-2
 returns-2 c = search (needs, closes-reads)
 
 pub closes-spec : {M : Type 1} → statement M
-closes-spec = tie.close (tie.spec returns run-reads-requires returns-2)
+closes-spec = tie.close (tie.spec returns reads-in-requires returns-2)

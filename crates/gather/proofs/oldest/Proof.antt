@@ -1,81 +1,51 @@
--- `gather::oldest` meets its contract: the answer for all slots stays the answer for those that are left. Assumes nothing.
-use borrow.Author.Needs.{needs}
-use Rattle.gather.proofs.Slots.{ring-first, ring-count, ring-start, front-is, slots-done, slots-again, slots-bad}
-use mathlib.Core.Path.{_≡_, refl}
-use Prim.Native.Nat.{_+_, _-_, _%_, _≤_, _<_}
+-- `gather::oldest` meets its contract: a head at a place that is named, with none or one behind it, and any other. Assumes nothing.
 use native.Mathlib.Omega.{arith}
-use lib.ListN.{getD}
-use Rattle.gather.specs.Ring.{noSlot, ringFrom, slotsFine, ringFine}
+use Rattle.gather.proofs.Slots.{front-alone, front-followed}
+use borrow.Author.Needs.{needs}
 use Rattle.gather.proofs.oldest.Statement.{statement}
 use Rattle.gather.proofs.oldest.Tie as tie
 
-abbrev Inv-loop : tie.InvT-loop
-Inv-loop first n slots slot i₀ i = (i ≤ n) × (first < 32) × (n ≤ 32) × (ringFine first n slots ≡ slotsFine (ringFrom (first + i) (n - i) slots)) × (slot ≡ getD slots (first % 32) noSlot)
-
-abbrev μ-loop : tie.MeasureT-loop
-μ-loop first n slots slot i₀ i = n - i
-
-mul-slot : tie.Need-mul-slot Inv-loop μ-loop
-mul-slot c = search needs
-
-array-copy-out-slot : tie.Need-array-copy-out-slot Inv-loop μ-loop
+array-copy-out-slot : tie.Need-array-copy-out-slot
 array-copy-out-slot c = search needs
 
-returns : tie.Need-returns Inv-loop μ-loop
-returns c = front-is _ _ _ _ _ (search (needs, ring-first)) refl
+returns : tie.Need-returns
+returns c = front-alone _ _ _ 0 (c .before .if2 .taken) (omega arith) (c .before .before .if1 .taken)
 
-returns-2 : tie.Need-returns-2 Inv-loop μ-loop
-returns-2 c = front-is _ _ _ _ _ (search (needs, ring-count)) refl
+array-copy-out-slot-2 : tie.Need-array-copy-out-slot-2
+array-copy-out-slot-2 c = search needs
 
-loop-holds : tie.Need-loop-holds Inv-loop μ-loop
-loop-holds c = (omega arith, omega arith, omega arith, search (needs, ring-start), refl)
+returns-2 : tie.Need-returns-2
+returns-2 c = front-alone _ _ _ 1 (c .before .if3 .taken) (omega arith) (c .before .before .before .if1 .taken)
 
-add-s : tie.Need-add-s Inv-loop μ-loop
-add-s c = search needs
+array-copy-out-slot-3 : tie.Need-array-copy-out-slot-3
+array-copy-out-slot-3 c = search needs
 
-mul-s : tie.Need-mul-s Inv-loop μ-loop
-mul-s c = search needs
+array-copy-out-slot-good : tie.Need-array-copy-out-slot-good
+array-copy-out-slot-good c = search needs
 
-array-copy-out-s : tie.Need-array-copy-out-s Inv-loop μ-loop
-array-copy-out-s c = search needs
-
-slot-good-requires : tie.Need-slot-good-requires Inv-loop μ-loop
+slot-good-requires : tie.Need-slot-good-requires
 slot-good-requires c κs = search needs
 
-add-i : tie.Need-add-i Inv-loop μ-loop
-add-i c = search needs
+returns-3 : tie.Need-returns-3
+returns-3 c = front-followed _ _ _ 0 (c .before .before .before .if5 .taken) (omega arith) (c .before .before .before .before .if4 .taken) _ (c .slot-good .ensures)
 
-loop-less : tie.Need-loop-less Inv-loop μ-loop
-loop-less c = search needs
+oldest-round-requires : tie.Need-oldest-round-requires
+oldest-round-requires c κs = search needs
 
-loop-again : tie.Need-loop-again Inv-loop μ-loop
-loop-again c =
-    let inv = c .before .before .before .before .loop .inv in
-    (omega arith, omega arith, omega arith, slots-again _ _ _ _ _ (inv .3) (c .before .before .before .loop-test .taken) _ (c .before .slot-good .ensures) (c .if3 .taken), search needs)
-
-returns-3 : tie.Need-returns-3 Inv-loop μ-loop
-returns-3 c = front-is _ _ _ _ _ (search (needs, slots-bad)) (search needs)
-
-returns-4 : tie.Need-returns-4 Inv-loop μ-loop
-returns-4 c = front-is _ _ _ _ _ (search (needs, slots-done)) (search needs)
+returns-4 : tie.Need-returns-4
+returns-4 c = search needs
 
 pub oldest-spec : {M : Type 1} → statement M
 oldest-spec =
     tie.close
     (tie.spec
-    Inv-loop
-    μ-loop
-    mul-slot
     array-copy-out-slot
     returns
+    array-copy-out-slot-2
     returns-2
-    loop-holds
-    add-s
-    mul-s
-    array-copy-out-s
+    array-copy-out-slot-3
+    array-copy-out-slot-good
     slot-good-requires
-    add-i
-    loop-less
-    loop-again
     returns-3
+    oldest-round-requires
     returns-4)

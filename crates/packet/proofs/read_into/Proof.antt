@@ -2,9 +2,10 @@
 use mathlib.Core.Bool.{false}
 use denote.Ref.{now}
 use lib.ListN.{take}
+use Rattle.model.specs.Packet.{reads}
 use Rattle.blocks.specs.Reading.{readAs}
 use Rattle.blocks.proofs.Readers.{front-sequence}
-use Rattle.packet.proofs.Replies.{read-packet}
+use Rattle.packet.proofs.Replies.{read-good, read-packet}
 use borrow.Author.Needs.{needs}
 use Rattle.packet.proofs.read_into.Statement.{statement}
 use Rattle.packet.proofs.read_into.Tie as tie
@@ -19,8 +20,12 @@ lead-of-requires : tie.Need-lead-of-requires
 lead-of-requires c κs = search needs
 
 returns : tie.Need-returns
-unfolding readAs
-returns c = let s = c .before .before .before .before .before .before .before .before .before in read-packet _ _ _ _ _ _ (c .lead-of .ensures) (readAs false (take (s .args .len) (now (s .args .bytes)))) (λ x e. front-sequence false (now (s .args .bytes)) (s .args .len) x e) (c .before .before .read-in .ensures)
+unfolding readAs reads
+returns c =
+    let r = c .before .before in
+    let s = r .before .before .before .before .before .before .before in
+    let o = readAs false (take (s .args .len) (now (s .args .bytes))) in
+    (read-good _ _ _ _ _ _ (c .lead-of .ensures) o (r .read-in .ensures), read-packet _ _ _ _ _ _ (c .lead-of .ensures) o (λ x e. front-sequence false (now (s .args .bytes)) (s .args .len) x e) (r .read-in .ensures))
 
 pub read-into-spec : {M : Type 1} → statement M
 read-into-spec =

@@ -1,5 +1,5 @@
 -- `parser::take_pair` meets its contract: the first pair is taken and the others are moved down. Assumes nothing.
-use Rattle.parser.proofs.Draws.{took-pair}
+use Rattle.parser.proofs.Draws.{pair-taken}
 use borrow.Author.Needs.{needs}
 use Rattle.parser.proofs.take_pair.Statement.{statement}
 use Rattle.parser.proofs.take_pair.Tie as tie
@@ -16,19 +16,9 @@ mul-shift-pairs c = search needs
 shift-pairs-requires : tie.Need-shift-pairs-requires
 shift-pairs-requires c κs = search needs
 
-no-packet-requires : tie.Need-no-packet-requires
-no-packet-requires c κs = search needs
-
 returns : tie.Need-returns
-returns c = search (needs, took-pair)
+returns c = search (needs, pair-taken)
 
 pub take-pair-spec : {M : Type 1} → statement M
 take-pair-spec =
-    tie.close
-    (tie.spec
-    sub-n
-    first-pair-requires
-    mul-shift-pairs
-    shift-pairs-requires
-    no-packet-requires
-    returns)
+    tie.close (tie.spec sub-n first-pair-requires mul-shift-pairs shift-pairs-requires returns)

@@ -1,5 +1,6 @@
 -- `parser::CCDataParser::draw` meets its contract: what is taken gives the exact result, and `Drawing` says what it means. Assumes nothing.
-use Rattle.parser.proofs.Drawing.{takes, oldest-first, taken-draws}
+use mathlib.Core.Path.{refl}
+use Rattle.parser.proofs.Drawing.{takes, taken-draws}
 use Rattle.parser.proofs.Calls.{length-mapped}
 use Rattle.parser.specs.Means.{Shaped}
 use borrow.Author.Needs.{needs}
@@ -36,16 +37,19 @@ good-requires c κs = search needs
 
 take-item-requires : tie.Need-take-item-requires
 take-item-requires c κs =
-    let o = c .before .before .before .before .oldest .ensures in
-    takes _ _ (c .before .before .before .before .before .counts .ensures) _ (c .before .good2 .ensures _ (o .0)) (shaped (c .before .before .before .before .before .before .before .before .before)) _ (o .1)
+    let g = c .before .before .before .before .before in
+    let o = g .before .before .before in
+    let n = o .before in
+    let s = n .before .before .before .before in
+    (takes (s .args .self) (n .counts .result) (n .counts .ensures) (o .oldest .result) (o .oldest .ensures) _ (g .good2 .ensures), (refl, refl, refl))
 
 returns : tie.Need-returns
 returns c =
-    let o = c .before .before .before .before .before .before .before .oldest .ensures in
-    let n = c .before .before .before .before .before .before .before .before .counts .ensures in
-    let g = c .before .before .before .before .good2 .ensures _ (o .0) in
-    let s = shaped (c .before .before .before .before .before .before .before .before .before .before .before .before) in
-    taken-draws _ _ n _ g s _ (c .before .before .take-item .ensures _ (oldest-first _ _ n _ g s _ (o .1)))
+    let g = c .before .before .before .before .before .before in
+    let o = g .before .before .before in
+    let n = o .before in
+    let s = n .before .before .before .before in
+    taken-draws (s .args .self) (n .counts .result) (n .counts .ensures) (o .oldest .result) (o .oldest .ensures) _ (g .good2 .ensures) _ _ _ _ _ (c .take-item .ensures) (shaped s)
 
 pub draw-spec : {M : Type 1} → statement M
 draw-spec =

@@ -1,4 +1,5 @@
 -- `parser::CCDataParser::is_valid` meets its contract: the numbers that are tested are those of the state. Assumes nothing.
+use Rattle.parser.proofs.Valids.{tested-fine}
 use Rattle.parser.proofs.Pushes.{tested-valid}
 use borrow.Author.Needs.{needs}
 use Rattle.parser.proofs.CCDataParser.is_valid.Statement.{statement}
@@ -10,11 +11,17 @@ counts-requires c κs = search needs
 oldest-requires : tie.Need-oldest-requires
 oldest-requires c κs = search needs
 
+ring-good-requires : tie.Need-ring-good-requires
+ring-good-requires c κs = search needs
+
 good-requires : tie.Need-good-requires
 good-requires c κs = search needs
 
 returns : tie.Need-returns
-returns c = tested-valid _ _ _ (c .before .before .before .before .counts .ensures) (c .good2 .ensures _ (c .before .before .before .oldest .ensures .0))
+returns c =
+    let g = c .before .before .before in
+    let o = g .before in
+    tested-valid _ _ _ (o .before .counts .ensures) (tested-fine _ _ _ _ _ (o .oldest .ensures) _ _ (g .ring-good .ensures) (c .good2 .ensures))
 
 pub is-valid-spec : {M : Type 1} → statement M
-is-valid-spec = tie.close (tie.spec counts-requires oldest-requires good-requires returns)
+is-valid-spec = tie.close (tie.spec counts-requires oldest-requires ring-good-requires good-requires returns)

@@ -1,4 +1,5 @@
 -- `parser::CCDataParser::push` meets its contract: one law of `Pushes` for each way out gives the exact result, and `Told` says what it means. Assumes nothing.
+use Rattle.parser.proofs.Valids.{tested-fine}
 use Rattle.parser.proofs.Pushes.{push-bad, push-full, push-done}
 use Rattle.parser.proofs.Calls.{length-mapped, pushed-answers}
 use Rattle.parser.specs.Means.{Shaped}
@@ -12,6 +13,7 @@ use Rattle.parser.proofs.CCDataParser.counts.Reads as counts-reads
 use Rattle.parser.proofs.CCDataParser.refused.Reads as refused-reads
 use Rattle.parser.proofs.good.Reads as good-reads
 use Rattle.parser.proofs.oldest.Reads as oldest-reads
+use Rattle.parser.proofs.ring_good.Reads as ring-good-reads
 use Rattle.triples.proofs.list_by.Reads as list-by-reads
 use Rattle.triples.proofs.plan_of.Reads as plan-of-reads
 
@@ -21,6 +23,8 @@ shaped : (s : lts.Start (
   counts-reads.Learnt,
   oldest-reads.Asked,
   oldest-reads.Learnt,
+  ring-good-reads.Asked,
+  ring-good-reads.Learnt,
   good-reads.Asked,
   good-reads.Learnt,
   plan-of-reads.Asked,
@@ -40,6 +44,9 @@ counts-requires c κs = search needs
 oldest-requires : tie.Need-oldest-requires
 oldest-requires c κs = search needs
 
+ring-good-requires : tie.Need-ring-good-requires
+ring-good-requires c κs = search needs
+
 good-requires : tie.Need-good-requires
 good-requires c κs = search needs
 
@@ -56,16 +63,40 @@ refused-requires : tie.Need-refused-requires
 refused-requires c κs = search needs
 
 returns : tie.Need-returns
-returns c = pushed-answers _ _ _ (shaped (c .before .before .before .before .before .before .before .before .before .before .before .before .before .before .before .before .before .before)) (push-full _ _ _ (c .before .before .before .before .before .before .before .before .before .before .before .before .before .counts .ensures) _ (c .before .before .before .before .before .before .before .before .before .good2 .ensures _ (c .before .before .before .before .before .before .before .before .before .before .before .before .oldest .ensures .0)) (c .before .before .before .before .before .before .before .before .if1 .taken) _ (c .before .before .before .before .before .before .before .plan-of .ensures) _ _ (c .before .before .before .before .before .list-by .ensures) _ _ (c .before .before .before .gather-by .ensures) _ (c .before .if2 .taken) (c .refused .ensures))
+returns c =
+    let g = c .before .before .before in
+    let l = g .before .before in
+    let q = l .before .before in
+    let t = q .before .before in
+    let r = t .before .before .before in
+    let o = r .before in
+    let n = o .before in
+    let s = n .before .before .before .before .before in
+    pushed-answers _ _ _ (shaped s) (push-full _ _ _ (n .counts .ensures) _ (tested-fine _ _ _ _ _ (o .oldest .ensures) _ _ (r .ring-good .ensures) (t .good2 .ensures)) (q .before .if1 .taken) _ (q .plan-of .ensures) _ _ (l .list-by .ensures) _ _ (g .gather-by .ensures) _ (c .before .if2 .taken) (c .refused .ensures))
 
 returns-2 : tie.Need-returns-2
-returns-2 c = pushed-answers _ _ _ (shaped (c .before .before .before .before .before .before .before .before .before .before .before .before .before .before .before .before .before .before)) (push-done _ _ _ (c .before .before .before .before .before .before .before .before .before .before .before .before .before .counts .ensures) _ (c .before .before .before .before .before .before .before .before .before .good2 .ensures _ (c .before .before .before .before .before .before .before .before .before .before .before .before .oldest .ensures .0)) (c .before .before .before .before .before .before .before .before .if1 .taken) _ (c .before .before .before .before .before .before .before .plan-of .ensures) _ _ (c .before .before .before .before .before .list-by .ensures) _ _ (c .before .before .before .gather-by .ensures) (c .before .if2 .left))
+returns-2 c =
+    let g = c .before .before .before in
+    let l = g .before .before in
+    let q = l .before .before in
+    let t = q .before .before in
+    let r = t .before .before .before in
+    let o = r .before in
+    let n = o .before in
+    let s = n .before .before .before .before .before in
+    pushed-answers _ _ _ (shaped s) (push-done _ _ _ (n .counts .ensures) _ (tested-fine _ _ _ _ _ (o .oldest .ensures) _ _ (r .ring-good .ensures) (t .good2 .ensures)) (q .before .if1 .taken) _ (q .plan-of .ensures) _ _ (l .list-by .ensures) _ _ (g .gather-by .ensures) (c .before .if2 .left))
 
 refused-requires-2 : tie.Need-refused-requires-2
 refused-requires-2 c κs = search needs
 
 returns-3 : tie.Need-returns-3
-returns-3 c = pushed-answers _ _ _ (shaped (c .before .before .before .before .before .before .before .before .before .before .before)) (push-bad _ _ _ (c .before .before .before .before .before .before .counts .ensures) _ (c .before .before .good2 .ensures _ (c .before .before .before .before .before .oldest .ensures .0)) _ (c .before .if1 .left) (c .refused2 .ensures))
+returns-3 c =
+    let t = c .before .before in
+    let r = t .before .before .before in
+    let o = r .before in
+    let n = o .before in
+    let s = n .before .before .before .before .before in
+    pushed-answers _ _ _ (shaped s) (push-bad _ _ _ (n .counts .ensures) _ (tested-fine _ _ _ _ _ (o .oldest .ensures) _ _ (r .ring-good .ensures) (t .good2 .ensures)) _ (c .before .if1 .left) (c .refused2 .ensures))
 
 pub push-spec : {M : Type 1} → statement M
 push-spec =
@@ -73,6 +104,7 @@ push-spec =
     (tie.spec
     counts-requires
     oldest-requires
+    ring-good-requires
     good-requires
     plan-of-requires
     list-by-requires
