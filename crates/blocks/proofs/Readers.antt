@@ -5,7 +5,7 @@ use mathlib.Core.List.{List}
 use Prim.Native.Nat.{ℕ, _-_, _≤_, _<_}
 use native.Mathlib.Nat.{zero-add}
 use native.Mathlib.Omega.{arith}
-use lib.Dec.{eqb, leb}
+use lib.Dec.{leb}
 use lib.ListN.{length, getD, take, drop, replicate, length-take, length-replicate}
 use lib.Seq.{sets, take-all, getD-take, take-append-seam}
 use borrow.Author.Tests.{eq-eqb, ne-eqb, lt-ltb, le-ltb, le-leb, lt-leb, eqb-true, ltb-false, leb-true, leb-false, not-false}
@@ -31,7 +31,11 @@ unfolding readAs readTidy readPacket
 read-by true d = refl
 read-by false d = refl
 
--- they answer to bytes d of this size
+-- the packet of these blocks
+abbrev packetWith : List ℕ → List Block → Packet
+packetWith d bs = record { sequence = sequenceIn (getD d 0 0); blocks = bs }
+
+-- what they answer to bytes d
 module _ (tidy : Bool) (d : List ℕ) where
   none-as : length d ≡ 0 → readAs tidy d ≡ refused (lengthMismatch 1 0)
   unfolding readBy
@@ -42,10 +46,7 @@ module _ (tidy : Bool) (d : List ℕ) where
     unfolding readBy
     wrong-as w = read-by tidy d ∙ simp (ne-eqb (length d) 0 some, ← is, w)
 
-    abbrev packetWith : List Block → Packet
-    packetWith bs = record { sequence = sequenceIn (getD d 0 0); blocks = bs }
-
-    blocks-as : wrongLength tidy size (length d) ≡ false → readAs tidy d ≡ mapped packetWith (blocksFrom (moveBy tidy) 0 (drop 1 d))
+    blocks-as : wrongLength tidy size (length d) ≡ false → readAs tidy d ≡ mapped (packetWith d) (blocksFrom (moveBy tidy) 0 (drop 1 d))
     unfolding readBy
     blocks-as w = read-by tidy d ∙ simp (ne-eqb (length d) 0 some, ← is, w)
 
@@ -73,7 +74,7 @@ unfolding Stops
 stops-given (gave bs) d r h = le-leb _ _ h
 stops-given (refused why) d r h = lt-leb _ _ (h .0)
 
--- and where they do not, the header there tells why
+-- where they do not, the header there tells why
 stops-why : (o : Outcome (List Block)) (d : List ℕ) (r : ℕ) → isGiven o ≡ false → Stops o d r → (r < length d) × (o ≡ refused (saidShort (headOf (drop r d)) (length d - r)))
 unfolding Stops
 stops-why (gave bs) d r e h = absurd (false≢true (sym e))
@@ -81,9 +82,11 @@ stops-why (refused why) d r e h = (h .0, ap refused (sym (h .1)))
 
 -- why the first bytes do not read, told by the header where the walk stops
 module _ (b : List ℕ) (end : ℕ) (fits : end ≤ length b) (o : Outcome (List Block)) (r : ℕ) (un : isGiven o ≡ false) (stops : Stops o (take end b) r) where
+  -- it stops before the end
   pub stops-before : r < end
   stops-before = omega (arith, stops-why o (take end b) r un stops .0, long b end fits)
 
+  -- at the refusal
   pub told-why : (head : Head) (why : Refusal) → head ≡ headOf (drop r (take end b)) → saidRefusal why ≡ saidShort head (end - r) → o ≡ refused (saidRefusal why)
   told-why head why e k =
       let l : length (take end b) ≡ end = long b end fits in
@@ -103,6 +106,7 @@ module _ (b : List ℕ) (len n : ℕ) (is : n ≡ length (take len b)) where
       let l : length b ≤ len = omega (arith, leb-false len (length b) e) in
       take-all n b q ∙ sym (take-all len b l))
 
+  -- which is no more than there are
   pub front-within : n ≤ length b
   front-within = omega (arith, length-take len b)
 
@@ -117,12 +121,13 @@ module _ (b : List ℕ) (len n : ℕ) (is : n ≡ length (take len b)) where
       size-is : size ≡ packetSize (getD d 0 0)
       size-is = e ∙ ap packetSize first-is
 
-      -- whether they read
+      -- more than the header says do not read
       pub long-reads : size < n → false ≡ reads d
       long-reads h =
           let w : wrongLength false size (length d) ≡ true = lt-ltb size (length d) (omega (arith, is)) in
           sym (reads-as d ∙ ap isGiven (wrong-as false d some-long size size-is w))
 
+      -- others read where the walk comes to the end
       pub blocks-reads : n ≤ size → (r : ℕ) → Stops (blocksFrom (moveBy false) 0 (drop 1 (take n b))) (take n b) r → leb n r ≡ reads d
       blocks-reads h r k =
           let w : wrongLength false size (length d) ≡ false = le-ltb size (length d) (omega (arith, is)) in
@@ -134,6 +139,7 @@ module _ (b : List ℕ) (len n : ℕ) (is : n ≡ length (take len b)) where
         test-is : wrongLength tidy size (length d) ≡ w
         test-is = rw (← is) (sym t)
 
+        -- a wrong length is refused
         pub read-wrong : (why : Said) (r : Counted) (n₀ s₀ p₀ n₁ s₁ p₁ : List ℕ) → w ≡ true → why ≡ lengthMismatch size n → Read (refused why) r n₀ s₀ p₀ n₁ s₁ p₁ → Read (readAs tidy d) r n₀ s₀ p₀ n₁ s₁ p₁
         read-wrong why r n₀ s₀ p₀ n₁ s₁ p₁ y m k =
             read-refused (readAs tidy d) why r n₀ s₀ p₀ n₀ s₀ p₀ n₁ s₁ p₁ (wrong-as tidy d some-long size size-is (test-is ∙ y) ∙ ap refused (sym (m ∙ ap (lengthMismatch size) is))) k
@@ -148,7 +154,7 @@ module _ (b : List ℕ) (len n : ℕ) (is : n ≡ length (take len b)) where
           abbrev first-blocks : Outcome (List Block)
           first-blocks = blocksFrom (moveBy tidy) 0 (drop 1 (take n b))
 
-          blocks-of : readAs tidy d ≡ mapped (λ bs. record { sequence = sequenceIn (getD d 0 0); blocks = bs }) first-blocks
+          blocks-of : readAs tidy d ≡ mapped (packetWith d) first-blocks
           blocks-of = rw front-is (blocks-as tidy d some-long size size-is (test-is ∙ y))
 
           -- a block is refused
@@ -161,13 +167,15 @@ module _ (b : List ℕ) (len n : ℕ) (is : n ≡ length (take len b)) where
           unfolding Stored Read
           blocks-given k n₀ s₀ p₀ n₁ s₁ p₁ f z = rw blocks-of (by first-blocks f)
             where
-              by : (o : Outcome (List Block)) → Stored o (soFar 0 0) k n₀ s₀ p₀ n₁ s₁ p₁ → Read (mapped (λ bs. record { sequence = sequenceIn (getD d 0 0); blocks = bs }) o) (Count k) n₀ s₀ p₀ n₁ s₁ p₁
+              by : (o : Outcome (List Block)) → Stored o (soFar 0 0) k n₀ s₀ p₀ n₁ s₁ p₁ → Read (mapped (packetWith d) o) (Count k) n₀ s₀ p₀ n₁ s₁ p₁
               by (gave bs) f = (ap Count (f .0 ∙ zero-add (length bs)), f .2)
               by (refused why) f = absurd (z f)
 
+  -- no bytes do not read
   pub none-reads : n ≡ 0 → false ≡ reads d
   none-reads z = sym (reads-as d ∙ ap isGiven (none-as false d (sym is ∙ z)))
 
+  -- and are refused
   pub read-none : (tidy : Bool) (why : Said) (r : Counted) (n₀ s₀ p₀ n₁ s₁ p₁ : List ℕ) → n ≡ 0 → why ≡ lengthMismatch 1 0 → Read (refused why) r n₀ s₀ p₀ n₁ s₁ p₁ → Read (readAs tidy d) r n₀ s₀ p₀ n₁ s₁ p₁
   read-none tidy why r n₀ s₀ p₀ n₁ s₁ p₁ z m k = read-refused (readAs tidy d) why r n₀ s₀ p₀ n₀ s₀ p₀ n₁ s₁ p₁ (none-as tidy d (sym is ∙ z) ∙ ap refused (sym m)) k
 
@@ -186,9 +194,11 @@ module _ (d : List ℕ) (many : 128 < length d) where
   too-long true size e = rw (ne-eqb size (length d) (λ z. omega (arith, size-most (getD d 0 0))))
   too-long false size e = lt-ltb size (length d) (omega (arith, size-most (getD d 0 0)))
 
+  -- they do not read
   pub many-reads : false ≡ reads d
   many-reads = sym (reads-as d ∙ ap isGiven (wrong-as false d some-of (packetSize (getD d 0 0)) refl (too-long false (packetSize (getD d 0 0)) refl)))
 
+  -- and are refused
   pub read-many : (tidy : Bool) (size : ℕ) → size ≡ packetSize (getD d 0 0) → (why : Said) (r : Counted) (n₀ s₀ p₀ n₁ s₁ p₁ : List ℕ) → why ≡ lengthMismatch size (length d) → Read (refused why) r n₀ s₀ p₀ n₁ s₁ p₁ → Read (readAs tidy d) r n₀ s₀ p₀ n₁ s₁ p₁
   read-many tidy size e why r n₀ s₀ p₀ n₁ s₁ p₁ m k = read-refused (readAs tidy d) why r n₀ s₀ p₀ n₀ s₀ p₀ n₁ s₁ p₁ (wrong-as tidy d some-of size e (too-long tidy size e) ∙ ap refused (sym m)) k
 
@@ -199,37 +209,33 @@ module _ (d b : List ℕ) (few : length d ≤ 128) (is : b ≡ sets (replicate 1
       let zeros : List ℕ = replicate 128 0 in
       ap (take (length d)) (is ∙ sets-front zeros d (rw (length-replicate 128) few)) ∙ take-append-seam d (drop (length d) zeros)
 
+  -- they read as the copy does
   pub copied-reads : (r : Bool) → r ≡ reads (take (length d) b) → r ≡ reads d
   copied-reads r e = e ∙ ap reads copied
 
+  -- and are read as the copy is
   pub copied-read : (tidy : Bool) (r : Counted) (n₀ s₀ p₀ n₁ s₁ p₁ : List ℕ) → Read (readAs tidy (take (length d) b)) r n₀ s₀ p₀ n₁ s₁ p₁ → Read (readAs tidy d) r n₀ s₀ p₀ n₁ s₁ p₁
   copied-read tidy r n₀ s₀ p₀ n₁ s₁ p₁ k = rw copied at k
 
 -- what is read has the sequence number of the first byte
 module _ (tidy : Bool) (d : List ℕ) (p : Packet) where
-  of-blocks : (q : ℕ) (o : Outcome (List Block)) → mapped (λ bs. record { sequence = q; blocks = bs }) o ≡ gave p → p .sequence ≡ q
-  of-blocks q (gave bs) e = let x : p ≡ record { sequence = q; blocks = bs } = cc in ap (λ (y : Packet). y .sequence) x
-  of-blocks q (refused why) e = let z : _≡_ {A = ℕ} 0 1 = cc in absurd (omega arith)
+  of-blocks : (o : Outcome (List Block)) → mapped (packetWith d) o ≡ gave p → p .sequence ≡ sequenceIn (getD d 0 0)
+  of-blocks (gave bs) e = let x : p ≡ packetWith d bs = cc in ap (λ (y : Packet). y .sequence) x
+  of-blocks (refused why) e = let z : _≡_ {A = ℕ} 0 1 = cc in absurd (omega arith)
 
   no-refusal : (why : Said) → _≡_ {A = Outcome Packet} (refused why) (gave p) → ⊥
   no-refusal why e = let z : _≡_ {A = ℕ} 0 1 = cc in omega arith
 
-  pub read-sequence : readAs tidy d ≡ gave p → p .sequence ≡ sequenceIn (getD d 0 0)
-  unfolding readBy
-  read-sequence e =
-      let o = readBy (moveBy tidy) (wrongLength tidy) d in
-      let size = packetSize (getD d 0 0) in
-      let f : o ≡ gave p = sym (read-by tidy d) ∙ e in
-      by-test (eqb (length d) 0)
-      (λ t. let g : o ≡ refused (lengthMismatch 1 0) = rw t in absurd (no-refusal (lengthMismatch 1 0) (sym g ∙ f)))
-      (λ t. by-test (wrongLength tidy size (length d))
-      (λ u. let g : o ≡ refused (lengthMismatch size (length d)) = rw (t, u) in absurd (no-refusal (lengthMismatch size (length d)) (sym g ∙ f)))
-      (λ u. let g : o ≡ mapped (λ bs. record { sequence = sequenceIn (getD d 0 0); blocks = bs }) (blocksFrom (moveBy tidy) 0 (drop 1 d)) = rw (t, u) in
-      of-blocks (sequenceIn (getD d 0 0)) (blocksFrom (moveBy tidy) 0 (drop 1 d)) (sym g ∙ f)))
-
-  -- and bytes do not read where there are none
   read-some : readAs tidy d ≡ gave p → length d ≡ 0 → ⊥
   read-some e z = no-refusal (lengthMismatch 1 0) (sym (none-as tidy d z) ∙ e)
+
+  pub read-sequence : readAs tidy d ≡ gave p → p .sequence ≡ sequenceIn (getD d 0 0)
+  read-sequence e =
+      let size = packetSize (getD d 0 0) in
+      let some : (length d ≡ 0 → ⊥) = read-some e in
+      by-test (wrongLength tidy size (length d))
+      (λ w. absurd (no-refusal (lengthMismatch size (length d)) (sym (wrong-as tidy d some size refl w) ∙ e)))
+      (λ w. of-blocks (blocksFrom (moveBy tidy) 0 (drop 1 d)) (sym (blocks-as tidy d some size refl w) ∙ e))
 
 -- that byte is the array's first
 pub front-sequence : (tidy : Bool) (b : List ℕ) (len : ℕ) (p : Packet) → readAs tidy (take len b) ≡ gave p → p .sequence ≡ sequenceIn (getD b 0 0)

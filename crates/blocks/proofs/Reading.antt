@@ -210,6 +210,7 @@ module _ (b : List ℕ) (end : ℕ) (fits : end ≤ length b) where
   abbrev front : List ℕ
   front = take end b
 
+  -- there are so many
   pub long : length front ≡ end
   long = length-take-le end b fits
 
@@ -222,10 +223,12 @@ module _ (b : List ℕ) (end : ℕ) (fits : end ≤ length b) where
     from-none : end ≤ here → from here ≡ gave []
     from-none h = let e : length front ≤ here = omega (arith, long) in rw (drop-of-length-le front e, blocks-none (moveBy tidy))
 
+    -- so that the walk stops
     pub stops-none : end ≤ here → Stops (from here) front here
     unfolding Stops
     stops-none h = rw (from-none h) (omega (arith, long))
 
+    -- and nothing more is stored
     pub stored-none : (at : Kept) (n s p : List ℕ) → end ≤ here → Room at here end → Stored (from here) at (at .count) n s p n s p
     unfolding Stored
     stored-none at n s p h room =
@@ -236,11 +239,12 @@ module _ (b : List ℕ) (end : ℕ) (fits : end ≤ length b) where
       in-front : here < length front
       in-front = omega (arith, long)
 
-      -- a header that is short
+      -- a header that is short: the walk stops there
       pub stops-short : (k : ℕ) → head ≡ Short k → Stops (from here) front here
       unfolding Stops
       stops-short k q = rw (refused-at tidy front here in-front k (sym is ∙ q)) (in-front, rw (← is, q))
 
+      -- and what was stored does not count
       pub stored-short : (k : ℕ) (at : Kept) (n₀ s₀ p₀ n₁ s₁ p₁ : List ℕ) → head ≡ Short k → Stored (from here) at 64 n₀ s₀ p₀ n₁ s₁ p₁
       unfolding Stored
       stored-short k at n₀ s₀ p₀ n₁ s₁ p₁ q = rw (refused-at tidy front here in-front k (sym is ∙ q))
@@ -250,9 +254,11 @@ module _ (b : List ℕ) (end : ℕ) (fits : end ≤ length b) where
         whole : headOf (drop here front) ≡ Whole n st sz
         whole = sym is ∙ q
 
+        -- the payload ends within them
         pub reach : here + st + sz ≤ end
         reach = omega (arith, fits-here tidy front here in-front n st sz whole, long)
 
+        -- and has room in the arrays
         pub keep-room : (at : Kept) → Room at here end → KeepRoom at (here + st) sz (length b)
         keep-room at room =
             let h = headed (drop here front) n st sz whole in
@@ -268,6 +274,7 @@ module _ (b : List ℕ) (end : ℕ) (fits : end ≤ length b) where
           pub move-within : (here + m ≤ end) × (1 ≤ m)
           move-within = let w = move-bounds tidy front here in-front n st sz whole in (omega (arith, w .most, long, em), omega (arith, w .least, em))
 
+          -- the walk goes on there
           pub stops-next : (r : ℕ) → Stops (from (here + m)) front r → Stops (from here) front r
           stops-next r k =
               rw (next-is tidy front here in-front n st sz whole)
@@ -280,9 +287,11 @@ module _ (b : List ℕ) (end : ℕ) (fits : end ≤ length b) where
             next-kept : next ≡ behind kept-here at
             next-kept = rw (part-front b end (here + st) sz reach) en
 
+            -- what is kept leaves room
             pub room-next : Room at here end → Room next (here + m) end
             room-next room = let k : Room at here (length front) = rw long room in rw (em, next-kept) (rw long at (room-behind tidy front here in-front n st sz whole at k))
 
+            -- what is stored here and what is stored from there on join
             pub stored-next : (r : ℕ) (n₀ s₀ p₀ n₁ s₁ p₁ n₂ s₂ p₂ : List ℕ) → Laid (keptFor n (take sz (drop (here + st) b))) at n₀ s₀ p₀ n₁ s₁ p₁
                 → Stored (from (here + m)) next r n₁ s₁ p₁ n₂ s₂ p₂ → Stored (from here) at r n₀ s₀ p₀ n₂ s₂ p₂
             stored-next r n₀ s₀ p₀ n₁ s₁ p₁ n₂ s₂ p₂ l k =

@@ -2,6 +2,7 @@
 use mathlib.Core.Path.{sym, _∙_}
 use mathlib.Core.List.{List, [], _∷_}
 use Prim.Native.Nat.{ℕ}
+use lib.ListN.{take}
 use contract.Lifetimes.{Lfts}
 use denote.Ref.{now}
 use Rattle.model.specs.Said.{Outcome, gave, refused}
@@ -9,7 +10,9 @@ use Rattle.model.specs.Packet.{Packet}
 use Rattle.caption.specs.declared.Counted.{Counted}
 use Rattle.blocks.specs.Reading.{Read, readAs}
 use Rattle.blocks.proofs.packet_size.Reads as packet_size
+use Rattle.blocks.proofs.reads_in.Reads as ReadsIn
 use Rattle.blocks.proofs.reads.Reads as Reads
+use Rattle.blocks.proofs.read_in.Reads as ReadIn
 use Rattle.blocks.proofs.read.Reads as Read
 use Rattle.determined.specs.Determines.{Determines, DeterminesLent}
 use Rattle.determined.proofs.Ways.{equal, Same, same-three, refusal-same}
@@ -45,9 +48,19 @@ reads-into o n₀ s₀ p₀ =
 pub packet-size : Determines (packet_size.Post (tt {0}))
 packet-size = equal
 
+-- `reads_in(bytes, len)`
+pub reads-in : (κs : Lfts 1) → Determines (ReadsIn.Post κs)
+reads-in κs = equal
+
 -- `reads(data)`
 pub reads : (κs : Lfts 1) → Determines (Reads.Post κs)
 reads κs = equal
+
+-- `read_in(bytes, len, tidy, numbers, sizes, payload)`
+pub read-in : (κs : Lfts 4) → DeterminesLent (λ e. now (e .1 .1 .1 .0) ∷ now (e .1 .1 .1 .1 .0) ∷ now (e .1 .1 .1 .1 .1 .0) ∷ []) (ReadIn.Post κs)
+read-in κs =
+    reads-into (λ a. readAs (a .1 .1 .0) (take (a .1 .0) (now (a .0)))) (λ a. now (a .1 .1 .1 .0)) (λ a. now (a .1 .1 .1 .1 .0))
+    (λ a. now (a .1 .1 .1 .1 .1 .0))
 
 -- `read(data, tidy, numbers, sizes, payload)`
 pub read : (κs : Lfts 4) → DeterminesLent (λ e. now (e .1 .1 .0) ∷ now (e .1 .1 .1 .0) ∷ now (e .1 .1 .1 .1 .0) ∷ []) (Read.Post κs)

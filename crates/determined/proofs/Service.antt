@@ -15,6 +15,7 @@ use Rattle.service.specs.declared.ServiceAnswer.{ServiceAnswer}
 use Rattle.service.proofs.lesser.Reads as Lesser
 use Rattle.service.proofs.put_bytes.Reads as put_bytes
 use Rattle.service.proofs.read_head.Reads as read_head
+use Rattle.service.proofs.head_in.Reads as HeadIn
 use Rattle.service.proofs.short_of.Reads as short_of
 use Rattle.service.proofs.payload_of.Reads as payload_of
 use Rattle.service.proofs.block_length.Reads as block_length
@@ -56,6 +57,10 @@ put-bytes κs = filled
 -- `read_head(data, at)`
 pub read-head : (κs : Lfts 1) → Determines (read_head.Post κs)
 read-head κs = equal
+
+-- `head_in(bytes, at, end)`
+pub head-in : (κs : Lfts 1) → Determines (HeadIn.Post κs)
+head-in κs = equal
 
 -- `short_of(head, present)`
 pub short-of : Determines (short_of.Post (tt {0}))
