@@ -65,26 +65,18 @@ refused-requires c κs = search needs
 returns : tie.Need-returns
 returns c =
     let g = c .before .before .before in
-    let l = g .before .before in
-    let q = l .before .before in
+    let q = g .before .before .before .before in
     let t = q .before .before in
-    let r = t .before .before .before in
-    let o = r .before in
-    let n = o .before in
-    let s = n .before .before .before .before .before in
-    pushed-answers _ _ _ (shaped s) (push-full _ _ _ (n .counts .ensures) _ (tested-fine _ _ _ _ _ (o .oldest .ensures) _ _ (r .ring-good .ensures) (t .good2 .ensures)) (q .before .if1 .taken) _ (q .plan-of .ensures) _ _ (l .list-by .ensures) _ _ (g .gather-by .ensures) _ (c .before .if2 .taken) (c .refused .ensures))
+    let o = t .before .before .before .before in
+    pushed-answers _ _ _ (shaped (o .before .before .before .before .before .before)) (push-full _ _ _ (o .before .counts .ensures) _ (tested-fine _ _ _ _ _ (o .oldest .ensures) _ _ (t .before .before .before .ring-good .ensures) (t .good2 .ensures)) (q .before .if1 .taken) _ (q .plan-of .ensures) _ _ (g .before .before .list-by .ensures) _ _ (g .gather-by .ensures) _ (c .before .if2 .taken) (c .refused .ensures))
 
 returns-2 : tie.Need-returns-2
 returns-2 c =
     let g = c .before .before .before in
-    let l = g .before .before in
-    let q = l .before .before in
+    let q = g .before .before .before .before in
     let t = q .before .before in
-    let r = t .before .before .before in
-    let o = r .before in
-    let n = o .before in
-    let s = n .before .before .before .before .before in
-    pushed-answers _ _ _ (shaped s) (push-done _ _ _ (n .counts .ensures) _ (tested-fine _ _ _ _ _ (o .oldest .ensures) _ _ (r .ring-good .ensures) (t .good2 .ensures)) (q .before .if1 .taken) _ (q .plan-of .ensures) _ _ (l .list-by .ensures) _ _ (g .gather-by .ensures) (c .before .if2 .left))
+    let o = t .before .before .before .before in
+    pushed-answers _ _ _ (shaped (o .before .before .before .before .before .before)) (push-done _ _ _ (o .before .counts .ensures) _ (tested-fine _ _ _ _ _ (o .oldest .ensures) _ _ (t .before .before .before .ring-good .ensures) (t .good2 .ensures)) (q .before .if1 .taken) _ (q .plan-of .ensures) _ _ (g .before .before .list-by .ensures) _ _ (g .gather-by .ensures) (c .before .if2 .left))
 
 refused-requires-2 : tie.Need-refused-requires-2
 refused-requires-2 c κs = search needs
@@ -92,11 +84,8 @@ refused-requires-2 c κs = search needs
 returns-3 : tie.Need-returns-3
 returns-3 c =
     let t = c .before .before in
-    let r = t .before .before .before in
-    let o = r .before in
-    let n = o .before in
-    let s = n .before .before .before .before .before in
-    pushed-answers _ _ _ (shaped s) (push-bad _ _ _ (n .counts .ensures) _ (tested-fine _ _ _ _ _ (o .oldest .ensures) _ _ (r .ring-good .ensures) (t .good2 .ensures)) _ (c .before .if1 .left) (c .refused2 .ensures))
+    let o = t .before .before .before .before in
+    pushed-answers _ _ _ (shaped (o .before .before .before .before .before .before)) (push-bad _ _ _ (o .before .counts .ensures) _ (tested-fine _ _ _ _ _ (o .oldest .ensures) _ _ (t .before .before .before .ring-good .ensures) (t .good2 .ensures)) _ (c .before .if1 .left) (c .refused2 .ensures))
 
 pub push-spec : {M : Type 1} → statement M
 push-spec =
