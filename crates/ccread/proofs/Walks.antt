@@ -13,9 +13,10 @@ use Rattle.records.specs.Reading.{foundIn}
 use Rattle.records.specs.declared.Found.{Found}
 use Rattle.records.specs.declared.Found.the-variants as found
 use Rattle.report.specs.Report.{settled}
-use Rattle.ccread.specs.Walk.{Walked, mark, leftAt, stop, walked, walkedBy}
-use Rattle.ccread.specs.declared.Left.{Left}
-use Rattle.ccread.specs.declared.Left.the-variants.{More}
+use Rattle.ccread.specs.Walk.{Walked, mark, stop, walked, walkedBy}
+use Rattle.streams.specs.Ends.{leftAt}
+use Rattle.streams.specs.declared.Left.{Left}
+use Rattle.streams.specs.declared.Left.the-variants.{More}
 
 -- what is found is no whole record: it is one of the four other cases of `Found`
 abbrev pub NoRecord : Found → Type 0

@@ -9,8 +9,8 @@ use Rattle.records.specs.Reading.{foundIn}
 use Rattle.records.specs.declared.Found.{Found}
 use Rattle.records.specs.declared.Found.the-variants as found
 use Rattle.report.specs.Report.{settled}
-use Rattle.ccread.specs.declared.Left.{Left}
-use Rattle.ccread.specs.declared.Left.the-variants.{More, Stopped, Ended}
+use Rattle.streams.specs.declared.Left.{Left}
+use Rattle.streams.specs.declared.Left.the-variants.{More, Stopped, Ended}
 
 -- where the records end, how many there were with those before, how it goes on, and the demultiplexer
 pub record Walked : Type 0 where
@@ -22,14 +22,6 @@ pub record Walked : Type 0 where
 -- "mark CC DA"
 abbrev pub mark : List ℕ
 mark = 0xCC ∷ 0xDA ∷ []
-
--- how it goes on where no whole record is found
-unfoldable pub leftAt : Found → Left
-leftAt (found.Record start len next) = More
-leftAt found.More = More
-leftAt found.WrongMark = Stopped
-leftAt found.Short = Stopped
-leftAt found.End = Ended
 
 -- where the walk stops
 abbrev pub stop : ℕ → ℕ → Left → CCDataParser → Walked

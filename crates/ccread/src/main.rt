@@ -1,34 +1,23 @@
 // Reads records of frames from standard input to its end and writes what each frame holds, as document 01 says under
 // "Checked examples". Reads and writes go through two buffers of fixed size, whatever the input's length and cut.
 ghost use mathlib.Core.Path.{_≡_};
-ghost use mathlib.Core.Bool.{cond};
-ghost use Prim.Native.Nat.{_+_, _≤_};
-ghost use lib.Dec.{leb};
+ghost use Prim.Native.Nat.{_≤_};
 ghost use lib.ListN.{length};
 ghost use Rattle.records.specs.Laid.{Whole};
-ghost use Rattle.ccread.specs.Walk.{leftAt, walked};
+ghost use Rattle.streams.specs.Ends.{placeFor};
+ghost use Rattle.ccread.specs.Walk.{walked};
 ghost use Rattle.report.specs.Report.{frameLines, settled};
 use libc::STDIN_FILENO;
-use libc::STDOUT_FILENO;
 use parser::CCDataParser;
 use records::Found;
 use report::Told;
+use streams::Left;
 
 // The lines of a frame have at most 32768 bytes.
 const ROOM: usize = 32768;
 
 // No buffer holds more records.
 const MOST_RECORDS: usize = 65536;
-
-// Where the records of the buffer end.
-enum Left {
-    // In a record whose end is still to be read, or in none.
-    More,
-    // At a wrong mark, or a record that is short at the end of the input.
-    Stopped,
-    // At the end of the input.
-    Ended,
-}
 
 // The place reached in the buffer, the records so far, the bytes of output that wait, and the demultiplexer.
 struct Drained {
@@ -48,52 +37,14 @@ struct State {
     parser: CCDataParser,
 }
 
-// Writes the first n bytes out.
-fn send(out: &[u8], n: usize) {
-    io::write_all(STDOUT_FILENO, records::part(out, 0, n));
-}
-
-// A place with room for the lines of a frame: `at`, or 0 after what was laid is written out.
-fn with_room(out: &[u8], at: usize) -> usize
-    ensures { λ r. ⌜ r ≡ cond (leb (at + 32768) (length (now (out .entry)))) at 0 ⌝ }
-{
-    let size = out.len();
-    if size < ROOM {
-        send(out, at);
-        return 0;
-    }
-    if size - ROOM < at {
-        send(out, at);
-        return 0;
-    }
-    at
-}
-
 // The lines of a record's frame, behind those that wait or, after those are written out, at the front: none of them is cut.
 fn put_record(out: &mut [u8], at: usize, number: u64, frame: &[u8], before: CCDataParser) -> Told
     requires { ⌜ 32768 ≤ length (now out) ⌝ }
-    ensures { λ r. ⌜ Whole (frameLines number (now (frame .entry)) before) (now (out .entry)) (cond (leb (at + 32768) (length (now (out .entry)))) at 0) (r .laid) (now (out .exit)) ⌝ }
+    ensures { λ r. ⌜ Whole (frameLines number (now (frame .entry)) before) (now (out .entry)) (placeFor 32768 (length (now (out .entry))) at) (r .laid) (now (out .exit)) ⌝ }
     ensures { λ r. ⌜ r .parser ≡ settled before (now (frame .entry)) ⌝ }
 {
-    let from = with_room(out, at);
+    let from = streams::with_room(out, at, ROOM);
     report::put_frame(out, from, number, frame, before)
-}
-
-// Where the records end, by what was found in place of one.
-fn left_at(found: Found) -> Left
-    ensures { λ r. ⌜ r ≡ leftAt found ⌝ }
-{
-    match found {
-        Found::WrongMark => Left::Stopped,
-        Found::Short => Left::Stopped,
-        Found::End => Left::Ended,
-        Found::More => Left::More,
-        Found::Record {
-            start: _,
-            len: _,
-            next: _,
-        } => Left::More,
-    }
 }
 
 // Every record that is whole in the buffer.
@@ -110,7 +61,7 @@ fn drain(buf: &[u8], ended: bool, out: &mut [u8], first: u64, before: CCDataPars
         n -= 1;
         let found = records::next_record(buf, at, ended, 0xCC, 0xDA);
         let Found::Record { start, len, next } = found else {
-            let left = left_at(found);
+            let left = streams::left_at(found);
             return Drained {
                 at,
                 records,
@@ -134,27 +85,6 @@ fn drain(buf: &[u8], ended: bool, out: &mut [u8], first: u64, before: CCDataPars
     }
 }
 
-// Lays the last line, if the input ends here, and writes out all that was laid. Whether there is more to read.
-fn finish(out: &mut [u8], at: usize, left: Left, start: u64, records: u64) -> bool {
-    let laid = with_room(out, at);
-    match left {
-        Left::More => {
-            send(out, laid);
-            true
-        }
-        Left::Stopped => {
-            let end = lines::put_stopped_line(out, laid, start);
-            send(out, end);
-            false
-        }
-        Left::Ended => {
-            let end = lines::put_end_line(out, laid, records);
-            send(out, end);
-            false
-        }
-    }
-}
-
 // One read of the input, and what it completes.
 fn step(buf: &mut [u8], out: &mut [u8], s: State) -> State
     requires { ⌜ s .have ≤ length (now buf) ⌝ }
@@ -172,7 +102,7 @@ fn step(buf: &mut [u8], out: &mut [u8], s: State) -> State
     let parser = d.parser;
     let left = d.left;
     let passed = std::num::wrapping_add_u64(s.passed, at as u64);
-    let going = finish(out, d.laid, left, passed, records);
+    let going = streams::finish(out, d.laid, left, passed, records);
     let have = records::move_to_front(buf, at, more);
     State {
         have,

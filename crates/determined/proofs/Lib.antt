@@ -19,3 +19,4 @@ pub mod Report
 pub mod Answers
 pub mod Values
 pub mod Machines
+pub mod Streams

@@ -8,7 +8,7 @@ use Rattle.ccread.proofs.put_record.Statement.{statement}
 use Rattle.ccread.proofs.put_record.Tie as tie
 use Rattle.ccread.proofs.put_record.Reads as reads
 use Rattle.ccread.proofs.put_record.Lts as lts
-use Rattle.ccread.proofs.with_room.Reads as with-room-reads
+use Rattle.streams.proofs.with_room.Reads as with-room-reads
 use Rattle.report.proofs.put_frame.Reads as put-frame-reads
 
 -- the arrays have their lengths

@@ -1,8 +1,8 @@
--- Each case is told by what was found. Assumes nothing.
-use Rattle.ccread.specs.Walk.{leftAt}
+-- `streams::left_at` meets its contract: each case is told by what was found. Assumes nothing.
+use Rattle.streams.specs.Ends.{leftAt}
 use borrow.Author.Needs.{needs}
-use Rattle.ccread.proofs.left_at.Statement.{statement}
-use Rattle.ccread.proofs.left_at.Tie as tie
+use Rattle.streams.proofs.left_at.Statement.{statement}
+use Rattle.streams.proofs.left_at.Tie as tie
 
 enum-told : tie.Need-enum-told
 enum-told c = search needs

@@ -1,0 +1,34 @@
+-- Where output has room, where the records of a buffer end, and the last line. Assumes nothing.
+use mathlib.Core.Bool.{Bool, true, false, cond}
+use mathlib.Core.List.{List, []}
+use Prim.Native.Nat.{ℕ, _+_}
+use lib.Dec.{leb}
+use Rattle.records.specs.declared.Found.{Found}
+use Rattle.records.specs.declared.Found.the-variants as found
+use Rattle.lines.specs.Lines.{stoppedLine, endLine}
+use Rattle.streams.specs.declared.Left.{Left}
+use Rattle.streams.specs.declared.Left.the-variants.{More, Stopped, Ended}
+
+-- `at` in a buffer of so many bytes, if there is room from it on, and else the front
+abbrev pub placeFor : ℕ → ℕ → ℕ → ℕ
+placeFor room size at = cond (leb (at + room) size) at 0
+
+-- how it goes on where no whole record is found
+unfoldable pub leftAt : Found → Left
+leftAt (found.Record start len next) = More
+leftAt found.More = More
+leftAt found.WrongMark = Stopped
+leftAt found.Short = Stopped
+leftAt found.End = Ended
+
+-- whether there is more to read
+abbrev pub goesOn : Left → Bool
+goesOn More = true
+goesOn Stopped = false
+goesOn Ended = false
+
+-- "`stopped at byte B` (its start) as the last line, in place of `end`"
+abbrev pub lastLine : Left → ℕ → ℕ → List ℕ
+lastLine More start records = []
+lastLine Stopped start records = stoppedLine start
+lastLine Ended start records = endLine records
