@@ -17,7 +17,7 @@ use Rattle.triples.specs.Pairs.{pairsOf}
 use Rattle.gather.specs.Ring.{noSlot, ringFrom, slotFine, slotsFine, headFine, behindFine}
 use Rattle.gather.specs.Gather.{pendingFine}
 use Rattle.gather.specs.declared.Front.{Front}
-use Rattle.parser.specs.Valid.{fieldsFine, listFine, countsOf, fine, valid}
+use Rattle.parser.specs.Valid.{fieldsFine, listFine, frontOf, countsOf, fine, valid}
 use Rattle.gather.specs.Ring.{packetsIn}
 use Rattle.parser.specs.Means.{means, Shaped}
 use Rattle.parser.specs.Draw.{packetAt, placeBehind, takePair, takePacket, takeNone, takeItem, Takes, takenBy, drawnBy, drawn}
@@ -29,7 +29,7 @@ use Rattle.parser.specs.declared.Took.{Took}
 use Rattle.parser.specs.declared.Item.the-variants.{Nothing, Refused}
 use Rattle.caption.specs.declared.Refusal.the-variants as refusal
 use Rattle.gather.proofs.Slots.{RingFine}
-use Rattle.parser.proofs.Valids.{Fine, fine-facts, facts-fine, behind-fine}
+use Rattle.parser.proofs.Valids.{Fine, fine-facts, facts-fine, front-found, behind-fine}
 use Rattle.parser.proofs.Pushes.{tested-valid}
 use Rattle.parser.proofs.Firsts.{slid-length, pairs-drawn, fields-drawn, pair-drawn, ring-drawn, behind-within, slot-read}
 
@@ -142,8 +142,7 @@ module _ (p : CCDataParser) where
       (λ e. record { item = rw (drawn-bad e, e); packet = rw (drawn-bad e, e); parser = refl })
 
   -- by the numbers of the state, the slot that has waited longest, and what was taken
-  module _ (c : Counts) (counted : c ≡ countsOf p) (o : Front)
-      (found : (o .good ≡ behindFine (c .first) (c .waiting) (p .waiting)) × ((c .waiting ≡ 0 → ⊥) → o .slot ≡ getD (p .waiting) (c .first % 32) noSlot))
+  module _ (c : Counts) (counted : c ≡ countsOf p) (o : Front) (front : o ≡ frontOf c (p .waiting))
       (b : Bool) (tested : b ≡ (listFine (c .pairs) (p .pairs) && (pendingFine (c .pending) (p .pending) && o .good))) where
     -- what a taker asks
     pub takes : b ≡ true → Takes c
@@ -151,12 +150,12 @@ module _ (p : CCDataParser) where
     takes t =
         let f = both (listFine (c .pairs) (p .pairs)) (pendingFine (c .pending) (p .pending) && o .good) (sym tested ∙ t) in
         let g = both (pendingFine (c .pending) (p .pending)) (o .good) (f .1) in
-        let h = both (leb (c .first) 31) (leb (c .waiting) 32 && slotsFine (ringFrom (c .first + 1) (c .waiting - 1) (p .waiting))) (sym (found .0) ∙ g .1) in
+        let h = both (leb (c .first) 31) (leb (c .waiting) 32 && slotsFine (ringFrom (c .first + 1) (c .waiting - 1) (p .waiting))) (sym (front-found c (p .waiting) o front .0) ∙ g .1) in
         record { pairs = leb-true _ _ (both (leb (c .pairs) 31) (fieldsFine (c .pairs) (p .pairs)) (f .0) .0); first = leb-true _ _ (h .0) }
 
     -- whether the state is within the limits
     whole : b && headFine (c .waiting) (o .slot) ≡ valid p
-    whole = tested-valid p c (b && headFine (c .waiting) (o .slot)) counted (behind-fine c (p .pairs) (p .pending) (p .waiting) o found b tested)
+    whole = tested-valid p c (b && headFine (c .waiting) (o .slot)) counted (behind-fine c (p .pairs) (p .pending) (p .waiting) o front b tested)
 
     -- the slot is the one at the first place, if one waits
     slot-is : takeItem (valid p) c (p .pairs) (o .slot) ≡ takeItem (valid p) c (p .pairs) (getD (p .waiting) (p .«waiting_first») noSlot)
@@ -167,7 +166,7 @@ module _ (p : CCDataParser) where
         (λ e. by-test (valid p)
         (λ t. let h : p .«waiting_first» ≤ 31 = fine-facts (countsOf p) (p .pairs) (p .pending) (p .waiting) t .ring .first in
         let z : p .«waiting_first» % 32 ≡ p .«waiting_first» = omega arith in
-        rw (found .1 (eqb-false _ _ e), counted, z))
+        rw (front-found c (p .waiting) o front .1 (eqb-false _ _ e), counted, z))
         (λ t. rw t))
 
     -- what was taken gives what drawing answers

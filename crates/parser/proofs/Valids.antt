@@ -1,20 +1,20 @@
 -- Laws of the limits, one for each way out of a function, and the facts of a state within them. Assumes nothing.
-use mathlib.Core.Path.{_≡_, refl, sym, _∙_}
+use mathlib.Core.Path.{_≡_, refl, sym, ap, _∙_}
 use mathlib.Core.List.{List}
 use mathlib.Core.Bool.{Bool, true, false, _&&_}
 use Prim.Native.Nat.{ℕ, suc, _+_, _-_, _*_, _%_, _≤_, _<_}
 use native.Mathlib.Omega.{arith}
-use lib.ListN.{getD, drop}
+use lib.ListN.{getD, drop, replicate}
 use lib.Seq.{getD-drop, drop-drop}
 use lib.Dec.{eqb, leb}
-use borrow.Author.Tests.{eq-eqb, ne-eqb, eqb-false, lt-leb, le-leb, leb-true}
+use borrow.Author.Tests.{eq-eqb, ne-eqb, eqb-true, eqb-false, lt-leb, le-leb, leb-true}
 use Rattle.model.proofs.Cases.{by-test, both}
 use Rattle.slots.specs.declared.Slot.{Slot}
 use Rattle.gather.specs.Gather.{pendingFine}
 use Rattle.gather.specs.Ring.{noSlot, slotFine, ringFine, headFine, behindFine, oldestOf}
 use Rattle.gather.specs.declared.Front.{Front}
 use Rattle.gather.proofs.Slots.{RingFine, ring-facts, facts-ring, behind-empty, ring-parts}
-use Rattle.parser.specs.Valid.{fieldsFine, listFine, fine}
+use Rattle.parser.specs.Valid.{fieldsFine, listFine, frontOf, fine}
 use Rattle.parser.specs.declared.Counts.{Counts}
 
 -- the list of pairs
@@ -54,22 +54,25 @@ module _ (a : Bool) (l : List ℕ) (n i : ℕ) (e : a ≡ fieldsFine (n - i) (dr
     pub fields-bad : 1 < getD l (3 * i) 0 → false ≡ a
     fields-bad k = sym (rw (lt-leb _ _ k) at fields-here)
 
--- the ring behind its head, by the slot there
-module _ (f n : ℕ) (slots : List Slot) where
-  -- of an empty ring only the place is tested
-  pub front-none : n ≡ 0 → leb f 31 ≡ behindFine f n slots
-  front-none z = rw z (behind-empty f slots)
+-- the ring behind its head, and the slot there
+module _ (c : Counts) (slots : List Slot) where
+  -- of an empty ring
+  pub front-none : c .waiting ≡ 0 → record { good = leb (c .first) 31; slot = record { len = 0; bytes = replicate 128 0 } } ≡ frontOf c slots
+  unfolding frontOf
+  front-none z = rw (eq-eqb _ _ z)
 
-  module _ (r : Front) (e : r ≡ oldestOf f n slots) where
-    -- the ring behind it
-    pub front-good : r .good ≡ behindFine f n slots
-    unfolding oldestOf
-    front-good = rw e
+  -- of any other
+  pub front-some : (r : Front) → (c .waiting ≡ 0 → ⊥) → r ≡ oldestOf (c .first) (c .waiting) slots → r ≡ frontOf c slots
+  unfolding frontOf
+  front-some r n e = rw (ne-eqb _ _ n) e
 
-    -- the slot
-    pub front-slot : r .slot ≡ getD slots (f % 32) noSlot
-    unfolding oldestOf
-    front-slot = rw e
+  -- what they say
+  pub front-found : (r : Front) → r ≡ frontOf c slots → (r .good ≡ behindFine (c .first) (c .waiting) slots) × ((c .waiting ≡ 0 → ⊥) → r .slot ≡ getD slots (c .first % 32) noSlot)
+  unfolding frontOf oldestOf
+  front-found r e =
+      by-test (eqb (c .waiting) 0)
+      (λ t. let z : c .waiting ≡ 0 = eqb-true _ _ t in let f = rw t at e in (ap (λ (x : Front). x .good) f ∙ rw z (behind-empty (c .first) slots), λ n. absurd (n z)))
+      (λ t. let f = rw t at e in (ap (λ (x : Front). x .good) f, λ n. ap (λ (x : Front). x .slot) f))
 
 -- the head of an empty ring, and of any other
 module _ (n : ℕ) (s : Slot) where
@@ -82,16 +85,15 @@ module _ (n : ℕ) (s : Slot) where
   head-some z b e = rw (ne-eqb _ _ z) e
 
 -- a state, by what was found of its ring: the slot at the head, and whether the ring behind it is within its limits
-module _ (c : Counts) (pairs pending : List ℕ) (slots : List Slot) (o : Front)
-    (found : (o .good ≡ behindFine (c .first) (c .waiting) slots) × ((c .waiting ≡ 0 → ⊥) → o .slot ≡ getD slots (c .first % 32) noSlot)) where
+module _ (c : Counts) (pairs pending : List ℕ) (slots : List Slot) (o : Front) (front : o ≡ frontOf c slots) where
   -- of an empty ring the slot says nothing
   head-is : headFine (c .waiting) (o .slot) ≡ headFine (c .waiting) (getD slots (c .first % 32) noSlot)
   unfolding headFine
-  head-is = by-test (eqb (c .waiting) 0) (λ e. rw e) (λ e. rw (found .1 (eqb-false _ _ e)))
+  head-is = by-test (eqb (c .waiting) 0) (λ e. rw e) (λ e. rw (front-found c slots o front .1 (eqb-false _ _ e)))
 
   -- the whole ring
   ring-whole : o .good && headFine (c .waiting) (o .slot) ≡ ringFine (c .first) (c .waiting) slots
-  ring-whole = rw (found .0, head-is) (sym (ring-parts (c .first) slots (c .waiting)))
+  ring-whole = rw (front-found c slots o front .0, head-is) (sym (ring-parts (c .first) slots (c .waiting)))
 
   -- the whole ring is tested, and then the rest
   pub tested-fine : (ring b : Bool) → ring ≡ (o .good && headFine (c .waiting) (o .slot)) → b ≡ (listFine (c .pairs) pairs && (pendingFine (c .pending) pending && ring)) → b ≡ fine c pairs pending slots

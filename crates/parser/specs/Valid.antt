@@ -1,12 +1,13 @@
 -- States within the limits of document 01, "Sizes"; any other is refused with 11. Assumes nothing.
 use mathlib.Core.List.{List}
-use mathlib.Core.Bool.{Bool, true, _&&_}
+use mathlib.Core.Bool.{Bool, true, cond, _&&_}
 use Prim.Native.Nat.{ℕ, zero, suc}
-use lib.ListN.{getD, drop}
-use lib.Dec.{leb}
+use lib.ListN.{getD, drop, replicate}
+use lib.Dec.{eqb, leb}
 use Rattle.slots.specs.declared.Slot.{Slot}
 use Rattle.gather.specs.Gather.{pendingFine}
-use Rattle.gather.specs.Ring.{ringFine}
+use Rattle.gather.specs.Ring.{ringFine, oldestOf}
+use Rattle.gather.specs.declared.Front.{Front}
 use Rattle.parser.specs.declared.CCDataParser.{CCDataParser}
 use Rattle.parser.specs.declared.Counts.{Counts}
 
@@ -31,3 +32,10 @@ fine c pairs pending slots =
 -- a state is
 abbrev pub valid : CCDataParser → Bool
 valid p = fine (countsOf p) (p .pairs) (p .pending) (p .waiting)
+
+-- the slot at the ring's head, and whether the ring behind it is within its limits; of an empty ring the place alone is, beside a slot without bytes
+unfoldable pub frontOf : Counts → List Slot → Front
+frontOf c slots =
+    cond (eqb (c .waiting) 0)
+    (record { good = leb (c .first) 31; slot = record { len = 0; bytes = replicate 128 0 } })
+    (oldestOf (c .first) (c .waiting) slots)

@@ -1,15 +1,14 @@
 // The demultiplexer: frames of `cc_data` in, caption pairs and packets out.
 ghost use mathlib.Core.Path.{_≡_};
-ghost use mathlib.Core.Bool.{true, cond, _&&_};
+ghost use mathlib.Core.Bool.{true, _&&_};
 ghost use mathlib.Core.List.{List};
-ghost use Prim.Native.Nat.{ℕ, _%_, _≤_};
-ghost use lib.ListN.{length, getD, replicate};
-ghost use lib.Dec.{eqb};
+ghost use Prim.Native.Nat.{ℕ, _≤_};
+ghost use lib.ListN.{length, replicate};
 ghost use Rattle.caption.specs.Answers.{saidCounted};
 ghost use Rattle.model.specs.Said.{measured};
-ghost use Rattle.gather.specs.Ring.{noSlot, slotFine, headFine, behindFine};
+ghost use Rattle.gather.specs.Ring.{headFine};
 ghost use Rattle.gather.specs.Gather.{pendingFine};
-ghost use Rattle.parser.specs.Valid.{listFine, countsOf, valid};
+ghost use Rattle.parser.specs.Valid.{listFine, frontOf, countsOf, valid};
 ghost use Rattle.parser.specs.Fresh.{fresh};
 ghost use Rattle.parser.specs.Means.{means, Answers, saidPush, saidCall, afterCall, turnedOn};
 ghost use Rattle.parser.specs.Push.{fed, refusedFor, pushed};
@@ -109,8 +108,7 @@ fn list_good(pairs: &[u8; 93], n: usize) -> bool
 // The slot that has waited longest, and whether the ring behind it is within its limits. Of an empty ring only the place is looked at: no
 // slot is copied.
 fn oldest(c: Counts, slots: [Slot; 32]) -> Front
-    ensures { λ r. ⌜ r .good ≡ behindFine (c .first) (c .waiting) slots ⌝ }
-    ensures { λ r. ⌜ ((c .waiting ≡ 0 → ⊥) → r .slot ≡ getD slots (c .first % 32) noSlot) ⌝ }
+    ensures { λ r. ⌜ r ≡ frontOf c slots ⌝ }
 {
     if c.waiting == 0 {
         let bytes = [0u8; 128];
