@@ -22,6 +22,21 @@ use Rattle.journey.proofs.Gather.{AllStored, none, also}
 abbrev pub acceptedOf : Field → Run → List Pair
 acceptedOf f r = the f (r .pairs1) (r .pairs2)
 
+-- no pairs of either field
+pub none-accepted : (f : Field) → others (the f [] []) ≡ []
+unfolding others
+none-accepted one = refl
+none-accepted two = refl
+
+-- one run after another
+abbrev pub thenRun : Run → Run → Run
+thenRun k r = record { frames = k .frames ++ r .frames; packets = k .packets ++ r .packets; pairs1 = k .pairs1 ++ r .pairs1; pairs2 = k .pairs2 ++ r .pairs2; last = r .last }
+
+-- the pairs of a field that both accept
+pub accepted-append : (f : Field) (k r : Run) → acceptedOf f (thenRun k r) ≡ acceptedOf f k ++ acceptedOf f r
+accepted-append one k r = refl
+accepted-append two k r = refl
+
 -- a push of a packet: nothing is stored, or the packet is not empty and stands last
 push-cases : (P : List Packet → Mux → Type 0) (p : Packet) (s : Mux) → P [] s → (1 ≤ length (p .blocks) → P (p ∷ []) (withPackets (s .packets ++ (p ∷ [])) s))
     → P (onlyIf (isGiven (pushPacket p s) && not (eqb (length (p .blocks)) 0)) p) (after s (pushPacket p s))
@@ -43,19 +58,20 @@ pub record Grown (q x q′ : List Pair) : Type 0 where
   pub accepts : others q ++ others x ≡ others q′
   pub new : List Pair
   pub behind : q ++ new ≡ q′
+  pub came : others new ≡ others x
 
 -- nothing of the field is pushed
 grown-none : (q : List Pair) → Grown q [] q
 unfolding others
-grown-none q = record { accepts = append-nil (others q); new = []; behind = append-nil q }
+grown-none q = record { accepts = append-nil (others q); new = []; behind = append-nil q; came = refl }
 
 -- a pair of the field is pushed
 grown-pair : (x : Pair) (q : List Pair) → Grown q (onlyIf (isGiven (pushPair x q)) x) (after q (pushPair x q))
 unfolding others
 grown-pair x q =
     pair-cases (Grown q) x q (grown-none q)
-    (λ e. record { accepts = rw e (append-nil (others q)); new = []; behind = append-nil q })
-    (record { accepts = sym (others-append q (x ∷ [])); new = x ∷ []; behind = refl })
+    (λ e. record { accepts = rw e (append-nil (others q)); new = []; behind = append-nil q; came = rw e })
+    (record { accepts = sym (others-append q (x ∷ [])); new = x ∷ []; behind = refl; came = refl })
 
 -- A call that writes no frame: what it accepts stands behind what was queued; the packet being sent and whose turn is next stay.
 pub record Quiet (s : Mux) (k : Run) : Type 0 where

@@ -12,13 +12,13 @@ use Rattle.model.specs.Rate.{Budgets}
 use Rattle.model.specs.Mux.{Mux, writeFrame}
 use Rattle.model.specs.Run.{Call, pushes, pushes608, pads, writes, Run, call, run, AllowedCall, Allowed, Read, emptied, readFrames, ofField1, ofField2, others}
 use Rattle.model.proofs.Packets.{valid-facts}
-use Rattle.journey.specs.Bounds.{Field, one, two, the, queueOf}
+use Rattle.journey.specs.Bounds.{Field, one, two, queueOf}
 use Rattle.journey.proofs.Turns.{ofField, others-append}
 use Rattle.journey.proofs.Gather.{AllStored, none, also, underway}
 use Rattle.journey.proofs.Count.{fits, counted}
 use Rattle.journey.proofs.Taking.{holding}
 use Rattle.journey.proofs.Round.{Ready, round}
-use Rattle.journey.proofs.Calls.{acceptedOf, Quiet, quiet-none, quiet-pads, quiet-608, quiet-push, stored-push}
+use Rattle.journey.proofs.Calls.{acceptedOf, none-accepted, thenRun, accepted-append, Quiet, quiet-none, quiet-pads, quiet-608, quiet-push, stored-push}
 
 -- What was there and what came in is, in order, what went out and what is there now.
 pub record Kept {A : Type 0} (before into out now : List A) : Type 0 where
@@ -61,12 +61,6 @@ quiet-carried {s} {g} {k} d new h =
       pairs = λ f. record { same = rw (none-read f) (d .pairs f .accepts) };
     })
 
--- no pairs of either field, accepted
-none-accepted : (f : Field) → others (the f [] []) ≡ []
-unfolding others
-none-accepted one = refl
-none-accepted two = refl
-
 -- a write at an accepted rate with a padding on
 write-carried : (b : Budgets) (s : Mux) (g : List ℕ) → AllowedCall (writes b) s → Ready s g → Carried s g (call (writes b) s) (readFrames (call (writes b) s .frames) (holding g))
 unfolding call readFrames
@@ -90,10 +84,6 @@ call-carried (pushes608 (field2 x)) s g w h = quiet-carried (quiet-608 (field2 x
 call-carried (pads a b) s g w h = quiet-carried (quiet-pads a b s) none h
 call-carried (writes b) s g w h = write-carried b s g w h
 
--- one run after another
-abbrev thenRun : Run → Run → Run
-thenRun k r = record { frames = k .frames ++ r .frames; packets = k .packets ++ r .packets; pairs1 = k .pairs1 ++ r .pairs1; pairs2 = k .pairs2 ++ r .pairs2; last = r .last }
-
 -- the frames of the one read, and then those of the other
 abbrev thenRead : Read → Read → Read
 thenRead o p = record { answers = o .answers ++ p .answers; pairs = o .pairs ++ p .pairs; packets = o .packets ++ p .packets; last = p .last }
@@ -113,11 +103,6 @@ field-append one (field2 x ∷ a) b = field-append one a b
 field-append two [] b = refl
 field-append two (field1 x ∷ a) b = field-append two a b
 field-append two (field2 x ∷ a) b = ap (λ (l : List Pair). x ∷ l) (field-append two a b)
-
--- and those that are accepted
-accepted-append : (f : Field) (k r : Run) → acceptedOf f (thenRun k r) ≡ acceptedOf f k ++ acceptedOf f r
-accepted-append one k r = refl
-accepted-append two k r = refl
 
 -- what the one carries and then the other, both carry
 then-carried : {s : Mux} {g : List ℕ} {k r : Run} {o p : Read} → Carried s g k o → Carried (k .last) (o .last .pending) r p → Carried s g (thenRun k r) (thenRead o p)

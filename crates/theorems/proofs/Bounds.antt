@@ -49,7 +49,7 @@ unfolding frameBytes
 frame-triples f = unflat (f .triples)
 
 -- a field's queue is the model's
-queue-means : (f : Field) (w : CCDataWriter) → journey.queueOf f (means w) ≡ queueAt f w
+pub queue-means : (f : Field) (w : CCDataWriter) → journey.queueOf f (means w) ≡ queueAt f w
 unfolding means
 queue-means one w = refl
 queue-means two w = refl

@@ -30,10 +30,13 @@ use Rattle.theorems.proofs.Emptying.{itemsIn, empties-from}
 abbrev pub itemsRead : Read → Items
 itemsRead o = itemsIn (o .pairs) (o .packets)
 
--- what frames give that the model does not refuse
-pub record Fed (o : Read) (rs : List Refusal) (is : Items) : Type 0 where
+-- what frames give that the model does not refuse, and the demultiplexer that they leave
+pub record Fed (o : Read) (rs : List Refusal) (is : Items) (p : CCDataParser) : Type 0 where
   pub no-refusal : rs ≡ []
   pub items : is ≡ itemsRead o
+  pub sound : Sound p
+  pub means : means p ≡ o .last
+  pub valid : validDemux (o .last) ≡ true
 
 -- a demultiplexer within the limits that has been emptied is within them
 emptied-valid : (d : Demux) → validDemux d ≡ true → validDemux (emptied d) ≡ true
@@ -57,9 +60,9 @@ frame-accepted p f r s a e = saidAnswer-injective (r .answer) Accepted (rw (s .v
 
 -- by the demultiplexer of the model
 feeds-at : {p p′ : CCDataParser} {fs : List (List ℕ)} {rs : List Refusal} {is : Items} → Feeds p fs rs is p′ → (d : Demux) → Sound p → means p ≡ d → validDemux d ≡ true
-    → readFrames fs d .answers ≡ replicate (length fs) (accepted []) → Fed (readFrames fs d) rs is
+    → readFrames fs d .answers ≡ replicate (length fs) (accepted []) → Fed (readFrames fs d) rs is p′
 unfolding readFrames ofField1 ofField2 others
-feeds-at no-frame d s e v z = record { no-refusal = refl; items = refl }
+feeds-at no-frame d s e v z = record { no-refusal = refl; items = refl; sound = s; means = e; valid = v }
 feeds-at {p} (feed {q} {fs} {rs} {rs′} {is} {is′} κs frame r a c k) d s e v z =
     let f : List ℕ = now frame in
     let t : Demux = takeFrame f d .next in
@@ -74,9 +77,12 @@ feeds-at {p} (feed {q} {fs} {rs} {rs′} {is} {is′} κs frame r a c k) d s e v
     record {
       no-refusal = rw (frame-accepted p f r s b (ap (λ (x : Demux). takeFrame f x .answer) e ∙ first), m .no-refusal, n .no-refusal);
       items = rw (m .items, n .items) (items-append (t .pairs) (readFrames fs (emptied t) .pairs) (t .waiting) (readFrames fs (emptied t) .packets));
+      sound = n .sound;
+      means = n .means;
+      valid = n .valid;
     }
 
 -- from any state within the limits
 pub feeds : {p p′ : CCDataParser} {fs : List (List ℕ)} {rs : List Refusal} {is : Items} → Feeds p fs rs is p′ → Sound p → validDemux (means p) ≡ true
-    → readFrames fs (means p) .answers ≡ replicate (length fs) (accepted []) → Fed (readFrames fs (means p)) rs is
+    → readFrames fs (means p) .answers ≡ replicate (length fs) (accepted []) → Fed (readFrames fs (means p)) rs is p′
 feeds {p} c s v z = feeds-at c (means p) s refl v z

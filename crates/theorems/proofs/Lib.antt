@@ -10,6 +10,7 @@ pub mod Trip
 pub mod Distinct
 pub mod Bounds
 pub mod SoFar
+pub mod Given
 pub mod Types
 pub mod Feedable
 pub mod Drainable

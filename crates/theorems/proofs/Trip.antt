@@ -68,7 +68,7 @@ ready p on a h =
 pub given-fed : {p₀ p : CCDataParser} {on : ParserAnswer} {frames : List (List ℕ)} {refused : List Refusal} {given : Items}
     → NewParser p₀ → HandleCea608 p₀ on → Feeds (on .parser) frames refused given p
     → readFrames frames (turn608On freshDemux) .answers ≡ replicate (length frames) (said.accepted [])
-    → (on .answer ≡ Accepted) × Fed (readFrames frames (turn608On freshDemux)) refused given
+    → (on .answer ≡ Accepted) × Fed (readFrames frames (turn608On freshDemux)) refused given p
 given-fed {p₀} {on} new turned read e =
     let y = ready p₀ on new turned in
     (y .answer, rw (y .means) at (feeds read (y .sound) (rw (y .means) (on-valid freshDemux fresh-demux)) (rw (y .means) e)))
