@@ -54,11 +54,11 @@ module _ (r : Counted) (n s p : List ℕ) (q : ℕ) (l : Lead) (lead : l ≡ lea
       says-so (refused why) (e, k, m, a, b, c) = rw k m
 
 -- what a push left
-module _ (p : DTVCCPacket) (places : Places p) (r : Counted) (n s d : List ℕ) (a : PacketAnswer) (is : a ≡ answerOf p r n s d) where
+module _ (p : DTVCCPacket) (places : Places p) (r : Counted) (n s d : List ℕ) (a : PacketAnswer) (is : a ≡ answerOf (p .«seq_no») (p .count) r n s d) where
   stored : (o : Outcome Fields) → Stores o (fieldsOf p) r n s d → Answers (mapped packetWith o) p a
   unfolding Stores
   stored (gave g) (e, q) = rw (is, e) (record { answer = refl; packet = ap packetWith (sym q) })
-  stored (refused why) (e, q, m, x, y, z) = rw (is, q) (record { answer = m; packet = refl })
+  stored (refused why) (e, q, m, x, y, z) = rw (is, q, x, y, z) (record { answer = m; packet = refl })
 
   pub run-stored : (needsRoom : Bool) (number : ℕ) (run : List ℕ) → Pushes (pushes.pushedRun needsRoom number run) (fieldsOf p) r n s d → Answers (pushedRun needsRoom number run p) p a
   unfolding pushedRun

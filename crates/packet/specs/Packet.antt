@@ -81,7 +81,11 @@ pushedBlock s p = mapped packetWith (pushes.pushedBlock s (fieldsOf p))
 unfoldable pub pushedRun : Bool → ℕ → List ℕ → DTVCCPacket → Outcome DTVCCPacket
 pushedRun needsRoom n run p = mapped packetWith (pushes.pushedRun needsRoom n run (fieldsOf p))
 
--- what is answered to a push by how many blocks there then are, in which places; a refusal leaves the packet as it was
-abbrev pub answerOf : DTVCCPacket → Counted → List ℕ → List ℕ → List ℕ → PacketAnswer
-answerOf p (Count k) n s d = record { answer = answer.Accepted; packet = packetWith (fields (p .«seq_no») k n s d) }
-answerOf p (Refused why) n s d = record { answer = answer.Refused why; packet = p }
+-- how many blocks there are after a push: as many as before, where it is refused
+abbrev pub countAfter : Counted → ℕ → ℕ
+countAfter (Count k) before = k
+countAfter (Refused why) before = before
+
+-- what is answered to it, with the places that it leaves
+abbrev pub answerOf : ℕ → ℕ → Counted → List ℕ → List ℕ → List ℕ → PacketAnswer
+answerOf sequence before r n s d = record { answer = answerTo r; packet = packetWith (fields sequence (countAfter r before) n s d) }

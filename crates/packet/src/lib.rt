@@ -11,7 +11,7 @@ ghost use Rattle.service.specs.Service.{Writes};
 ghost use Rattle.service.specs.Service as service;
 ghost use Rattle.blocks.specs.Reading.{readAs};
 ghost use Rattle.packet.specs.Header.{headerOf};
-ghost use Rattle.packet.specs.Packet.{Answers, packetOf, ledBy, leadOf, answerTo, laid, blank, validDTVCC, extentOf, pushedBlock, pushedRun, answerOf};
+ghost use Rattle.packet.specs.Packet.{Answers, packetOf, ledBy, leadOf, answerTo, laid, blank, validDTVCC, extentOf, pushedBlock, pushedRun, countAfter, answerOf};
 ghost use Rattle.packet.specs.Place.{Placed, blocksAt};
 use caption::Answer;
 use caption::Counted;
@@ -190,30 +190,35 @@ fn read_packet(data: &[u8], tidy: bool) -> PacketAnswer
     }
 }
 
-// The answer to a push that leaves so many blocks in these places, or refuses.
+// How many blocks there are after a push; one that is refused leaves as many as there were.
+fn count_after(r: Counted, before: usize) -> usize
+    ensures { λ n. ⌜ n ≡ countAfter r before ⌝ }
+{
+    match r {
+        Counted::Refused(_) => before,
+        Counted::Count(count) => count,
+    }
+}
+
+// The answer to a push into these places, which a refusal leaves as they were. It is built once: built for each answer, it would be copied.
 fn answered(
-    packet: DTVCCPacket,
+    seq_no: u8,
+    before: usize,
     r: Counted,
     numbers: [u8; 63],
     sizes: [u8; 63],
     payload: [u8; 127],
 ) -> PacketAnswer
-    ensures { λ a. ⌜ a ≡ answerOf packet r numbers sizes payload ⌝ }
+    ensures { λ a. ⌜ a ≡ answerOf «seq_no» before r numbers sizes payload ⌝ }
 {
-    match r {
-        Counted::Refused(why) => PacketAnswer {
-            answer: Answer::Refused(why),
-            packet,
-        },
-        Counted::Count(count) => PacketAnswer {
-            answer: Answer::Accepted,
-            packet: DTVCCPacket {
-                seq_no: packet.seq_no,
-                count,
-                numbers,
-                sizes,
-                payload,
-            },
+    PacketAnswer {
+        answer: answer_to(r),
+        packet: DTVCCPacket {
+            seq_no,
+            count: count_after(r, before),
+            numbers,
+            sizes,
+            payload,
         },
     }
 }
@@ -356,7 +361,7 @@ impl DTVCCPacket {
             &mut sizes,
             &mut payload,
         );
-        answered(self, r, numbers, sizes, payload)
+        answered(self.seq_no, self.count, r, numbers, sizes, payload)
     }
 
     // Pushes a run to the latest block of its number, or as a new block: where there is no such block, or where it has no
@@ -377,7 +382,7 @@ impl DTVCCPacket {
             &mut sizes,
             &mut payload,
         );
-        answered(self, r, numbers, sizes, payload)
+        answered(self.seq_no, self.count, r, numbers, sizes, payload)
     }
 
     // Pushes a code, a run of bytes, to the latest block of its number that has room, or as a new block.

@@ -1,19 +1,16 @@
--- The two cases of what was counted. Assumes nothing.
+-- `packet::answered` meets its contract. Assumes nothing.
 use borrow.Author.Needs.{needs}
 use Rattle.packet.proofs.answered.Statement.{statement}
 use Rattle.packet.proofs.answered.Tie as tie
 
-enum-known-r : tie.Need-enum-known-r
-enum-known-r c = search needs
+answer-to-requires : tie.Need-answer-to-requires
+answer-to-requires c κs = search needs
 
-enum-known-r-2 : tie.Need-enum-known-r-2
-enum-known-r-2 c = search needs
+count-after-requires : tie.Need-count-after-requires
+count-after-requires c κs = search needs
 
 returns : tie.Need-returns
-returns c = rw (c .before .r .given .1)
-
-returns-2 : tie.Need-returns-2
-returns-2 c = rw (c .before .r2 .given .1)
+returns c = rw (c .before .answer-to .ensures, c .count-after .ensures)
 
 pub answered-spec : {M : Type 1} → statement M
-answered-spec = tie.close (tie.spec enum-known-r enum-known-r-2 returns returns-2)
+answered-spec = tie.close (tie.spec answer-to-requires count-after-requires returns)
