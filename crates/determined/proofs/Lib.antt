@@ -19,4 +19,7 @@ pub mod Report
 pub mod Answers
 pub mod Values
 pub mod Machines
+pub mod Parts
+pub mod Muxes
+pub mod Operations
 pub mod Streams

@@ -36,8 +36,11 @@ returns c = search needs
 part-requires : tie.Need-part-requires Inv-loop μ-loop
 part-requires c κs = search needs
 
-put-record-requires : tie.Need-put-record-requires Inv-loop μ-loop
-put-record-requires c κs = search needs
+with-room-requires : tie.Need-with-room-requires Inv-loop μ-loop
+with-room-requires c κs = search needs
+
+run-record-requires : tie.Need-run-record-requires Inv-loop μ-loop
+run-record-requires c κs = search needs
 
 wrapping-add-u64-requires : tie.Need-wrapping-add-u64-requires Inv-loop μ-loop
 wrapping-add-u64-requires c κs = search needs
@@ -67,8 +70,9 @@ drain-spec =
     left-at-requires
     same-length
     returns
+    with-room-requires
     part-requires
-    put-record-requires
+    run-record-requires
     wrapping-add-u64-requires
     loop-less
     loop-again
