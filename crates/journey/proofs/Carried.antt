@@ -95,7 +95,7 @@ read-append [] b d = refl
 read-append (f ∷ a) b d = let e = read-append a b (emptied (takeFrame f d .next)) in simp (e, append-assoc)
 
 -- the pairs of a field that are read, in two parts
-field-append : (f : Field) (a b : List Cea608) → ofField f (a ++ b) ≡ ofField f a ++ ofField f b
+pub field-append : (f : Field) (a b : List Cea608) → ofField f (a ++ b) ≡ ofField f a ++ ofField f b
 unfolding ofField1 ofField2
 field-append one [] b = refl
 field-append one (field1 x ∷ a) b = ap (λ (l : List Pair). x ∷ l) (field-append one a b)

@@ -9,11 +9,13 @@ use lib.ListN.{length, replicate}
 use denote.Ref.{now}
 use Rattle.model.specs.Said.{accepted}
 use Rattle.model.specs.Packet.{Packet, allPackets}
-use Rattle.model.specs.Frame.{Cea608, field1, field2}
+use Rattle.model.specs.Frame.{Cea608}
 use Rattle.model.specs.Demux.{Demux, takeFrame, validDemux}
 use Rattle.model.specs.Run.{Read, readFrames, emptied, ofField1, ofField2, others}
 use Rattle.model.proofs.DemuxStates.{demux-facts, facts-demux, take-valid}
+use Rattle.journey.specs.Bounds.{one, two}
 use Rattle.journey.proofs.Turns.{others-append}
+use Rattle.journey.proofs.Carried.{field-append}
 use Rattle.caption.specs.declared.Refusal.{Refusal}
 use Rattle.caption.specs.declared.Answer.the-variants.{Accepted}
 use Rattle.caption.proofs.Answers.{saidAnswer-injective}
@@ -43,16 +45,9 @@ emptied-valid : (d : Demux) → validDemux d ≡ true → validDemux (emptied d)
 unfolding allPackets
 emptied-valid d v = let f = demux-facts d v in facts-demux (emptied d) (record { pairs = omega arith; waiting = omega arith; packets = refl; pending = f .pending })
 
--- the pairs of a field in one list behind another
-field-append : (xs ys : List Cea608) → (ofField1 (xs ++ ys) ≡ ofField1 xs ++ ofField1 ys) × (ofField2 (xs ++ ys) ≡ ofField2 xs ++ ofField2 ys)
-unfolding ofField1 ofField2
-field-append [] ys = (refl, refl)
-field-append (field1 x ∷ xs) ys = let e = field-append xs ys in (rw (e .0), e .1)
-field-append (field2 x ∷ xs) ys = let e = field-append xs ys in (e .0, rw (e .1))
-
 -- what was read before, and what after
 items-append : (xs ys : List Cea608) (ps qs : List Packet) → andThen (itemsIn xs ps) (itemsIn ys qs) ≡ itemsIn (xs ++ ys) (ps ++ qs)
-items-append xs ys ps qs = rw (field-append xs ys .0, field-append xs ys .1, others-append (ofField1 xs) (ofField1 ys), others-append (ofField2 xs) (ofField2 ys))
+items-append xs ys ps qs = rw (field-append one xs ys, field-append two xs ys, others-append (ofField1 xs) (ofField1 ys), others-append (ofField2 xs) (ofField2 ys))
 
 -- a frame that the model accepts is accepted
 frame-accepted : (p : CCDataParser) (f : List ℕ) (r : ParserAnswer) → Sound p → Answers (saidPush p f) (pushed p f .parser) r → takeFrame f (means p) .answer ≡ accepted [] → r .answer ≡ Accepted

@@ -9,6 +9,7 @@ use Rattle.model.specs.Mux.{Mux}
 use Rattle.model.specs.Run.{Call, Run, call, run, AllowedCall, Allowed, others}
 use Rattle.journey.specs.Bounds.{writesIn, AtRates, NoPush}
 use Rattle.journey.proofs.Turns.{others-append}
+use Rattle.journey.proofs.Calls.{thenRun}
 use Rattle.writer.specs.Writer.{means}
 use Rattle.writer.proofs.Kept.{Sound}
 use Rattle.writer.specs.declared.CCDataWriter.{CCDataWriter}
@@ -107,14 +108,10 @@ repad f t =
       sound = t .sound;
     }
 
--- what one call does, and then those that follow
-abbrev joined : Run → Run → Run
-joined a b = record { frames = a .frames ++ b .frames; packets = a .packets ++ b .packets; pairs1 = a .pairs1 ++ b .pairs1; pairs2 = a .pairs2 ++ b .pairs2; last = b .last }
-
 -- calls, where the first leaves s₁
-run-next : (c : Call) (cs : List Call) (s s₁ : Mux) → call c s .last ≡ s₁ → run (c ∷ cs) s ≡ joined (call c s) (run cs s₁)
+run-next : (c : Call) (cs : List Call) (s s₁ : Mux) → call c s .last ≡ s₁ → run (c ∷ cs) s ≡ thenRun (call c s) (run cs s₁)
 unfolding run
-run-next c cs s s₁ e = ap (λ (x : Mux). joined (call c s) (run cs x)) e
+run-next c cs s s₁ e = ap (λ (x : Mux). thenRun (call c s) (run cs x)) e
 
 -- one call, and then those that follow
 pub follow : {w w₁ w₂ : CCDataWriter} {fs₁ fs₂ : List (List ℕ)} {is₁ is₂ : Items} {pad₁ pad₂ : Type 0}
