@@ -194,11 +194,7 @@ module _ (d : List ℕ) (many : 128 < length d) where
   too-long true size e = rw (ne-eqb size (length d) (λ z. omega (arith, size-most (getD d 0 0))))
   too-long false size e = lt-ltb size (length d) (omega (arith, size-most (getD d 0 0)))
 
-  -- they do not read
-  pub many-reads : false ≡ reads d
-  many-reads = sym (reads-as d ∙ ap isGiven (wrong-as false d some-of (packetSize (getD d 0 0)) refl (too-long false (packetSize (getD d 0 0)) refl)))
-
-  -- and are refused
+  -- they are refused
   pub read-many : (tidy : Bool) (size : ℕ) → size ≡ packetSize (getD d 0 0) → (why : Said) (r : Counted) (n₀ s₀ p₀ n₁ s₁ p₁ : List ℕ) → why ≡ lengthMismatch size (length d) → Read (refused why) r n₀ s₀ p₀ n₁ s₁ p₁ → Read (readAs tidy d) r n₀ s₀ p₀ n₁ s₁ p₁
   read-many tidy size e why r n₀ s₀ p₀ n₁ s₁ p₁ m k = read-refused (readAs tidy d) why r n₀ s₀ p₀ n₀ s₀ p₀ n₁ s₁ p₁ (wrong-as tidy d some-of size e (too-long tidy size e) ∙ ap refused (sym m)) k
 
@@ -209,11 +205,7 @@ module _ (d b : List ℕ) (few : length d ≤ 128) (is : b ≡ sets (replicate 1
       let zeros : List ℕ = replicate 128 0 in
       ap (take (length d)) (is ∙ sets-front zeros d (rw (length-replicate 128) few)) ∙ take-append-seam d (drop (length d) zeros)
 
-  -- they read as the copy does
-  pub copied-reads : (r : Bool) → r ≡ reads (take (length d) b) → r ≡ reads d
-  copied-reads r e = e ∙ ap reads copied
-
-  -- and are read as the copy is
+  -- they are read as the copy is
   pub copied-read : (tidy : Bool) (r : Counted) (n₀ s₀ p₀ n₁ s₁ p₁ : List ℕ) → Read (readAs tidy (take (length d) b)) r n₀ s₀ p₀ n₁ s₁ p₁ → Read (readAs tidy d) r n₀ s₀ p₀ n₁ s₁ p₁
   copied-read tidy r n₀ s₀ p₀ n₁ s₁ p₁ k = rw copied at k
 

@@ -90,19 +90,6 @@ pub fn reads_in(bytes: &[u8; 128], len: usize) -> bool
     n <= stop_at(bytes, 1, n, false)
 }
 
-// Whether bytes read as a packet.
-pub fn reads(data: &[u8]) -> bool
-    ensures { λ r. ⌜ r ≡ model.reads (now («data» .entry)) ⌝ }
-{
-    let n = data.len();
-    if MOST_PACKET < n {
-        return false;
-    }
-    let mut bytes = [0u8; 128];
-    service::put_bytes(&mut bytes, 0, data);
-    reads_in(&bytes, n)
-}
-
 // How many blocks are stored, and how many bytes of payload they have.
 pub struct Kept {
     pub count: usize,

@@ -11,7 +11,6 @@ use Rattle.caption.specs.declared.Counted.{Counted}
 use Rattle.blocks.specs.Reading.{Read, readAs}
 use Rattle.blocks.proofs.packet_size.Reads as packet_size
 use Rattle.blocks.proofs.reads_in.Reads as ReadsIn
-use Rattle.blocks.proofs.reads.Reads as Reads
 use Rattle.blocks.proofs.read_in.Reads as ReadIn
 use Rattle.blocks.proofs.read.Reads as Read
 use Rattle.determined.specs.Determines.{Determines, DeterminesLent}
@@ -51,10 +50,6 @@ packet-size = equal
 -- `reads_in(bytes, len)`
 pub reads-in : (κs : Lfts 1) → Determines (ReadsIn.Post κs)
 reads-in κs = equal
-
--- `reads(data)`
-pub reads : (κs : Lfts 1) → Determines (Reads.Post κs)
-reads κs = equal
 
 -- `read_in(bytes, len, tidy, numbers, sizes, payload)`
 pub read-in : (κs : Lfts 4) → DeterminesLent (λ e. now (e .1 .1 .1 .0) ∷ now (e .1 .1 .1 .1 .0) ∷ now (e .1 .1 .1 .1 .1 .0) ∷ []) (ReadIn.Post κs)

@@ -24,7 +24,6 @@ use Rattle.packet.specs.declared.ServiceAt.{ServiceAt}
 use Rattle.determined.proofs.Service.{writes}
 use Rattle.packet.proofs.packet_size.Reads as packet_size
 use Rattle.packet.proofs.parse_hdr_byte.Reads as parse_hdr_byte
-use Rattle.packet.proofs.reads.Reads as Reads
 use Rattle.packet.proofs.reads_in.Reads as ReadsIn
 use Rattle.packet.proofs.read_into.Reads as read_into
 use Rattle.packet.proofs.DTVCCPacket.new.Reads as new
@@ -94,10 +93,6 @@ packet-size = equal
 -- `parse_hdr_byte(byte)`
 pub parse-hdr-byte : Determines (parse_hdr_byte.Post (tt {0}))
 parse-hdr-byte = equal
-
--- `reads(data)`
-pub reads : (κs : Lfts 1) → Determines (Reads.Post κs)
-reads κs = equal
 
 -- `reads_in(bytes, len)`
 pub reads-in : (κs : Lfts 1) → Determines (ReadsIn.Post κs)

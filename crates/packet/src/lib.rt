@@ -81,13 +81,6 @@ pub fn parse_hdr_byte(byte: u8) -> Header
     }
 }
 
-// Whether bytes read as a packet.
-pub fn reads(data: &[u8]) -> bool
-    ensures { λ r. ⌜ r ≡ model.reads (now («data» .entry)) ⌝ }
-{
-    blocks::reads(data)
-}
-
 // Whether the first `len` bytes read as a packet; at most 128 are there.
 pub fn reads_in(bytes: &[u8; 128], len: usize) -> bool
     ensures { λ r. ⌜ r ≡ model.reads (take len (now (bytes .entry))) ⌝ }

@@ -7,7 +7,7 @@ use native.Mathlib.Omega.{arith}
 use lib.ListN.{length, getD, take, drop, length-drop, length-append, take-append-drop}
 use lib.Seq.{length-take-le}
 use lib.Dec.{eqb, leb}
-use borrow.Author.Tests.{eqb-true, leb-true}
+use borrow.Author.Tests.{eqb-true}
 use Rattle.caption.specs.declared.Cea608.the-variants.{Field1, Field2}
 use Rattle.caption.specs.Pairs.{cea608Of}
 use Rattle.model.specs.Said.{Outcome, gave, refused, isGiven}
@@ -115,8 +115,3 @@ given (refused why) e = let z : _≡_ {A = ℕ} 0 1 = cc in absurd (omega arith)
 pub slot-read : (s : Slot) → slotFine s ≡ true → (q : Packet) × (readPacket (take (s .len) (s .bytes)) ≡ gave q)
 unfolding slotFine reads
 slot-read s e = given _ (both (leb (s .len) 128) _ e .1)
-
--- and is not longer than its places
-pub slot-short : (s : Slot) → slotFine s ≡ true → s .len ≤ 128
-unfolding slotFine
-slot-short s e = leb-true _ _ (both (leb (s .len) 128) (reads (take (s .len) (s .bytes))) e .0)
