@@ -1,13 +1,12 @@
 """Runs of `ccscript` over the crate and of the port's."""
-import os, platform, shutil, subprocess
+import os, subprocess
 import scripts
 
 HERE = os.path.dirname(os.path.abspath(__file__))
 ROOT = os.path.dirname(HERE)
 CRATE = [os.path.join(HERE, "target/release/ccscript")]
-PORT = [os.path.join(ROOT, "target/bin/ccscript")]
-if platform.machine() != "x86_64" and shutil.which("qemu-x86_64"):
-    PORT = ["qemu-x86_64", "-L", "/usr/x86_64-linux-gnu", *PORT]
+RUN = os.path.join(ROOT, "run")
+PORT = [RUN, "--built", "ccscript"]
 # Scripts are run many at a time, each behind the operations that make everything fresh.
 FRESH = [("b", 1), ("k", 0), ("R",), ("W",)]
 
