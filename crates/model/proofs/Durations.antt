@@ -38,12 +38,7 @@ bytes-time bytes =
     let u = ceil-upward ((bytes + 1) / 2 * (2002 * 10 ^ 6)) 1200000 (omega arith) in
     record { enough = omega (arith, u .enough); close = omega (arith, u .least) }
 
--- "the sum of packet lengths": no packet is rounded by itself
-pub lengths-one : (p : Packet) → lengthsOf (p ∷ []) ≡ packetLength p
-unfolding lengthsOf
-lengths-one p = omega arith
-
--- and the sum is over the packets one by one
+-- "the sum of packet lengths" is over the packets one by one
 pub lengths-append : (ps qs : List Packet) → lengthsOf (ps ++ qs) ≡ lengthsOf ps + lengthsOf qs
 unfolding lengthsOf
 lengths-append [] qs = omega arith

@@ -3,10 +3,10 @@
 use mathlib.Core.Path.{_≡_, refl}
 use mathlib.Core.List.{List, [], _∷_, _++_, map}
 use Prim.Native.Nat.{ℕ}
-use Rattle.model.specs.Said.{Said, Outcome, lengthMismatch, cea608AfterCea708, accepted, gave, refused, mapped}
+use Rattle.model.specs.Said.{Said, Outcome, gave, refused, mapped}
 use Rattle.model.specs.Block.{headerLength, numberIn, needed, isShort, blockIn, readBlock, writtenHeader, writtenBlock, blockLength}
 use Rattle.model.specs.Packet.{Packet, sequenceIn, packetSize, plainMove, tidyMove, blocksFrom, readBy, readPacket, readTidy, blocksLength, packetLength, writtenBlocks, packetHeader, fill, writtenPacket}
-use Rattle.model.specs.Frame.{pair, field1, field2, seen, seenAll, flat, triplesIn, flagged, frameBytes}
+use Rattle.model.specs.Frame.{pair, Cea608, field1, field2, seen, seenAll, flat, triplesIn, flagged, frameBytes}
 use Rattle.model.specs.Demux.{turn608On, freshDemux, pairsIn, lateAfter, lateFrom, carries708, closed, wants, gather, ended, gathered, takeGathered, takeTriples, unread, takeFrame}
 use Rattle.model.specs.Rate.{rounded, budgets}
 use Rattle.model.specs.Mux.{freshMux, queued, pushPacket, isNull, pushPair, pushCea608, turnsDue, turn1, turn2, turned, continued, started, packetTriples, triplesQueued, countDue, send, padding, framed, writeFrame}
@@ -26,10 +26,14 @@ pub data Result : Type 0 where
   bytes : List ℕ → Result
   packet : Packet → Result
   refusal : Said → Result
-  packets : List Said → List Packet → Result
+  items : List Said → List Cea608 → List Packet → Result
+
+-- an answer by its number and its values, as document 01 writes it; 0 is accepted
+abbrev pub says : ℕ → List ℕ → Said
+says number values = record { number = number; values = values }
 
 -- a packet of one block
-abbrev one : ℕ → ℕ → List ℕ → Packet
+abbrev pub one : ℕ → ℕ → List ℕ → Packet
 one sequence number payload = record { sequence = sequence; blocks = record { number = number; payload = payload } ∷ [] }
 
 -- a refusal is told as such, whatever was asked
@@ -49,7 +53,7 @@ answer (header h) = size (sequenceIn h) (packetSize h)
 answer (written p) = bytes (writtenPacket p)
 answer (plain d) = told packet (readPacket d)
 answer (tidy d) = told packet (readTidy d)
-answer (frames fs) = let r = readFrames fs (turn608On freshDemux) in packets (r .answers) (r .packets)
+answer (frames fs) = let r = readFrames fs (turn608On freshDemux) in items (r .answers) (r .pairs) (r .packets)
 answer (frame numer denom calls) = told bytes (unpadded numer denom calls)
 
 -- an example of document 01
@@ -72,18 +76,18 @@ table =
     ∷ row (header 0xFF) (size 3 126)
     ∷ row (written (one 2 1 (0x41 ∷ []))) (bytes (0x82 ∷ 0x21 ∷ 0x41 ∷ 0x00 ∷ []))
     ∷ row (plain (0x02 ∷ 0xE1 ∷ 0x07 ∷ 0x41 ∷ [])) (packet (one 0 7 (0x41 ∷ [])))
-    ∷ row (plain (0x02 ∷ 0xE1 ∷ 0x01 ∷ 0x41 ∷ [])) (refusal (lengthMismatch 2 1))
+    ∷ row (plain (0x02 ∷ 0xE1 ∷ 0x01 ∷ 0x41 ∷ [])) (refusal (says 1 (2 ∷ 1 ∷ [])))
     ∷ row (plain (0x02 ∷ 0x01 ∷ 0x21 ∷ 0x41 ∷ [])) (packet (one 0 1 (0x41 ∷ [])))
-    ∷ row (tidy (0x02 ∷ 0x01 ∷ 0x21 ∷ 0x41 ∷ [])) (refusal (lengthMismatch 2 1))
-    ∷ row (plain (0x01 ∷ 0x21 ∷ 0x41 ∷ 0x00 ∷ [])) (refusal (lengthMismatch 2 4))
+    ∷ row (tidy (0x02 ∷ 0x01 ∷ 0x21 ∷ 0x41 ∷ [])) (refusal (says 1 (2 ∷ 1 ∷ [])))
+    ∷ row (plain (0x01 ∷ 0x21 ∷ 0x41 ∷ 0x00 ∷ [])) (refusal (says 1 (2 ∷ 4 ∷ [])))
     ∷ row (plain (0x08 ∷ 0x21 ∷ 0x41 ∷ [])) (packet (one 0 1 (0x41 ∷ [])))
-    ∷ row (tidy (0x08 ∷ 0x21 ∷ 0x41 ∷ [])) (refusal (lengthMismatch 16 3))
-    ∷ row (frames ((0xC2 ∷ 0xFF ∷ 0xFF ∷ 0x02 ∷ 0x21 ∷ []) ∷ [])) (packets (lengthMismatch 7 5 ∷ []) [])
-    ∷ row (frames ((0xC2 ∷ 0xFF ∷ 0xFA ∷ 0x00 ∷ 0x00 ∷ 0xFC ∷ 0x94 ∷ 0x2C ∷ []) ∷ [])) (packets (cea608AfterCea708 3 ∷ []) [])
-    ∷ row (frames ((0xC1 ∷ 0xFF ∷ 0xFF ∷ 0x02 ∷ 0x21 ∷ []) ∷ [])) (packets (accepted [] ∷ []) [])
+    ∷ row (tidy (0x08 ∷ 0x21 ∷ 0x41 ∷ [])) (refusal (says 1 (16 ∷ 3 ∷ [])))
+    ∷ row (frames ((0xC2 ∷ 0xFF ∷ 0xFF ∷ 0x02 ∷ 0x21 ∷ []) ∷ [])) (items (says 1 (7 ∷ 5 ∷ []) ∷ []) [] [])
+    ∷ row (frames ((0xC2 ∷ 0xFF ∷ 0xFA ∷ 0x00 ∷ 0x00 ∷ 0xFC ∷ 0x94 ∷ 0x2C ∷ []) ∷ [])) (items (says 2 (3 ∷ []) ∷ []) [] [])
+    ∷ row (frames ((0xC1 ∷ 0xFF ∷ 0xFF ∷ 0x02 ∷ 0x21 ∷ []) ∷ [])) (items (says 0 [] ∷ []) [] [])
     ∷ row
     (frames ((0xC1 ∷ 0xFF ∷ 0xFF ∷ 0x02 ∷ 0x21 ∷ []) ∷ (0xC1 ∷ 0xFF ∷ 0xFE ∷ 0x41 ∷ 0x00 ∷ []) ∷ []))
-    (packets (accepted [] ∷ accepted [] ∷ []) (one 0 1 (0x41 ∷ []) ∷ []))
+    (items (says 0 [] ∷ says 0 [] ∷ []) [] (one 0 1 (0x41 ∷ []) ∷ []))
     ∷ row (frame 30 1 (pushes608 (field2 (pair 0x15 0x2C)) ∷ [])) (bytes (0xC2 ∷ 0xFF ∷ 0xFC ∷ 0x80 ∷ 0x80 ∷ 0xFD ∷ 0x15 ∷ 0x2C ∷ []))
     ∷ row
     (frame 30 1 (twice942C ++ (pushes (one 2 1 (0x41 ∷ [])) ∷ [])))

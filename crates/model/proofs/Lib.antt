@@ -10,5 +10,6 @@ pub mod Frames
 pub mod Sends
 pub mod Pushing
 pub mod Examples
+pub mod Slips
 pub mod DemuxStates
 pub mod MuxStates

@@ -1,0 +1,84 @@
+-- Two tables beside document 01's: what rules out the slips that it names and that its own starred examples leave open, and each refusal once,
+-- by its number and the values that it carries. Assumes nothing.
+use mathlib.Core.Path.{_≡_, refl}
+use mathlib.Core.Bool.{true, false}
+use mathlib.Core.List.{List, [], _∷_}
+use Prim.Native.Nat.{ℕ}
+use lib.ListN.{replicate}
+use Rattle.model.specs.Said.{Said, Outcome, gave, checked, putInto}
+use Rattle.model.specs.Said as said
+use Rattle.model.specs.Block.{Block, headerLength, numberIn, needed, isShort, blockIn, readBlock, newBlock, pushToBlock, writtenHeader, writtenBlock, blockLength}
+use Rattle.model.specs.Packet.{Packet, packetSize, plainMove, blocksFrom, readBy, readPacket, blocksLength, packetLength, pushBlock, latestOf, pushNew, pushAt, pushRunAt, pushRunBy, pushRun, pushRunSingle}
+use Rattle.model.specs.Frame.{Pair, pair, Cea608, field1, field2, seen, seenAll, triplesIn, flagged}
+use Rattle.model.specs.Demux.{turn608On, freshDemux, pairsIn, lateAfter, lateFrom, carries708, closed, wants, gather, ended, gathered, takeGathered, takeTriples, unread, takeFrame}
+use Rattle.model.specs.Rate.{rounded, budgets}
+use Rattle.model.specs.Mux.{Mux, freshMux, withPackets, queued, isNull, pushPair}
+use Rattle.model.specs.Duration.{ceil, pairsDuration, lengthsOf, bytesLeft, bytesDuration, packetDuration}
+use Rattle.model.specs.Run.{Read, readFrames}
+use Rattle.model.proofs.Examples.{says, one}
+
+-- what a fresh demultiplexer with 608 on gives for frames
+abbrev given : List (List ℕ) → Read
+given fs = readFrames fs (turn608On freshDemux)
+
+-- a packet's first half, a frame with a pair alone, and the other half
+abbrev halves : List (List ℕ)
+halves = (0xC1 ∷ 0xFF ∷ 0xFF ∷ 0x02 ∷ 0x21 ∷ []) ∷ (0xC1 ∷ 0xFF ∷ 0xFC ∷ 0x94 ∷ 0x2C ∷ []) ∷ (0xC1 ∷ 0xFF ∷ 0xFE ∷ 0x41 ∷ 0x00 ∷ []) ∷ []
+
+-- a frame of 608 data keeps the bytes that are pending: the packet comes whole, and so does the pair
+pub pending-kept : given halves .packets ≡ one 0 1 (0x41 ∷ []) ∷ []
+unfolding
+    headerLength numberIn needed isShort blockIn readBlock packetSize plainMove blocksFrom readBy readPacket writtenHeader writtenBlock blockLength
+    seen seenAll triplesIn flagged pairsIn lateAfter lateFrom carries708 closed wants gather ended gathered takeGathered takeTriples unread takeFrame readFrames
+pending-kept = refl
+
+-- a triple that is not valid ends the 608 part, so that a pair before it is listed and one behind it is not
+pub void-ends-608 : given ((0xC3 ∷ 0xFF ∷ 0xFC ∷ 0x15 ∷ 0x2C ∷ 0xFA ∷ 0x00 ∷ 0x00 ∷ 0xFC ∷ 0x94 ∷ 0x2C ∷ []) ∷ []) .pairs ≡ field1 (pair 0x15 0x2C) ∷ []
+unfolding seen seenAll triplesIn flagged pairsIn lateAfter lateFrom carries708 gather ended gathered takeGathered takeTriples unread takeFrame readFrames
+void-ends-608 = refl
+
+-- "one pair; two 3-byte packets": the sum is of lengths as they are, and is rounded once
+pub durations : pairsDuration 1 ∷ packetDuration (withPackets (one 0 1 (0x41 ∷ []) ∷ one 0 1 (0x41 ∷ []) ∷ []) freshMux) ∷ [] ≡ 16684 ∷ 5005 ∷ []
+unfolding ceil pairsDuration lengthsOf bytesLeft bytesDuration writtenHeader writtenBlock blockLength blocksLength packetLength
+durations = refl
+
+-- a block without payload, and one with the most
+abbrev block : ℕ → List ℕ → Block
+block number payload = record { number = number; payload = payload }
+
+-- a packet without blocks
+abbrev bare : Packet
+bare = record { sequence = 0; blocks = [] }
+
+-- a run of so many bytes
+abbrev run : ℕ → List ℕ
+run n = replicate n 0x41
+
+-- a packet whose block of service 1 is full, and another run for that service: "a new block is made"; the single-service form refuses
+pub full-block : said.isGiven (pushRun 1 (run 1) (one 0 1 (run 31))) ∷ said.isGiven (pushRunSingle 1 (run 1) (one 0 1 (run 31))) ∷ [] ≡ true ∷ false ∷ []
+unfolding latestOf pushNew pushAt pushRunAt pushRunBy writtenHeader writtenBlock blockLength blocksLength packetLength
+full-block = refl
+
+-- Each refusal of document 01's table, by one call that gives it.
+unfoldable pub refusals : List Said
+refusals =
+    said.says (readPacket [])
+    ∷ takeFrame (0xC2 ∷ 0xFF ∷ 0xFA ∷ 0x00 ∷ 0x00 ∷ 0xFC ∷ 0x94 ∷ 0x2C ∷ []) freshDemux .answer
+    ∷ said.says (pushToBlock (run 33) (block 1 []))
+    ∷ said.says (pushToBlock (run 1) (block 0 []))
+    ∷ said.says (pushBlock (block 1 []) bare)
+    ∷ said.says (newBlock 64)
+    ∷ said.says (pushToBlock [] (block 1 []))
+    ∷ said.says (budgets 121 1)
+    ∷ said.says (putInto (0x00 ∷ []) (run 3))
+    ∷ said.says (pushPair (pair 0x94 0x2C) (replicate 64 (pair 0x94 0x2C)))
+    ∷ said.says (checked false (gave bare))
+    ∷ []
+
+-- their numbers, and the values that they carry
+pub refusals-told : refusals
+    ≡ says 1 (1 ∷ 0 ∷ []) ∷ says 2 (3 ∷ []) ∷ says 3 (2 ∷ []) ∷ says 4 [] ∷ says 5 [] ∷ says 6 [] ∷ says 7 [] ∷ says 8 [] ∷ says 9 (3 ∷ []) ∷ says 10 [] ∷ says 11 [] ∷ []
+unfolding
+    refusals readBy readPacket packetSize seen seenAll triplesIn flagged pairsIn lateAfter lateFrom takeTriples unread takeFrame pushToBlock blockLength blocksLength packetLength pushBlock
+    newBlock rounded budgets putInto isNull queued pushPair
+refusals-told = refl
