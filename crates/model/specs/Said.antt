@@ -1,5 +1,7 @@
 -- What a call answers: document 01, "What comes back". Of several refusals that a call could give, "11 comes first, then 6, 7, 8, then the
--- Rust's own, then 10; 9 is last." Each call of this folder tests in that order. Assumes nothing.
+-- Rust's own, then 10; 9 is last." The calls of this folder are of values within the limits, and test in that order from 6 on. That 11 comes
+-- before is `checked`: a contract puts it round the call, with the test of this folder (`validBlock`, `validPacket`, `validDemux`, `validMux`) for
+-- what a value means, beside the test that its places are in order. Assumes nothing.
 use mathlib.Core.Bool.{Bool, true, false, cond}
 use mathlib.Core.List.{List, [], _∷_, _++_}
 use Prim.Native.Nat.{ℕ}
