@@ -12,13 +12,13 @@ use Rattle.model.specs.Rate.{Budgets}
 use Rattle.model.specs.Mux.{Mux, writeFrame}
 use Rattle.model.specs.Run.{Call, pushes, pushes608, pads, writes, Run, call, run, AllowedCall, Allowed, Read, emptied, readFrames, ofField1, ofField2, others}
 use Rattle.model.proofs.Packets.{valid-facts}
-use Rattle.journey.specs.Bounds.{Field, one, two, queueOf}
+use Rattle.journey.specs.Bounds.{Field, one, two, queueOf, acceptedOf}
 use Rattle.journey.proofs.Turns.{ofField, others-append}
 use Rattle.journey.proofs.Gather.{AllStored, none, also, underway}
 use Rattle.journey.proofs.Count.{fits, counted}
 use Rattle.journey.proofs.Taking.{holding}
 use Rattle.journey.proofs.Round.{Ready, round}
-use Rattle.journey.proofs.Calls.{acceptedOf, none-accepted, thenRun, accepted-append, Quiet, quiet-none, quiet-pads, quiet-608, quiet-push, stored-push}
+use Rattle.journey.proofs.Calls.{none-accepted, thenRun, accepted-append, Quiet, quiet-none, quiet-pads, quiet-608, quiet-push, stored-push}
 
 -- What was there and what came in is, in order, what went out and what is there now.
 pub record Kept {A : Type 0} (before into out now : List A) : Type 0 where

@@ -2,7 +2,7 @@
 use mathlib.Core.Path.{_≡_, refl, sym, ap, _∙_}
 use mathlib.Core.Bool.{true, false≢true}
 use mathlib.Core.List.{List, [], _∷_}
-use Prim.Native.Nat.{ℕ, _*_, _≤_}
+use Prim.Native.Nat.{ℕ, _≤_}
 use native.Mathlib.Omega.{arith}
 use lib.ListN.{length, take, drop, length-map}
 use lib.Seq.{length-take-le}
@@ -12,11 +12,11 @@ use Rattle.model.specs.Said.{Outcome, gave, refused, isGiven, saysWith}
 use Rattle.model.specs.Frame as model
 use Rattle.model.specs.Frame.{mostFrame, frameBytes, triplesIn}
 use Rattle.model.specs.Rate.{Budgets, budgets}
-use Rattle.model.specs.Mux.{freshMux, writeFrame}
+use Rattle.model.specs.Mux.{Mux, freshMux, writeFrame}
 use Rattle.model.specs.Run as runs
 use Rattle.model.proofs.Frames.{unflat}
 use Rattle.journey.specs.Bounds as journey
-use Rattle.journey.specs.Bounds.{Field, one, two, Left}
+use Rattle.journey.specs.Bounds.{Field, one, two, acceptedOf}
 use Rattle.journey.proofs.Leaves as leaves
 use Rattle.journey.proofs.Four as four
 use Rattle.journey.proofs.Drains as drains
@@ -38,7 +38,7 @@ use Rattle.writer.specs.declared.WriterCount.{WriterCount}
 use Rattle.theorems.specs.Items.{Items, noItems}
 use Rattle.theorems.specs.Allowed.{Lent, NewWriter, Write}
 use Rattle.theorems.specs.Writing.{Calls, Padded, Drained}
-use Rattle.theorems.specs.Bounds.{queueAt, unsentOf, SendsFour}
+use Rattle.theorems.specs.Bounds.{queueAt, pairsAt, SendsFour, LeavesInTime, DrainsInTime}
 use Rattle.theorems.proofs.Following.{Follows}
 use Rattle.theorems.proofs.Frames.{Writes, no-frame, one-frame, wrote, write-does}
 use Rattle.theorems.proofs.Sequences.{follows, from-fresh}
@@ -53,6 +53,12 @@ pub queue-means : (f : Field) (w : CCDataWriter) → journey.queueOf f (means w)
 unfolding means
 queue-means one w = refl
 queue-means two w = refl
+
+-- and what is accepted of the field is what the model accepts
+pub came : {s : Mux} {w : CCDataWriter} {fs : List (List ℕ)} {is : Items} {pad : Type 0} (f : Field) (k : Follows s fs is w pad)
+    → runs.others (acceptedOf f (runs.run (k .calls) s)) ≡ pairsAt f is
+came one k = k .pairs1
+came two k = k .pairs2
 
 -- a state that is drained in the model is drained
 drained-back : (w : CCDataWriter) → Sound w → runs.Drained (means w) → Drained w
@@ -100,11 +106,11 @@ module _ {w₀ w : CCDataWriter} {fs₀ : List (List ℕ)} {is₀ : Items} (new 
 
   -- "The pair at place i of its field leaves within 2i accepted writes": whatever is pushed or switched between them, once 2i writes or more have
   -- been accepted the first i places of what was queued have gone.
-  pub pair-leaves : {w′ : CCDataWriter} {fs : List (List ℕ)} {is : Items} → Calls w fs is w′ → (f : Field) (i : ℕ) → i ≤ length (queueAt f w) → 2 * i ≤ length fs
-      → Left i (queueAt f w) (queueAt f w′)
+  pub pair-leaves : {w′ : CCDataWriter} {fs : List (List ℕ)} {is : Items} → Calls w fs is w′ → (f : Field) → LeavesInTime f w fs is w′
   pair-leaves {w′} c f i there writes =
       let k = follows c (reached .sound) in
-      rw (← queue-means f w, ← queue-means f w′, ← k .last) (leaves.leaves f (k .calls) (means w) i (k .rates) (rw (queue-means f w) there) (omega (arith, k .writes)))
+      rw (← queue-means f w, ← queue-means f w′, ← k .last, ← came f k)
+      (leaves.leaves f (k .calls) (means w) (k .rates) i (rw (queue-means f w) there) (omega (arith, k .writes)))
 
   -- "each sends at least four packet triples or all that remain"
   pub sends-four : (κs : Lfts 1) (rate : Framerate) (out end : Lent) (r : WriterCount) → Write κs w rate out end r
@@ -124,8 +130,7 @@ module _ {w₀ w : CCDataWriter} {fs₀ : List (List ℕ)} {is₀ : Items} (new 
 
   -- so many accepted writes drain a multiplexer, if nothing more is accepted: twice as many as the pairs of either field, and a quarter of the
   -- packet triples
-  pub writes-drain : {w′ : CCDataWriter} {fs : List (List ℕ)} → Calls w fs noItems w′
-      → 2 * w .field1 .count ≤ length fs → 2 * w .field2 .count ≤ length fs → unsentOf w ≤ 4 * length fs → Drained w′
+  pub writes-drain : {w′ : CCDataWriter} {fs : List (List ℕ)} → Calls w fs noItems w′ → DrainsInTime w fs w′
   writes-drain {w′} c k₁ k₂ u =
       let ok = sound-ok w (reached .sound) in
       let k = follows c (reached .sound) in

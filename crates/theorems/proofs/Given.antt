@@ -1,23 +1,23 @@
 -- A pair that has left its queue has been given. Assumes nothing.
 use mathlib.Core.Path.{_≡_, refl, sym, ap, subst, _∙_}
 use mathlib.Core.List.{List, [], _∷_, _++_}
-use Prim.Native.Nat.{ℕ, _*_, _≤_}
+use Prim.Native.Nat.{ℕ, _≤_}
 use native.Mathlib.Omega.{arith}
 use lib.ListN.{length, take, drop, replicate, length-append, take-append-drop}
 use Rattle.model.specs.Said as said
 use Rattle.model.specs.Frame.{Pair}
 use Rattle.model.specs.Demux.{Demux, freshDemux, turn608On, validDemux}
-use Rattle.model.specs.Mux.{Mux, freshMux}
+use Rattle.model.specs.Mux.{Mux, freshMux, isNull}
 use Rattle.model.specs.Run.{Read, Run, run, readFrames, others}
-use Rattle.journey.specs.Bounds.{Field, one, two}
+use Rattle.model.proofs.Cases.{by-test}
+use Rattle.journey.specs.Bounds.{Field, one, two, acceptedOf, Left}
 use Rattle.journey.specs.Bounds as journey
 use Rattle.journey.proofs.Turns.{ofField, others-append}
 use Rattle.journey.proofs.Triples.{stop}
 use Rattle.journey.proofs.Gather as gather
 use Rattle.journey.proofs.Taking.{holding}
-use Rattle.journey.proofs.Calls.{acceptedOf}
 use Rattle.journey.proofs.Carried.{Carried, carried}
-use Rattle.journey.proofs.Leaves.{Went, goes, first-gone}
+use Rattle.journey.proofs.Leaves.{leaves, first-gone}
 use Rattle.caption.specs.declared.Refusal.{Refusal}
 use Rattle.writer.specs.Writer.{means}
 use Rattle.writer.specs.declared.CCDataWriter.{CCDataWriter}
@@ -28,7 +28,7 @@ use Rattle.theorems.specs.Items.{Items}
 use Rattle.theorems.specs.Allowed.{NewWriter, NewParser, HandleCea608}
 use Rattle.theorems.specs.Writing.{Calls, Padded}
 use Rattle.theorems.specs.Reading.{Feeds}
-use Rattle.theorems.specs.Bounds.{queueAt, pairsAt, BeginsWith}
+use Rattle.theorems.specs.Bounds.{pairsAt, BeginsWith, GivenInTime}
 use Rattle.theorems.proofs.Sequences.{follows, from-fresh}
 use Rattle.theorems.proofs.Feeding.{itemsRead, feeds}
 use Rattle.theorems.proofs.Trip.{given-fed}
@@ -44,6 +44,12 @@ same-front (x ∷ xs) (y ∷ ys) z e =
     let t : xs ++ z ≡ ys ++ z = (cc) in
     rw (h, same-front xs ys z t)
 
+-- pairs other than 0x80,0x80 are such
+others-twice : (xs : List Pair) → others (others xs) ≡ others xs
+unfolding others
+others-twice [] = refl
+others-twice (x ∷ xs) = by-test (isNull x) (λ e. rw e (others-twice xs)) (λ e. rw (e, e) (ap (λ (l : List Pair). x ∷ l) (others-twice xs)))
+
 -- what is read of a field
 read-pairs : (f : Field) (o : Read) → pairsAt f (itemsRead o) ≡ others (ofField f (o .pairs))
 read-pairs one o = refl
@@ -52,13 +58,12 @@ read-pairs two o = refl
 -- Calls from s, whose frames are read by a demultiplexer that holds g: what is read of a field begins with the pairs at the first i places of
 -- its queue, once 2i writes or more were accepted.
 read-begins : {s : Mux} {g : List ℕ} {r : Run} {o : Read} (f : Field) (i : ℕ) → i ≤ length (journey.queueOf f s)
-    → Carried s g r o → Went i (journey.queueOf f s) (acceptedOf f r) (journey.queueOf f (r .last)) → BeginsWith (others (take i (journey.queueOf f s))) (others (ofField f (o .pairs)))
-read-begins {s} {r} {o} f i there c v =
-    let w = v .left in
+    → Carried s g r o → Left i (journey.queueOf f s) (others (acceptedOf f r)) (journey.queueOf f (r .last)) → BeginsWith (others (take i (journey.queueOf f s))) (others (ofField f (o .pairs)))
+read-begins {s} {r} {o} f i there c w =
     let q = journey.queueOf f s in
     let q′ = journey.queueOf f (r .last) in
     let went : others q ++ others (acceptedOf f r) ≡ others (w .gone) ++ others q′ =
-    rw (← v .came) (sym (others-append q (w .new)) ∙ ap others (w .cut) ∙ others-append (w .gone) q′) in
+    rw (← others-twice (acceptedOf f r)) (sym (others-append q (others (acceptedOf f r))) ∙ ap others (w .cut) ∙ others-append (w .gone) q′) in
     let read : others (ofField f (o .pairs)) ≡ others (w .gone) = same-front _ _ (others q′) (sym (c .pairs f .same) ∙ went) in
     let parts : w .gone ≡ take i q ++ drop i (w .gone) = sym (take-append-drop i (w .gone)) ∙ ap (λ (l : List Pair). l ++ drop i (w .gone)) (first-gone w there) in
     record { rest = others (drop i (w .gone)); whole = read ∙ ap others parts ∙ others-append (take i q) (drop i (w .gone)) }
@@ -72,9 +77,8 @@ framed {s} {g} r d fs e c = subst (λ (x : List (List ℕ)). Carried s g r (read
 pub pair-given : {w₀ w w′ : CCDataWriter} {p₀ p p′ : CCDataParser} {fs₀ fs : List (List ℕ)} {is₀ is given₀ given : Items} {on : ParserAnswer} {refused₀ refused : List Refusal}
     → NewWriter w₀ → (before : Calls w₀ fs₀ is₀ w) → Padded before → (behind : Calls w fs is w′) → Padded behind
     → NewParser p₀ → HandleCea608 p₀ on → Feeds (on .parser) fs₀ refused₀ given₀ p → Feeds p fs refused given p′
-    → (f : Field) (i : ℕ) → i ≤ length (queueAt f w) → 2 * i ≤ length fs
-    → (refused ≡ []) × BeginsWith (others (take i (queueAt f w))) (pairsAt f given)
-pair-given {w} {p} {fs₀} {fs} {given} new before padded behind padded′ newParser turned read₀ read f i there writes =
+    → (refused ≡ []) × ((f : Field) → GivenInTime f w fs given)
+pair-given {w} {p} {fs₀} {fs} {given} new before padded behind padded′ newParser turned read₀ read =
     let k = from-fresh new before in
     let o : Read = readFrames fs₀ (turn608On freshDemux) in
     let t = framed (run (k .calls) freshMux) (turn608On freshDemux) fs₀ (k .frames) (carried (k .calls) freshMux [] (k .allowed padded) (record { linked = gather.lost stop; rested = λ e. refl; stored = gather.none })) in
@@ -84,7 +88,10 @@ pair-given {w} {p} {fs₀} {fs} {given} new before padded behind padded′ newPa
     let c = framed (run (m .calls) (means w)) (holding g) fs (m .frames) (carried (m .calls) (means w) g (m .allowed padded′) (rw (k .last) at (t .ready))) in
     let at : parser.means p ≡ holding g = d .means ∙ t .held in
     let e = feeds read (d .sound) (ap validDemux (d .means) ∙ d .valid) (ap (λ (x : Demux). readFrames fs x .answers) at ∙ c .answers ∙ ap (λ (x : List (List ℕ)). replicate (length x) (said.accepted [])) (m .frames)) in
-    let z : given ≡ itemsRead (readFrames fs (holding g)) = e .items ∙ ap (λ (x : Demux). itemsRead (readFrames fs x)) at in
-    let h : i ≤ length (journey.queueOf f (means w)) = rw (queue-means f w) there in
-    let b = read-begins f i h c (goes f (m .calls) (means w) i (m .rates) h (omega (arith, m .writes))) in
-    (e .no-refusal, rw (z, read-pairs f (readFrames fs (holding g)), ← queue-means f w) b)
+    let z : given ≡ itemsRead (readFrames fs (holding g)) = e .items ∙ ap (λ (x : Demux). itemsRead (readFrames fs x)) at in (
+      e .no-refusal,
+      λ f i there writes.
+          let h : i ≤ length (journey.queueOf f (means w)) = rw (queue-means f w) there in
+          let b = read-begins f i h c (leaves f (m .calls) (means w) (m .rates) i h (omega (arith, m .writes))) in
+          rw (z, read-pairs f (readFrames fs (holding g)), ← queue-means f w) b,
+    )
