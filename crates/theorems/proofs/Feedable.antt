@@ -8,7 +8,7 @@ use denote.Ref.{now}
 use Rattle.model.specs.Packet.{Packet}
 use Rattle.model.specs.Frame.{Cea608}
 use Rattle.model.specs.Demux as model
-use Rattle.caption.specs.declared.Refusal.{Refusal}
+use Rattle.caption.specs.declared.Answer.{Answer}
 use Rattle.parser.specs.Means.{means}
 use Rattle.parser.specs.Push.{pushed}
 use Rattle.parser.specs.Draw.{drawn}
@@ -17,6 +17,7 @@ use Rattle.parser.proofs.Kept.{Sound, pushed-sound}
 use Rattle.parser.proofs.Calls.{pushed-answers}
 use Rattle.parser.specs.declared.CCDataParser.{CCDataParser}
 use Rattle.parser.specs.declared.Drawn.{Drawn}
+use Rattle.parser.specs.declared.Item as parser
 use Rattle.theorems.specs.Items.{Items}
 use Rattle.theorems.specs.Allowed.{Lent, Draw}
 use Rattle.theorems.specs.Reading.{Empties, nothing-left, draw, Feeds, no-frame, feed}
@@ -36,10 +37,10 @@ draw-allowed p s = let c : Draws p (drawing p) = record { item = rw (s .valid) (
 
 -- draws until there is nothing left
 record Emptiable (p : CCDataParser) : Type 0 where
-  refusals : List Refusal
+  told : List parser.Item
   items : Items
   last : CCDataParser
-  draws : Empties p refusals items last
+  draws : Empties p told items last
   sound : Sound last
 
 module _ (on : Bool) (pending : List ℕ) where
@@ -50,30 +51,31 @@ module _ (on : Bool) (pending : List ℕ) where
   empties-to [] [] p s e =
       let a = draw-allowed p s in
       let k = drew p (drawing p) _ s e a in
-      record { refusals = []; items = _; last = _; draws = nothing-left (drawing p) a (k .item); sound = k .sound }
+      record { told = _; items = _; last = _; draws = nothing-left (drawing p) a (k .item); sound = k .sound }
   empties-to [] (q ∷ waiting) p s e =
       let a = draw-allowed p s in
       let k = drew p (drawing p) _ s e a in
       let m = empties-to [] waiting (drawn p .parser) (k .sound) (k .means) in
-      record { refusals = _; items = _; last = m .last; draws = draw (drawing p) a (λ z. packet-some (sym (k .item) ∙ z)) (m .draws); sound = m .sound }
+      record { told = _; items = _; last = m .last; draws = draw (drawing p) a (λ z. packet-some (sym (k .item) ∙ z)) (m .draws); sound = m .sound }
   empties-to (x ∷ pairs) waiting p s e =
       let a = draw-allowed p s in
       let k = drew p (drawing p) _ s e a in
       let m = empties-to pairs waiting (drawn p .parser) (k .sound) (k .means) in
-      record { refusals = _; items = _; last = m .last; draws = draw (drawing p) a (λ z. pair-some (drawnPair x) (sym (k .item) ∙ z)) (m .draws); sound = m .sound }
+      record { told = _; items = _; last = m .last; draws = draw (drawing p) a (λ z. pair-some (drawnPair x) (sym (k .item) ∙ z)) (m .draws); sound = m .sound }
 
 -- frames, each followed by draws until there is nothing left
 pub record Feedable (p : CCDataParser) (frames : List (List ℕ)) : Type 0 where
-  pub refusals : List Refusal
+  pub answers : List Answer
+  pub told : List parser.Item
   pub items : Items
   pub last : CCDataParser
-  pub feeds : Feeds p frames refusals items last
+  pub feeds : Feeds p frames answers told items last
 
 -- any frames can be fed to any state within the limits
 pub feedable : (κs : Lfts 1) (frames : List (List ℕ)) (p : CCDataParser) → Sound p → Feedable p frames
-feedable κs [] p s = record { refusals = []; items = _; last = p; feeds = no-frame }
+feedable κs [] p s = record { answers = []; told = []; items = _; last = p; feeds = no-frame }
 feedable κs (f ∷ frames) p s =
     let q : CCDataParser = pushed p f .parser in
     let m = empties-to (means q .on608) (means q .pending) (means q .pairs) (means q .waiting) q (pushed-sound p f s) refl in
     let k = feedable κs frames (m .last) (m .sound) in
-    record { refusals = _; items = _; last = k .last; feeds = feed κs (lent f) (pushed p f) (pushed-answers p f (pushed p f) (s .shaped) refl) (m .draws) (k .feeds) }
+    record { answers = _; told = _; items = _; last = k .last; feeds = feed κs (lent f) (pushed p f) (pushed-answers p f (pushed p f) (s .shaped) refl) (m .draws) (k .feeds) }

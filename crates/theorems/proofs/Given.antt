@@ -18,19 +18,20 @@ use Rattle.journey.proofs.Gather as gather
 use Rattle.journey.proofs.Taking.{holding}
 use Rattle.journey.proofs.Carried.{Carried, carried}
 use Rattle.journey.proofs.Leaves.{leaves, first-gone}
-use Rattle.caption.specs.declared.Refusal.{Refusal}
+use Rattle.caption.specs.declared.Answer.{Answer}
 use Rattle.writer.specs.Writer.{means}
 use Rattle.writer.specs.declared.CCDataWriter.{CCDataWriter}
 use Rattle.parser.specs.Means as parser
 use Rattle.parser.specs.declared.CCDataParser.{CCDataParser}
 use Rattle.parser.specs.declared.ParserAnswer.{ParserAnswer}
+use Rattle.parser.specs.declared.Item.{Item}
 use Rattle.theorems.specs.Items.{Items}
 use Rattle.theorems.specs.Allowed.{NewWriter, NewParser, HandleCea608}
 use Rattle.theorems.specs.Writing.{Calls, Padded}
-use Rattle.theorems.specs.Reading.{Feeds}
+use Rattle.theorems.specs.Reading.{Feeds, NoRefusal}
 use Rattle.theorems.specs.Bounds.{pairsAt, BeginsWith, GivenInTime}
 use Rattle.theorems.proofs.Sequences.{follows, from-fresh}
-use Rattle.theorems.proofs.Feeding.{itemsRead, feeds}
+use Rattle.theorems.proofs.Feeding.{itemsRead, feeds, no-refusal}
 use Rattle.theorems.proofs.Trip.{given-fed}
 use Rattle.theorems.proofs.Bounds.{queue-means}
 
@@ -74,22 +75,23 @@ framed {s} {g} r d fs e c = subst (λ (x : List (List ℕ)). Carried s g r (read
 
 -- "The pair at place i of its field leaves within 2i accepted writes", and a demultiplexer that was fed every frame before has given it by then: of
 -- what it gives from there on each field's pairs begin with those at the first i places, but for 0x80,0x80.
-pub pair-given : {w₀ w w′ : CCDataWriter} {p₀ p p′ : CCDataParser} {fs₀ fs : List (List ℕ)} {is₀ is given₀ given : Items} {on : ParserAnswer} {refused₀ refused : List Refusal}
+pub pair-given : {w₀ w w′ : CCDataWriter} {p₀ p p′ : CCDataParser} {fs₀ fs : List (List ℕ)} {is₀ is given₀ given : Items} {on : ParserAnswer} {answers₀ answers : List Answer} {told₀ told : List Item}
     → NewWriter w₀ → (before : Calls w₀ fs₀ is₀ w) → Padded before → (behind : Calls w fs is w′) → Padded behind
-    → NewParser p₀ → HandleCea608 p₀ on → Feeds (on .parser) fs₀ refused₀ given₀ p → Feeds p fs refused given p′
-    → (refused ≡ []) × ((f : Field) → GivenInTime f w fs given)
+    → NewParser p₀ → HandleCea608 p₀ on → Feeds (on .parser) fs₀ answers₀ told₀ given₀ p → Feeds p fs answers told given p′
+    → NoRefusal fs answers told × ((f : Field) → GivenInTime f w fs given)
 pair-given {w} {p} {fs₀} {fs} {given} new before padded behind padded′ newParser turned read₀ read =
     let k = from-fresh new before in
     let o : Read = readFrames fs₀ (turn608On freshDemux) in
     let t = framed (run (k .calls) freshMux) (turn608On freshDemux) fs₀ (k .frames) (carried (k .calls) freshMux [] (k .allowed padded) (record { linked = gather.lost stop; rested = λ e. refl; stored = gather.none })) in
-    let d = given-fed newParser turned read₀ (t .answers ∙ ap (λ (x : List (List ℕ)). replicate (length x) (said.accepted [])) (k .frames)) .1 in
+    let d = given-fed newParser turned read₀ .1 in
     let m = follows behind (k .sound) in
     let g : List ℕ = o .last .pending in
     let c = framed (run (m .calls) (means w)) (holding g) fs (m .frames) (carried (m .calls) (means w) g (m .allowed padded′) (rw (k .last) at (t .ready))) in
     let at : parser.means p ≡ holding g = d .means ∙ t .held in
-    let e = feeds read (d .sound) (ap validDemux (d .means) ∙ d .valid) (ap (λ (x : Demux). readFrames fs x .answers) at ∙ c .answers ∙ ap (λ (x : List (List ℕ)). replicate (length x) (said.accepted [])) (m .frames)) in
+    let e = feeds read (d .sound) (ap validDemux (d .means) ∙ d .valid) in
+    let fine = ap (λ (x : Demux). readFrames fs x .answers) at ∙ c .answers ∙ ap (λ (x : List (List ℕ)). replicate (length x) (said.accepted [])) (m .frames) in
     let z : given ≡ itemsRead (readFrames fs (holding g)) = e .items ∙ ap (λ (x : Demux). itemsRead (readFrames fs x)) at in (
-      e .no-refusal,
+      no-refusal e fine,
       λ f i there writes.
           let h : i ≤ length (journey.queueOf f (means w)) = rw (queue-means f w) there in
           let b = read-begins f i h c (leaves f (m .calls) (means w) (m .rates) i h (omega (arith, m .writes))) in

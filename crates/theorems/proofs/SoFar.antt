@@ -15,18 +15,19 @@ use Rattle.journey.specs.Bounds.{one, two}
 use Rattle.journey.proofs.Triples.{stop}
 use Rattle.journey.proofs.Gather as gather
 use Rattle.journey.proofs.Carried as journey
-use Rattle.caption.specs.declared.Refusal.{Refusal}
+use Rattle.caption.specs.declared.Answer.{Answer}
 use Rattle.writer.specs.Writer.{means}
 use Rattle.writer.specs.declared.CCDataWriter.{CCDataWriter}
 use Rattle.parser.specs.declared.CCDataParser.{CCDataParser}
 use Rattle.parser.specs.declared.ParserAnswer.{ParserAnswer}
+use Rattle.parser.specs.declared.Item.{Item}
 use Rattle.theorems.specs.Items.{Items}
 use Rattle.theorems.specs.Allowed.{NewWriter, NewParser, HandleCea608}
 use Rattle.theorems.specs.Writing.{Calls, Padded}
-use Rattle.theorems.specs.Reading.{Feeds}
+use Rattle.theorems.specs.Reading.{Feeds, NoRefusal}
 use Rattle.theorems.specs.Trip.{SoFar}
 use Rattle.theorems.proofs.Sequences.{from-fresh}
-use Rattle.theorems.proofs.Feeding.{itemsRead}
+use Rattle.theorems.proofs.Feeding.{itemsRead, no-refusal}
 use Rattle.theorems.proofs.Trip.{given-fed}
 
 -- bytes close as one packet or none
@@ -70,11 +71,11 @@ begins-by {w} {frames} {accepted} new c padded =
 
 -- Fed every frame so far and emptied after each, while the multiplexer is still in use, a demultiplexer has refused nothing; and what was accepted
 -- is what it has given, and then what is still there.
-pub so-far : {w₀ w : CCDataWriter} {p₀ p : CCDataParser} {frames : List (List ℕ)} {accepted given : Items} {on : ParserAnswer} {refused : List Refusal}
+pub so-far : {w₀ w : CCDataWriter} {p₀ p : CCDataParser} {frames : List (List ℕ)} {accepted given : Items} {on : ParserAnswer} {answers : List Answer} {told : List Item}
     → NewWriter w₀ → (c : Calls w₀ frames accepted w) → Padded c
-    → NewParser p₀ → HandleCea608 p₀ on → Feeds (on .parser) frames refused given p
-    → (refused ≡ []) × SoFar w given accepted
+    → NewParser p₀ → HandleCea608 p₀ on → Feeds (on .parser) frames answers told given p
+    → NoRefusal frames answers told × SoFar w given accepted
 so-far new c padded newParser turned read =
     let t = begins-by new c padded in
-    let d = given-fed newParser turned read (t .answers) .1 in
-    (d .no-refusal, rw (d .items) (t .begins))
+    let d = given-fed newParser turned read .1 in
+    (no-refusal d (t .answers), rw (d .items) (t .begins))

@@ -1,21 +1,23 @@
 -- What demand 3 promises of calls and of the frames that they wrote. Assumes nothing.
 use mathlib.Core.Path.{_≡_}
 use mathlib.Core.List.{List, [], _++_}
-use Prim.Native.Nat.{_≤_}
+use Prim.Native.Nat.{ℕ, _≤_}
 use lib.ListN.{length}
 use Rattle.model.specs.Packet.{Packet}
 use Rattle.model.specs.Run.{others}
-use Rattle.caption.specs.declared.Refusal.{Refusal}
+use Rattle.caption.specs.declared.Answer.{Answer}
 use Rattle.caption.specs.declared.Answer.the-variants.{Accepted}
 use Rattle.writer.specs.Writer.{means}
 use Rattle.writer.specs.declared.CCDataWriter.{CCDataWriter}
 use Rattle.parser.specs.declared.ParserAnswer.{ParserAnswer}
+use Rattle.parser.specs.declared.Item.{Item}
 use Rattle.theorems.specs.Items.{Items}
+use Rattle.theorems.specs.Reading.{NoRefusal}
 
 -- 608 is turned on, no frame and no draw is refused, and what is given is "exactly" what was accepted, "in order, once each"
-pub record RoundTrip (on : ParserAnswer) (refused : List Refusal) (given accepted : Items) : Type 0 where
+pub record RoundTrip (on : ParserAnswer) (frames : List (List ℕ)) (answers : List Answer) (told : List Item) (given accepted : Items) : Type 0 where
   pub turned-on : on .answer ≡ Accepted
-  pub no-refusal : refused ≡ []
+  pub no-refusal : NoRefusal frames answers told
   pub exactly : given ≡ accepted
 
 -- Before it is drained: what was accepted is what has been given, and then what is still there. Of packets that is the one being sent, if there is
