@@ -25,7 +25,7 @@ pub record Kept {A : Type 0} (before into out now : List A) : Type 0 where
   pub same : before ++ into ≡ out ++ now
 
 -- one step after another
-chain : {A : Type 0} {a i o b i′ o′ c : List A} → Kept a i o b → Kept b i′ o′ c → Kept a (i ++ i′) (o ++ o′) c
+pub chain : {A : Type 0} {a i o b i′ o′ c : List A} → Kept a i o b → Kept b i′ o′ c → Kept a (i ++ i′) (o ++ o′) c
 chain {a} {i} {o} {b} {i′} {o′} {c} h k = record { same = rw (← append-assoc a i i′, h .same, append-assoc o b i′, k .same, append-assoc o o′ c) }
 
 -- The frames of a run r that begins at s, read by a demultiplexer that holds g: all are accepted, and of what was on its way or queued and

@@ -16,7 +16,7 @@ use Rattle.journey.proofs.Four.{sends-four}
 use Rattle.journey.proofs.Leaves.{moved}
 
 -- a list of length 0 is empty
-empty : {A : Type 0} (l : List A) → length l ≤ 0 → l ≡ []
+pub empty : {A : Type 0} (l : List A) → length l ≤ 0 → l ≡ []
 empty [] h = refl
 empty (x ∷ l) h = absurd (omega arith)
 

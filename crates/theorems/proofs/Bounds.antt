@@ -9,6 +9,7 @@ use lib.Seq.{length-take-le}
 use contract.Lifetimes.{Lfts}
 use denote.Ref.{now}
 use Rattle.model.specs.Said.{Outcome, gave, refused, isGiven, saysWith}
+use Rattle.model.specs.Packet.{Packet}
 use Rattle.model.specs.Frame as model
 use Rattle.model.specs.Frame.{mostFrame, frameBytes, triplesIn}
 use Rattle.model.specs.Rate.{Budgets, budgets}
@@ -55,7 +56,7 @@ queue-means one w = refl
 queue-means two w = refl
 
 -- and what is accepted of the field is what the model accepts
-pub came : {s : Mux} {w : CCDataWriter} {fs : List (List ℕ)} {is : Items} {pad : Type 0} (f : Field) (k : Follows s fs is w pad)
+pub came : {s : Mux} {there : List Packet} {w : CCDataWriter} {fs : List (List ℕ)} {is : Items} {pad : Type 0} (f : Field) (k : Follows s there fs is w pad)
     → runs.others (acceptedOf f (runs.run (k .calls) s)) ≡ pairsAt f is
 came one k = k .pairs1
 came two k = k .pairs2
@@ -101,7 +102,7 @@ counted-given a n (refused why) e s = absurd (false≢true e)
 -- a state that calls of a fresh multiplexer have reached
 module _ {w₀ w : CCDataWriter} {fs₀ : List (List ℕ)} {is₀ : Items} (new : NewWriter w₀) (before : Calls w₀ fs₀ is₀ w) where
   -- these calls in the model
-  abbrev reached : Follows freshMux fs₀ is₀ w (Padded before)
+  abbrev reached : Follows freshMux [] fs₀ is₀ w (Padded before)
   reached = from-fresh new before
 
   -- "The pair at place i of its field leaves within 2i accepted writes": whatever is pushed or switched between them, once 2i writes or more have

@@ -13,8 +13,7 @@ use Rattle.model.proofs.Cases.{by-test}
 use Rattle.journey.specs.Bounds.{Field, one, two, acceptedOf, Left}
 use Rattle.journey.specs.Bounds as journey
 use Rattle.journey.proofs.Turns.{ofField, others-append}
-use Rattle.journey.proofs.Triples.{stop}
-use Rattle.journey.proofs.Gather as gather
+use Rattle.journey.proofs.Round.{ready-fresh}
 use Rattle.journey.proofs.Taking.{holding}
 use Rattle.journey.proofs.Carried.{Carried, carried}
 use Rattle.journey.proofs.Leaves.{leaves, first-gone}
@@ -82,7 +81,7 @@ pub pair-given : {w₀ w w′ : CCDataWriter} {p₀ p p′ : CCDataParser} {fs�
 pair-given {w} {p} {fs₀} {fs} {given} new before padded behind padded′ newParser turned read₀ read =
     let k = from-fresh new before in
     let o : Read = readFrames fs₀ (turn608On freshDemux) in
-    let t = framed (run (k .calls) freshMux) (turn608On freshDemux) fs₀ (k .frames) (carried (k .calls) freshMux [] (k .allowed padded) (record { linked = gather.lost stop; rested = λ e. refl; stored = gather.none })) in
+    let t = framed (run (k .calls) freshMux) (turn608On freshDemux) fs₀ (k .frames) (carried (k .calls) freshMux [] (k .allowed padded) ready-fresh) in
     let d = given-fed newParser turned read₀ .1 in
     let m = follows behind (k .sound) in
     let g : List ℕ = o .last .pending in

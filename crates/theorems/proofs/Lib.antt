@@ -1,5 +1,6 @@
 pub mod Emptying
 pub mod Feeding
+pub mod Passing
 pub mod Following
 pub mod Answered
 pub mod Packets
