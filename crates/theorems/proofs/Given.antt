@@ -7,12 +7,11 @@ use lib.ListN.{length, take, drop, replicate, length-append, take-append-drop}
 use Rattle.model.specs.Said as said
 use Rattle.model.specs.Frame.{Pair}
 use Rattle.model.specs.Demux.{Demux, freshDemux, turn608On, validDemux}
-use Rattle.model.specs.Mux.{Mux, freshMux, isNull}
+use Rattle.model.specs.Mux.{Mux, freshMux}
 use Rattle.model.specs.Run.{Read, Run, run, readFrames, others}
-use Rattle.model.proofs.Cases.{by-test}
 use Rattle.journey.specs.Bounds.{Field, one, two, acceptedOf, Left}
 use Rattle.journey.specs.Bounds as journey
-use Rattle.journey.proofs.Turns.{ofField, others-append}
+use Rattle.journey.proofs.Turns.{ofField}
 use Rattle.journey.proofs.Round.{ready-fresh}
 use Rattle.journey.proofs.Taking.{holding}
 use Rattle.journey.proofs.Carried.{Carried, carried}
@@ -30,6 +29,7 @@ use Rattle.theorems.specs.Writing.{Calls, Padded}
 use Rattle.theorems.specs.Reading.{Feeds, NoRefusal}
 use Rattle.theorems.specs.Bounds.{pairsAt, BeginsWith, GivenInTime}
 use Rattle.theorems.proofs.Sequences.{follows, from-fresh}
+use Rattle.theorems.proofs.Queued.{others-twice, others-left, queue-others}
 use Rattle.theorems.proofs.Feeding.{itemsRead, feeds, no-refusal}
 use Rattle.theorems.proofs.Trip.{given-fed}
 use Rattle.theorems.proofs.Bounds.{queue-means}
@@ -44,12 +44,6 @@ same-front (x ∷ xs) (y ∷ ys) z e =
     let t : xs ++ z ≡ ys ++ z = (cc) in
     rw (h, same-front xs ys z t)
 
--- pairs other than 0x80,0x80 are such
-others-twice : (xs : List Pair) → others (others xs) ≡ others xs
-unfolding others
-others-twice [] = refl
-others-twice (x ∷ xs) = by-test (isNull x) (λ e. rw e (others-twice xs)) (λ e. rw (e, e) (ap (λ (l : List Pair). x ∷ l) (others-twice xs)))
-
 -- what is read of a field
 read-pairs : (f : Field) (o : Read) → pairsAt f (itemsRead o) ≡ others (ofField f (o .pairs))
 read-pairs one o = refl
@@ -57,23 +51,23 @@ read-pairs two o = refl
 
 -- Calls from s, whose frames are read by a demultiplexer that holds g: what is read of a field begins with the pairs at the first i places of
 -- its queue, once 2i writes or more were accepted.
-read-begins : {s : Mux} {g : List ℕ} {r : Run} {o : Read} (f : Field) (i : ℕ) → i ≤ length (journey.queueOf f s)
-    → Carried s g r o → Left i (journey.queueOf f s) (others (acceptedOf f r)) (journey.queueOf f (r .last)) → BeginsWith (others (take i (journey.queueOf f s))) (others (ofField f (o .pairs)))
-read-begins {s} {r} {o} f i there c w =
+read-begins : {s : Mux} {g : List ℕ} {r : Run} {o : Read} (f : Field) (i : ℕ) → i ≤ length (journey.queueOf f s) → others (journey.queueOf f s) ≡ journey.queueOf f s
+    → Carried s g r o → Left i (journey.queueOf f s) (others (acceptedOf f r)) (journey.queueOf f (r .last)) → BeginsWith (take i (journey.queueOf f s)) (others (ofField f (o .pairs)))
+read-begins {s} {r} {o} f i there such c w =
     let q = journey.queueOf f s in
     let q′ = journey.queueOf f (r .last) in
-    let went : others q ++ others (acceptedOf f r) ≡ others (w .gone) ++ others q′ =
-    rw (← others-twice (acceptedOf f r)) (sym (others-append q (others (acceptedOf f r))) ∙ ap others (w .cut) ∙ others-append (w .gone) q′) in
-    let read : others (ofField f (o .pairs)) ≡ others (w .gone) = same-front _ _ (others q′) (sym (c .pairs f .same) ∙ went) in
+    let still = others-left such (others-twice (acceptedOf f r)) w in
+    let same : q ++ others (acceptedOf f r) ≡ others (ofField f (o .pairs)) ++ q′ = rw (such, still) at (c .pairs f .same) in
+    let read : others (ofField f (o .pairs)) ≡ w .gone = same-front _ _ q′ (sym same ∙ w .cut) in
     let parts : w .gone ≡ take i q ++ drop i (w .gone) = sym (take-append-drop i (w .gone)) ∙ ap (λ (l : List Pair). l ++ drop i (w .gone)) (first-gone w there) in
-    record { rest = others (drop i (w .gone)); whole = read ∙ ap others parts ∙ others-append (take i q) (drop i (w .gone)) }
+    record { rest = drop i (w .gone); whole = read ∙ parts }
 
 -- the frames by another name
 framed : {s : Mux} {g : List ℕ} (r : Run) (d : Demux) (fs : List (List ℕ)) → r .frames ≡ fs → Carried s g r (readFrames (r .frames) d) → Carried s g r (readFrames fs d)
 framed {s} {g} r d fs e c = subst (λ (x : List (List ℕ)). Carried s g r (readFrames x d)) e c
 
 -- "The pair at place i of its field leaves within 2i accepted writes", and a demultiplexer that was fed every frame before has given it by then: of
--- what it gives from there on each field's pairs begin with those at the first i places, but for 0x80,0x80.
+-- what it gives from there on each field's pairs begin with those at the first i places.
 pub pair-given : {w₀ w w′ : CCDataWriter} {p₀ p p′ : CCDataParser} {fs₀ fs : List (List ℕ)} {is₀ is given₀ given : Items} {on : ParserAnswer} {answers₀ answers : List Answer} {told₀ told : List Item}
     → NewWriter w₀ → (before : Calls w₀ fs₀ is₀ w) → Padded before → (behind : Calls w fs is w′) → Padded behind
     → NewParser p₀ → HandleCea608 p₀ on → Feeds (on .parser) fs₀ answers₀ told₀ given₀ p → Feeds p fs answers told given p′
@@ -93,6 +87,6 @@ pair-given {w} {p} {fs₀} {fs} {given} new before padded behind padded′ newPa
       no-refusal e fine,
       λ f i there writes.
           let h : i ≤ length (journey.queueOf f (means w)) = rw (queue-means f w) there in
-          let b = read-begins f i h c (leaves f (m .calls) (means w) (m .rates) i h (omega (arith, m .writes))) in
+          let b = read-begins f i h (queue-others new before f) c (leaves f (m .calls) (means w) (m .rates) i h (omega (arith, m .writes))) in
           rw (z, read-pairs f (readFrames fs (holding g)), ← queue-means f w) b,
     )

@@ -7,6 +7,7 @@ pub mod Packets
 pub mod Pairs
 pub mod Frames
 pub mod Sequences
+pub mod Queued
 pub mod Trip
 pub mod Distinct
 pub mod Bounds

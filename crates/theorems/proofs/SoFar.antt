@@ -32,6 +32,7 @@ use Rattle.theorems.specs.Reading.{Feeds, NoRefusal}
 use Rattle.theorems.specs.Trip.{sendingOf, SoFar}
 use Rattle.theorems.proofs.Passing.{thereIn}
 use Rattle.theorems.proofs.Sequences.{from-fresh}
+use Rattle.theorems.proofs.Queued.{same-behind, queue-others}
 use Rattle.theorems.proofs.Feeding.{itemsRead, no-refusal}
 use Rattle.theorems.proofs.Trip.{given-fed}
 
@@ -43,13 +44,6 @@ sending-length w s =
     by-test (leb (writtenLength (w .sending)) (w .sent))
     (λ e. rw e (omega (arith, left-length (w .sending) (w .sent) h, leb-true (writtenLength (w .sending)) (w .sent) e)))
     (λ e. rw e (omega (arith, left-length (w .sending) (w .sent) h, leb-false (writtenLength (w .sending)) (w .sent) e, h .even)))
-
--- lists of the same length behind others
-same-behind : (a b u v : List Packet) → length u ≡ length v → a ++ u ≡ b ++ v → u ≡ v
-same-behind [] [] u v n e = e
-same-behind [] (y ∷ b) u v n e = absurd (omega (arith, ap length e, length-append (y ∷ b) v))
-same-behind (x ∷ a) [] u v n e = absurd (omega (arith, ap length e, length-append (x ∷ a) u))
-same-behind (x ∷ a) (y ∷ b) u v n e = let t : a ++ u ≡ b ++ v = (cc) in same-behind a b u v n t
 
 -- what was read is the beginning of what was accepted
 record Begins (w : CCDataWriter) (frames : List (List ℕ)) (accepted : Items) (o : Read) : Type 0 where
@@ -76,8 +70,8 @@ begins-by {w} {frames} {accepted} new c padded =
       answers = t .answers;
       begins = record {
         packets = rw it at all;
-        pairs1 = sym (f .pairs1) ∙ (rw (f .last) at (t .pairs one .same));
-        pairs2 = sym (f .pairs2) ∙ (rw (f .last) at (t .pairs two .same));
+        pairs1 = sym (f .pairs1) ∙ (rw (f .last, queue-others new c one) at (t .pairs one .same));
+        pairs2 = sym (f .pairs2) ∙ (rw (f .last, queue-others new c two) at (t .pairs two .same));
       };
     })
 

@@ -5,7 +5,6 @@ use Prim.Native.Nat.{ℕ, _+_, _*_, _≤_, min}
 use lib.ListN.{length, take, drop}
 use Rattle.model.specs.Frame.{Pair, seenAll, triplesIn}
 use Rattle.model.specs.Mux.{unsent}
-use Rattle.model.specs.Run.{others}
 use Rattle.journey.specs.Bounds.{Field, the, Left, packetTriplesIn}
 use Rattle.turns.specs.Queue.{queueOf}
 use Rattle.writer.specs.Writer.{means}
@@ -45,7 +44,7 @@ pub record BeginsWith {A : Type 0} (first all : List A) : Type 0 where
 
 -- likewise what is given of the frames fs: each field's pairs begin with those at the first i places
 abbrev pub GivenInTime : Field → CCDataWriter → List (List ℕ) → Items → Type 0
-GivenInTime f w fs given = (i : ℕ) → i ≤ length (queueAt f w) → 2 * i ≤ length fs → BeginsWith (others (take i (queueAt f w))) (pairsAt f given)
+GivenInTime f w fs given = (i : ℕ) → i ≤ length (queueAt f w) → 2 * i ≤ length fs → BeginsWith (take i (queueAt f w)) (pairsAt f given)
 
 -- so many accepted writes drain a multiplexer: twice as many as the pairs of either field, and a quarter of the packet triples
 abbrev pub DrainsInTime : CCDataWriter → List (List ℕ) → CCDataWriter → Type 0

@@ -5,7 +5,6 @@ use mathlib.Core.List.{List, [], _∷_, _++_}
 use Prim.Native.Nat.{ℕ}
 use lib.Dec.{leb}
 use Rattle.model.specs.Packet.{Packet}
-use Rattle.model.specs.Run.{others}
 use Rattle.caption.specs.declared.Answer.{Answer}
 use Rattle.caption.specs.declared.Answer.the-variants.{Accepted}
 use Rattle.slots.specs.Slot.{writtenLength, slotPacket}
@@ -30,5 +29,5 @@ sendingOf w = cond (leb (writtenLength (w .sending)) (w .sent)) [] (slotPacket (
 -- one, and those queued; of pairs it is those queued.
 pub record SoFar (w : CCDataWriter) (given accepted : Items) : Type 0 where
   pub packets : accepted .packets ≡ given .packets ++ (sendingOf w ++ means w .packets)
-  pub pairs1 : accepted .pairs1 ≡ given .pairs1 ++ others (means w .queue1)
-  pub pairs2 : accepted .pairs2 ≡ given .pairs2 ++ others (means w .queue2)
+  pub pairs1 : accepted .pairs1 ≡ given .pairs1 ++ means w .queue1
+  pub pairs2 : accepted .pairs2 ≡ given .pairs2 ++ means w .queue2
