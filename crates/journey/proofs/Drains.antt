@@ -52,4 +52,4 @@ drain (pushes608 x ∷ cs) s n r k u = absurd n
 
 -- writes at accepted rates drain a multiplexer once they are twice as many as the pairs of either field, and a quarter of the packet triples
 pub drains : (cs : List Call) (s : Mux) → NoPush cs → AtRates cs → DrainsInTime cs s
-drains cs s n r k₁ k₂ u = drain cs s n r (elim [ one ↦ omega arith | two ↦ omega arith ]) u
+drains cs s n r k₁ k₂ u = drain cs s n r (elim [ one ↦ omega arith | two ↦ omega arith ]) (omega arith)

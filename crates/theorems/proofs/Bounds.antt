@@ -11,7 +11,7 @@ use denote.Ref.{now}
 use Rattle.model.specs.Said.{Outcome, gave, refused, isGiven, saysWith}
 use Rattle.model.specs.Packet.{Packet}
 use Rattle.model.specs.Frame as model
-use Rattle.model.specs.Frame.{mostFrame, frameBytes, triplesIn}
+use Rattle.model.specs.Frame.{frameBytes, triplesIn}
 use Rattle.model.specs.Rate.{Budgets, budgets}
 use Rattle.model.specs.Mux.{Mux, freshMux, writeFrame}
 use Rattle.model.specs.Run as runs
@@ -39,7 +39,7 @@ use Rattle.writer.specs.declared.WriterCount.{WriterCount}
 use Rattle.theorems.specs.Items.{Items, noItems}
 use Rattle.theorems.specs.Allowed.{Lent, NewWriter, Write}
 use Rattle.theorems.specs.Writing.{Calls, Padded, Drained}
-use Rattle.theorems.specs.Bounds.{queueAt, pairsAt, SendsFour, LeavesInTime, DrainsInTime}
+use Rattle.theorems.specs.Bounds.{queueAt, pairsAt, SendsFour, AcceptsWrite, LeavesInTime, DrainsInTime}
 use Rattle.theorems.proofs.Following.{Follows}
 use Rattle.theorems.proofs.Frames.{Writes, no-frame, one-frame, wrote, write-does}
 use Rattle.theorems.proofs.Sequences.{follows, from-fresh}
@@ -121,12 +121,11 @@ module _ {w₀ w : CCDataWriter} {fs₀ : List (List ℕ)} {is₀ : Items} (new 
       four-by w (now end) r (k .sound) n e (λ b accepted. rw (k .last) at (four.four (k .calls) b accepted)) (write-does κs w rate out end r (k .sound) a)
 
   -- a write at an accepted rate, with room for the longest frame, is accepted
-  pub write-accepted : (κs : Lfts 1) (rate : Framerate) (out end : Lent) (r : WriterCount) → Write κs w rate out end r
-      → isGiven (budgets (rate .numer) (rate .denom)) ≡ true → mostFrame ≤ length (now out) → r .answer ≡ counted.Count (frameLength rate w)
+  pub write-accepted : (κs : Lfts 1) (rate : Framerate) (out end : Lent) (r : WriterCount) → Write κs w rate out end r → AcceptsWrite w rate (now out) (r .answer)
   write-accepted κs rate out end r a given room =
       let s = reached .sound in
       counted-given (r .answer) (frameLength rate w) (written rate (now out) w)
-      (given-by (budgets (rate .numer) (rate .denom)) given (λ b e. write-given w (s .shaped) (s .valid) rate (now out) e room))
+      (given-by (budgets (rate .numer) (rate .denom)) given (λ b e. write-given w (s .shaped) (s .valid) rate (now out) e (omega arith)))
       (wrote κs w rate out end r a .answer)
 
   -- so many accepted writes drain a multiplexer, if nothing more is accepted: twice as many as the pairs of either field, and a quarter of the

@@ -16,11 +16,13 @@ use Rattle.parser.specs.Items.{Draws, packetOfItem}
 use Rattle.parser.proofs.Kept.{Sound, pushed-sound}
 use Rattle.parser.proofs.Calls.{pushed-answers}
 use Rattle.parser.specs.declared.CCDataParser.{CCDataParser}
+use Rattle.parser.specs.declared.ParserAnswer.{ParserAnswer}
 use Rattle.parser.specs.declared.Drawn.{Drawn}
 use Rattle.parser.specs.declared.Item as parser
 use Rattle.theorems.specs.Items.{Items}
-use Rattle.theorems.specs.Allowed.{Lent, Draw}
-use Rattle.theorems.specs.Reading.{Empties, nothing-left, draw, Feeds, no-frame, feed}
+use Rattle.theorems.specs.Allowed.{Lent, Draw, NewParser, HandleCea608}
+use Rattle.theorems.specs.Reading.{Empties, nothing-left, draw, Feeds, no-frame, feed, Feedable}
+use Rattle.theorems.proofs.Trip.{given-fed}
 use Rattle.theorems.proofs.Emptying.{drawnPair, itemFor, item-says, drew, packet-some, pair-some}
 
 -- bytes that are lent
@@ -63,19 +65,22 @@ module _ (on : Bool) (pending : List ℕ) where
       let m = empties-to pairs waiting (drawn p .parser) (k .sound) (k .means) in
       record { told = _; items = _; last = m .last; draws = draw (drawing p) a (λ z. pair-some (drawnPair x) (sym (k .item) ∙ z)) (m .draws); sound = m .sound }
 
--- frames, each followed by draws until there is nothing left
-pub record Feedable (p : CCDataParser) (frames : List (List ℕ)) : Type 0 where
-  pub answers : List Answer
-  pub told : List parser.Item
-  pub items : Items
-  pub last : CCDataParser
-  pub feeds : Feeds p frames answers told items last
-
 -- any frames can be fed to any state within the limits
-pub feedable : (κs : Lfts 1) (frames : List (List ℕ)) (p : CCDataParser) → Sound p → Feedable p frames
-feedable κs [] p s = record { answers = []; told = []; items = _; last = p; feeds = no-frame }
-feedable κs (f ∷ frames) p s =
+feeds-from : (κs : Lfts 1) (frames : List (List ℕ)) (p : CCDataParser) → Sound p → Feedable p frames
+feeds-from κs [] p s = record { answers = []; told = []; given = _; last = p; feeds = no-frame }
+feeds-from κs (f ∷ frames) p s =
     let q : CCDataParser = pushed p f .parser in
     let m = empties-to (means q .on608) (means q .pending) (means q .pairs) (means q .waiting) q (pushed-sound p f s) refl in
-    let k = feedable κs frames (m .last) (m .sound) in
-    record { answers = _; told = _; items = _; last = k .last; feeds = feed κs (lent f) (pushed p f) (pushed-answers p f (pushed p f) (s .shaped) refl) (m .draws) (k .feeds) }
+    let k = feeds-from κs frames (m .last) (m .sound) in
+    record {
+      answers = _;
+      told = _;
+      given = _;
+      last = k .last;
+      feeds = feed κs (lent f) (pushed p f) (pushed-answers p f (pushed p f) (s .shaped) refl) (m .draws) (k .feeds);
+    }
+
+-- and so to a fresh one with 608 on, and then any others
+pub feedable : {p₀ p : CCDataParser} {on : ParserAnswer} {frames : List (List ℕ)} {answers : List Answer} {told : List parser.Item} {given : Items} (κs : Lfts 1)
+    → NewParser p₀ → HandleCea608 p₀ on → Feeds (on .parser) frames answers told given p → (more : List (List ℕ)) → Feedable p more
+feedable {p} κs new turned read more = feeds-from κs more p (given-fed new turned read .1 .sound)

@@ -1,13 +1,20 @@
 -- How soon what is queued leaves. Assumes nothing.
 use mathlib.Core.Path.{_≡_}
+use mathlib.Core.Bool.{true}
 use mathlib.Core.List.{List, _++_}
 use Prim.Native.Nat.{ℕ, _+_, _*_, _≤_, min}
 use lib.ListN.{length, take, drop}
-use Rattle.model.specs.Frame.{Pair, seenAll, triplesIn}
+use Rattle.model.specs.Said.{isGiven}
+use Rattle.model.specs.Frame.{Pair, seenAll, triplesIn, mostFrame}
+use Rattle.model.specs.Rate.{budgets}
 use Rattle.model.specs.Mux.{unsent}
 use Rattle.journey.specs.Bounds.{Field, the, Left, packetTriplesIn}
+use Rattle.caption.specs.declared.Counted.{Counted}
+use Rattle.caption.specs.declared.Counted.the-variants.{Count}
+use Rattle.caption.specs.declared.Framerate.{Framerate}
 use Rattle.turns.specs.Queue.{queueOf}
 use Rattle.writer.specs.Writer.{means}
+use Rattle.writer.specs.Calls.{frameLength}
 use Rattle.writer.specs.declared.CCDataWriter.{CCDataWriter}
 use Rattle.theorems.specs.Items.{Items}
 use Rattle.theorems.specs.Writing.{Drained}
@@ -28,6 +35,10 @@ packetTriplesOf frame = packetTriplesIn (seenAll (triplesIn (drop 2 frame)))
 pub record SendsFour (w : CCDataWriter) (frame : List ℕ) (w′ : CCDataWriter) : Type 0 where
   pub four : min 4 (unsentOf w) ≤ packetTriplesOf frame
   pub no-other : packetTriplesOf frame + unsentOf w′ ≡ unsentOf w
+
+-- a write at an accepted rate, with room for the longest frame, is accepted: its answer counts the frame's bytes
+abbrev pub AcceptsWrite : CCDataWriter → Framerate → List ℕ → Counted → Type 0
+AcceptsWrite w rate out answer = isGiven (budgets (rate .numer) (rate .denom)) ≡ true → mostFrame ≤ length out → answer ≡ Count (frameLength rate w)
 
 -- the pairs of a field among items
 abbrev pub pairsAt : Field → Items → List Pair

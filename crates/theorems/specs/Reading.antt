@@ -44,3 +44,11 @@ pub data Feeds : CCDataParser → List (List ℕ) → List Answer → List Item 
 pub record NoRefusal (frames : List (List ℕ)) (answers : List Answer) (told : List Item) : Type 0 where
   pub all-accepted : answers ≡ replicate (length frames) answer.Accepted
   pub none-refused : (i : ℕ) (why : Refusal) → getD told i item.Nothing ≡ item.Refused why → ⊥
+
+-- there is a way to feed frames: at each step some result is allowed, and drawing comes to an end
+pub record Feedable (p : CCDataParser) (frames : List (List ℕ)) : Type 0 where
+  pub answers : List Answer
+  pub told : List Item
+  pub given : Items
+  pub last : CCDataParser
+  pub feeds : Feeds p frames answers told given last

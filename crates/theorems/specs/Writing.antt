@@ -74,3 +74,12 @@ pub record Drained (w : CCDataWriter) : Type 0 where
   pub no-byte : writtenLength (w .sending) ≤ w .sent
   pub no-pair1 : w .field1 .count ≡ 0
   pub no-pair2 : w .field2 .count ≡ 0
+
+-- Calls that wrote fs, accepted `is` and came to w go on: with more writes, and accepting nothing more, they end drained.
+pub record Drains (w₀ w : CCDataWriter) (fs : List (List ℕ)) (is : Items) : Type 0 where
+  pub more : List (List ℕ)
+  pub last : CCDataWriter
+  pub rest : Calls w more noItems last
+  pub whole : Calls w₀ (fs ++ more) is last
+  pub padded : Padded whole
+  pub drained : Drained last
