@@ -49,7 +49,7 @@ left-then {b} {q} {q′} {q″} a i j gone e w h =
     record {
       gone = gone ++ w .gone;
       cut = rw (← append-assoc q a b, e, append-assoc gone q′ b, w .cut, append-assoc gone (w .gone) q″);
-      enough = simp length-append (omega (arith, w .enough));
+      enough = omega (arith, length-append gone (w .gone), w .enough);
     }
 
 -- what one run accepts of a field and then another
@@ -94,3 +94,7 @@ leaves f cs s r i h k = goes f cs s i r h (omega arith)
 -- those that went begin with the pairs at the first i places
 pub first-gone : {i : ℕ} {q came q′ : List Pair} (w : Left i q came q′) → i ≤ length q → take i (w .gone) ≡ take i q
 first-gone {i} {q} {came} {q′} w h = sym (take-append-le i (w .gone) q′ (w .enough)) ∙ ap (take i) (sym (w .cut)) ∙ take-append-le i q came h
+
+-- so at least i fewer are queued than were and came
+pub left-fewer : {i : ℕ} {q came q′ : List Pair} → Left i q came q′ → i + length q′ ≤ length q + length came
+left-fewer {q} {came} {q′} w = omega (arith, ap length (w .cut), length-append q came, length-append (w .gone) q′, w .enough)

@@ -2,7 +2,7 @@
 use mathlib.Core.Path.{_≡_, refl, sym, ap, _∙_}
 use mathlib.Core.Bool.{true, false≢true}
 use mathlib.Core.List.{List, [], _∷_}
-use Prim.Native.Nat.{ℕ, _≤_}
+use Prim.Native.Nat.{ℕ, _+_, _*_, _≤_}
 use native.Mathlib.Omega.{arith}
 use lib.ListN.{length, take, drop, length-map}
 use lib.Seq.{length-take-le}
@@ -112,6 +112,12 @@ module _ {w₀ w : CCDataWriter} {fs₀ : List (List ℕ)} {is₀ : Items} (new 
       let k = follows c (reached .sound) in
       rw (← queue-means f w, ← queue-means f w′, ← k .last, ← came f k)
       (leaves.leaves f (k .calls) (means w) (k .rates) i (rw (queue-means f w) there) (omega (arith, k .writes)))
+
+  -- so where nothing comes, i places at least come free
+  pub places-free : {w′ : CCDataWriter} {fs : List (List ℕ)} → Calls w fs noItems w′ → (f : Field) (i : ℕ) → i ≤ length (queueAt f w) → 2 * i ≤ length fs
+      → i + length (queueAt f w′) ≤ length (queueAt f w)
+  places-free c one i there writes = omega (arith, leaves.left-fewer (pair-leaves c one i there (omega arith)))
+  places-free c two i there writes = omega (arith, leaves.left-fewer (pair-leaves c two i there (omega arith)))
 
   -- "each sends at least four packet triples or all that remain"
   pub sends-four : (κs : Lfts 1) (rate : Framerate) (out end : Lent) (r : WriterCount) → Write κs w rate out end r

@@ -1,7 +1,7 @@
 -- Frames fed to a demultiplexer that is emptied after each: what each answers, what each draw tells and what is given are the model's, refusals
 -- included. Assumes nothing.
 use mathlib.Core.Path.{_≡_, refl, ap, _∙_}
-use mathlib.Core.Bool.{true}
+use mathlib.Core.Bool.{true, false≢true}
 use mathlib.Core.List.{List, [], _∷_, _++_, map}
 use Prim.Native.Nat.{ℕ, zero, suc}
 use native.Mathlib.Omega.{arith}
@@ -18,7 +18,8 @@ use Rattle.journey.proofs.Turns.{others-append}
 use Rattle.journey.proofs.Carried.{field-append}
 use Rattle.caption.specs.Answers.{saidAnswer}
 use Rattle.caption.specs.declared.Answer.{Answer}
-use Rattle.caption.specs.declared.Answer.the-variants.{Accepted}
+use Rattle.caption.specs.declared.Refusal.{Refusal}
+use Rattle.caption.specs.declared.Answer.the-variants.{Accepted, Refused}
 use Rattle.caption.proofs.Answers.{saidAnswer-injective}
 use Rattle.parser.specs.Means.{means, Answers, saidPush}
 use Rattle.parser.specs.Push.{pushed}
@@ -26,6 +27,7 @@ use Rattle.parser.proofs.Kept.{Sound, pushed-sound, means-pushed}
 use Rattle.parser.specs.declared.CCDataParser.{CCDataParser}
 use Rattle.parser.specs.declared.ParserAnswer.{ParserAnswer}
 use Rattle.parser.specs.declared.Item as parser
+use Rattle.parser.specs.declared.Item.the-variants as item
 use Rattle.theorems.specs.Items.{Items, andThen}
 use Rattle.theorems.specs.Reading.{Feeds, no-frame, feed, NoRefusal}
 use Rattle.theorems.proofs.Emptying.{itemsIn, itemFor, none-refused, toldOf, empties-from}
@@ -77,8 +79,9 @@ feeds-at {p} (feed {q} {fs} {answers} {told} {told′} {is} {is′} κs frame r 
     let m = empties-from c sound t next (demux-facts t w .packets) in
     let first : saidAnswer (r .answer) ≡ takeFrame f d .answer = rw (s .valid, e) at (b .answer) in
     let n = feeds-at k (emptied t) (m .sound) (m .means) (emptied-valid t w) in
+    let later = n .said in
     record {
-      said = rw (first, n .said);
+      said = (cc);
       tells = rw (m .tells, n .tells) (map-append (toldOf t) (toldBy fs (emptied t)));
       items = rw (m .items, n .items) (items-append (t .pairs) (readFrames fs (emptied t) .pairs) (t .waiting) (readFrames fs (emptied t) .packets));
       sound = n .sound;
@@ -105,3 +108,15 @@ said-accepted (a ∷ answers) (suc n) e =
 pub no-refusal : {fs : List (List ℕ)} {d : Demux} {answers : List Answer} {told : List parser.Item} {is : Items} {p : CCDataParser} → Fed fs d answers told is p
     → readFrames fs d .answers ≡ replicate (length fs) (accepted []) → NoRefusal fs answers told
 no-refusal {fs} {d} {answers} k e = record { all-accepted = said-accepted answers (length fs) (k .said ∙ e); none-refused = rw (k .tells) (none-refused (toldBy fs d)) }
+
+-- a refused frame is a refusal
+pub frame-judged : {fs : List (List ℕ)} {answers : List Answer} {told : List parser.Item} (why : Refusal) → NoRefusal fs (Refused why ∷ answers) told → ⊥
+frame-judged {fs} {answers} why k = by fs (k .all-accepted)
+  where
+    by : (fs : List (List ℕ)) → Refused why ∷ answers ≡ replicate (length fs) Accepted → ⊥
+    by [] e = omega (arith, ap length e)
+    by (f ∷ fs) e = let z : Refused why ≡ Accepted = (cc) in false≢true (cc)
+
+-- and so is a refused draw
+pub draw-judged : {fs : List (List ℕ)} {answers : List Answer} {told : List parser.Item} (why : Refusal) → NoRefusal fs answers (item.Refused why ∷ told) → ⊥
+draw-judged why k = k .none-refused 0 why refl

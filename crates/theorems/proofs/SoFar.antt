@@ -1,7 +1,7 @@
 -- At any moment, drained or not: no frame is refused, and what has been given is the beginning of what was accepted. Assumes nothing.
-use mathlib.Core.Path.{_≡_, sym, ap, _∙_}
+use mathlib.Core.Path.{_≡_, sym, _∙_}
 use mathlib.Core.List.{List, [], _∷_, _++_}
-use Prim.Native.Nat.{ℕ, _+_, min}
+use Prim.Native.Nat.{ℕ, min}
 use native.Mathlib.Omega.{arith}
 use borrow.Author.Tests.{leb-true, leb-false}
 use lib.Dec.{leb}
@@ -45,6 +45,13 @@ sending-length w s =
     (λ e. rw e (omega (arith, left-length (w .sending) (w .sent) h, leb-true (writtenLength (w .sending)) (w .sent) e)))
     (λ e. rw e (omega (arith, left-length (w .sending) (w .sent) h, leb-false (writtenLength (w .sending)) (w .sent) e, h .even)))
 
+-- of two lists that end in what is queued, one packet is behind both or none is: it is the one being sent
+same-there : (w : CCDataWriter) → Sound w → (given gone on : List Packet) → length on ≡ min 1 (length (means w .sending)) → given ++ (on ++ means w .packets) ≡ gone ++ thereIn w
+    → on ++ means w .packets ≡ thereIn w
+same-there w s given gone on n e =
+    let size = sending-length w s in
+    same-behind given gone (on ++ means w .packets) (thereIn w) (omega (arith, n, size, length-append on (means w .packets), length-append (sendingOf w) (means w .packets))) e
+
 -- what was read is the beginning of what was accepted
 record Begins (w : CCDataWriter) (frames : List (List ℕ)) (accepted : Items) (o : Read) : Type 0 where
   answers : o .answers ≡ replicate (length frames) (said.accepted [])
@@ -58,18 +65,14 @@ begins-by {w} {frames} {accepted} new c padded =
     let f = from-fresh new c in
     let t = journey.carried (f .calls) freshMux [] (f .allowed padded) ready-fresh in
     let o : Read = readFrames (run (f .calls) freshMux .frames) (turn608On freshDemux) in
-    let g : List ℕ = o .last .pending in
-    let given : List Packet = o .packets in
-    let all : accepted .packets ≡ given ++ (gather.underway g (means w .sending) ++ means w .packets) = sym (f .packets) ∙ (rw (f .last) at (t .packets .same)) in
-    let size : length (gather.underway g (means w .sending)) ≡ length (sendingOf w) = (rw (f .last) at (gather.underway-one (t .ready .linked) (t .ready .rested))) ∙ sym (sending-length w (f .sound)) in
-    let it : gather.underway g (means w .sending) ++ means w .packets ≡ thereIn w =
-    same-behind given (f .passed .gone) _ _ (length-append (gather.underway g (means w .sending)) (means w .packets) ∙ ap (λ n. n + length (means w .packets)) size ∙ sym (length-append (sendingOf w) (means w .packets)))
-    (sym all ∙ f .passed .kept .same) in
+    let on : List Packet = gather.underway (o .last .pending) (means w .sending) in
+    let one-on : length on ≡ min 1 (length (means w .sending)) = rw (f .last) at (gather.underway-one (t .ready .linked) (t .ready .rested)) in
+    let all : accepted .packets ≡ o .packets ++ (on ++ means w .packets) = sym (f .packets) ∙ (rw (f .last) at (t .packets .same)) in
     rw (← f .frames)
     (record {
       answers = t .answers;
       begins = record {
-        packets = rw it at all;
+        packets = rw (same-there w (f .sound) (o .packets) (f .passed .gone) on one-on (sym all ∙ f .passed .kept .same)) at all;
         pairs1 = sym (f .pairs1) ∙ (rw (f .last, queue-others new c one) at (t .pairs one .same));
         pairs2 = sym (f .pairs2) ∙ (rw (f .last, queue-others new c two) at (t .pairs two .same));
       };
