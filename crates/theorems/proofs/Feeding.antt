@@ -7,7 +7,7 @@ use Prim.Native.Nat.{ℕ, zero, suc}
 use native.Mathlib.Omega.{arith}
 use lib.ListN.{length, replicate}
 use denote.Ref.{now}
-use Rattle.model.specs.Said.{Said, accepted}
+use Rattle.model.specs.Said.{accepted}
 use Rattle.model.specs.Packet.{Packet, allPackets}
 use Rattle.model.specs.Frame.{Cea608}
 use Rattle.model.specs.Demux.{Demux, Item, takeFrame, validDemux}
@@ -25,7 +25,6 @@ use Rattle.parser.specs.Means.{means, Answers, saidPush}
 use Rattle.parser.specs.Push.{pushed}
 use Rattle.parser.proofs.Kept.{Sound, pushed-sound, means-pushed}
 use Rattle.parser.specs.declared.CCDataParser.{CCDataParser}
-use Rattle.parser.specs.declared.ParserAnswer.{ParserAnswer}
 use Rattle.parser.specs.declared.Item as parser
 use Rattle.parser.specs.declared.Item.the-variants as item
 use Rattle.theorems.specs.Items.{Items, andThen}
