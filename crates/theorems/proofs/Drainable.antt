@@ -81,7 +81,7 @@ written-all κs (suc n) w s on =
       frames = frameIn (k .result .answer) (now (k .end)) ++ m .frames;
       last = m .last;
       calls = write κs rate out (k .end) (k .result) (k .allowed) (m .calls);
-      padded = (rw (k .counts, on), m .padded);
+      padded = (λ n e. rw on, m .padded);
       number = rw (k .counts) (ap suc (m .number));
     }
 

@@ -133,7 +133,7 @@ module _ (on : Bool) (pending : List ℕ) where
       → means p ≡ holds pairs waiting → Emptied (holds pairs waiting) (holds [] []) told is p′
   unfolding model.draw allPackets ofField1 ofField2 others
   empties-by {p} [] [] (nothing-left r a z) s v e =
-      let k = drew p r (holds [] []) s e a in record { tells = ap (λ (i : Item). i ∷ []) (k .item); items = refl; sound = k .sound; means = k .means }
+      let k = drew p r (holds [] []) s e a in record { tells = ap (λ (i : Item). i ∷ []) (k .item); items = rw (k .item); sound = k .sound; means = k .means }
   empties-by {p} [] [] (draw r a n c) s v e = let k = drew p r (holds [] []) s e a in absurd (n (k .item))
   empties-by {p} [] (q ∷ waiting) (nothing-left r a z) s v e = let k = drew p r (holds [] (q ∷ waiting)) s e a in absurd (packet-some (sym (k .item) ∙ z))
   empties-by {p} [] (q ∷ waiting) (draw r a n c) s v e =

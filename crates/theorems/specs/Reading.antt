@@ -28,7 +28,7 @@ drawnItem (item.Refused why) d = noItems
 
 -- "emptied": draws until there is nothing left, with each item that a draw told and what was given
 pub data Empties : CCDataParser → List Item → Items → CCDataParser → Type 0 where
-  nothing-left : {p : CCDataParser} (r : Drawn) → Draw p r → r .item ≡ item.Nothing → Empties p (r .item ∷ []) noItems (r .parser)
+  nothing-left : {p : CCDataParser} (r : Drawn) → Draw p r → r .item ≡ item.Nothing → Empties p (r .item ∷ []) (drawnItem (r .item) (r .packet)) (r .parser)
   draw : {p p′ : CCDataParser} {told : List Item} {is : Items} (r : Drawn) → Draw p r → (r .item ≡ item.Nothing → ⊥)
       → Empties (r .parser) told is p′ → Empties p (r .item ∷ told) (andThen (drawnItem (r .item) (r .packet)) is) p′
 

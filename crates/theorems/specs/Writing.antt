@@ -56,8 +56,7 @@ pub data Calls : CCDataWriter → List (List ℕ) → Items → CCDataWriter →
 
 -- whether a write that is accepted finds "at least one padding on"
 abbrev pub PaddingAt : Counted → CCDataWriter → Type 0
-PaddingAt (counted.Count n) w = w .«output_cea608_padding» || w .«output_padding» ≡ true
-PaddingAt (counted.Refused why) w = Unit {0}
+PaddingAt answer w = (n : ℕ) → answer ≡ counted.Count n → w .«output_cea608_padding» || w .«output_padding» ≡ true
 
 -- "at least one padding on at each write"; that its rate is accepted is what the answer says, else it is refused with 8
 abbrev pub Padded : {w w′ : CCDataWriter} {fs : List (List ℕ)} {is : Items} → Calls w fs is w′ → Type 0
