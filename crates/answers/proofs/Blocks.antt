@@ -5,11 +5,14 @@ use mathlib.Core.List.{List, [], _∷_, _++_, append-nil, append-assoc}
 use Prim.Native.Nat.{ℕ, zero, suc, _+_, _-_, _≤_}
 use native.Mathlib.Numerals.{add-one}
 use native.Mathlib.Omega.{arith}
-use lib.ListN.{length, take, drop, getD, length-take, length-drop, drop-of-length-le}
+use lib.ListN.{length, take, drop, getD, length-drop, drop-of-length-le}
 use lib.Seq.{take-all}
-use Rattle.model.specs.Said.{Said, accepted, gave, saysWith, checked}
+use Rattle.model.specs.Said.{Said, Outcome, accepted, gave, saysWith, after, checked}
 use Rattle.model.specs.Block.{Block}
+use Rattle.model.specs.Packet.{noBlock, carriable, allCarriable}
 use Rattle.model.proofs.Cases.{by-test, both}
+use Rattle.model.proofs.Blocks.{carriable-facts}
+use Rattle.model.proofs.Limits as limits
 use Rattle.caption.specs.declared.Counted.the-variants as counted
 use Rattle.caption.specs.declared.Refusal.{Refusal}
 use Rattle.caption.specs.Answers.{saidRefusal}
@@ -20,11 +23,9 @@ use Rattle.service.proofs.Kept.{laid-means}
 use Rattle.packet.specs.declared.DTVCCPacket.{DTVCCPacket}
 use Rattle.packet.specs.declared.Place.the-variants.{Here, Nothing, Refused}
 use Rattle.packet.specs.declared.ServiceAt.{ServiceAt}
-use Rattle.entries.specs.Fields.{Entry, cut, goodEntry, goodEntries}
-use Rattle.packet.specs.Packet.{entriesOf, packetOf, validDTVCC}
-use Rattle.packet.specs.Place.{Placed, blocksAt, firstOf, saidPlace}
-use Rattle.entries.proofs.Entries.{good-facts, cut-length, entries-length}
-use Rattle.packet.proofs.Holds.{Within, within-facts}
+use Rattle.packet.specs.Packet.{packetOf, validDTVCC}
+use Rattle.packet.specs.Place.{Placed, blocksAt, saidPlace}
+use Rattle.packet.proofs.Holds.{within-facts}
 use Rattle.records.specs.Laid.{Laid}
 use Rattle.records.proofs.Layings.{laid-within, laid-append}
 use Rattle.lines.specs.Lines.{blockText}
@@ -54,16 +55,14 @@ text-more (suc i) (x ∷ bs) b rest e =
     ap (λ (l : List ℕ). blockText (x .number) (x .payload) ++ l) (text-more i bs b rest e)
     ∙ sym (append-assoc (blockText (x .number) (x .payload)) (blocksText (take i bs)) (blockText (b .number) (b .payload)))
 
--- no payload of good entries has more than 31 bytes
-cut-small : (i : ℕ) (es : List Entry) (d : List ℕ) (b : Block) (rest : List Block) → goodEntries es ≡ true → drop i (cut es d) ≡ b ∷ rest
-    → length (b .payload) ≤ 31
-unfolding cut goodEntries
-cut-small i [] d b rest g e = absurd (none-first i e)
-cut-small zero (x ∷ es) d b rest g e =
-    let good = good-facts (x .number) (x .size) (both (goodEntry (x .number) (x .size)) (goodEntries es) g .0) in
-    let same : length (take (x .size) d) ≡ length (b .payload) = ap (λ (c : Block). length (c .payload)) (first-same e) in
-    omega (arith, good .small, length-take (x .size) d)
-cut-small (suc i) (x ∷ es) d b rest g e = cut-small i es (drop (x .size) d) b rest (both (goodEntry (x .number) (x .size)) (goodEntries es) g .1) e
+-- no payload of a packet's blocks has more than 31 bytes
+small-at : (i : ℕ) (bs : List Block) (b : Block) (rest : List Block) → allCarriable bs ≡ true → drop i bs ≡ b ∷ rest → length (b .payload) ≤ 31
+unfolding allCarriable
+small-at i [] b rest g e = absurd (none-first i e)
+small-at zero (x ∷ bs) b rest g e =
+    let same : length (x .payload) ≡ length (b .payload) = ap (λ (c : Block). length (c .payload)) (first-same e) in
+    omega (arith, carriable-facts x (both (carriable x) (allCarriable bs) g .0) .small)
+small-at (suc i) (x ∷ bs) b rest g e = small-at i bs b rest (both (carriable x) (allCarriable bs) g .1) e
 
 -- a block that stands at a place
 record At (p : DTVCCPacket) (i : ℕ) (s : Service) : Type 0 where
@@ -82,8 +81,8 @@ module _ (p : DTVCCPacket) (i : ℕ) (h : ServiceAt) (w : Placed (blocksAt i p) 
   said : saidPlace (h .place) ≡ saysWith (λ (bs : List Block). length bs ∷ []) (checked v (gave (take 1 l)))
   said = w .place ∙ ap (saysWith (λ (bs : List Block). length bs ∷ [])) found
 
-  held : h .service ≡ firstOf (checked v (gave (take 1 l)))
-  held = w .service ∙ ap firstOf found
+  held : h .service ≡ laid (getD (after [] (checked v (gave (take 1 l)))) 0 noBlock)
+  held = w .service ∙ ap (λ (o : Outcome (List Block)). laid (getD (after [] o) 0 noBlock)) found
 
   blocks-are : drop i (blocksIn p) ≡ drop i (cond v (packetOf p .blocks) [])
   unfolding blocksIn
@@ -100,7 +99,7 @@ here-by p i h w true (b ∷ rest) e f k =
       block = b;
       rest = rest;
       there = blocks-are p i h w true (b ∷ rest) e f ∙ f;
-      same = ap blockOf (held p i h w true (b ∷ rest) e f) ∙ laid-means b (cut-small i (entriesOf p) (p .payload) b rest (within-facts p e .good) f);
+      same = ap blockOf (held p i h w true (b ∷ rest) e f) ∙ laid-means b (small-at i (packetOf p .blocks) b rest (within-facts p e .packet .blocks) f);
     }
 
 drop-none : (i : ℕ) → drop {A = Block} i [] ≡ []
@@ -125,8 +124,7 @@ few-blocks : (p : DTVCCPacket) (i : ℕ) → 63 ≤ i → drop i (blocksIn p) �
 unfolding blocksIn
 few-blocks p i h =
     by-test (validDTVCC p)
-    (λ e. let few : length (packetOf p .blocks) ≤ i =
-    omega (arith, within-facts p e .count, cut-length (entriesOf p) (p .payload), entries-length (p .count) (p .numbers) (p .sizes)) in
+    (λ e. let few : length (packetOf p .blocks) ≤ i = omega (arith, limits.few-blocks (packetOf p) (within-facts p e .packet)) in
     rw e (drop-of-length-le (packetOf p .blocks) few))
     (λ e. rw e (drop-none i))
 

@@ -5,7 +5,7 @@ use mathlib.Core.List.{List, [], _∷_}
 use Prim.Native.Nat.{ℕ}
 use lib.Dec.{eqb}
 use lib.ListN.{length}
-use Rattle.model.specs.Said.{Said, Outcome, says, after, saysWith, checked, putInto}
+use Rattle.model.specs.Said.{Said, Outcome, says, after, saysWith, mapped, checked, putInto}
 use Rattle.records.specs.Laid.{Laid}
 use Rattle.records.specs.Text.{word}
 use Rattle.answers.specs.Script.{answerLine, lentLine}
@@ -28,6 +28,10 @@ module _ {S : Type 0} where
   -- a call that changes what there is: "A refused operation leaves s, p, r and w as they were"
   abbrev pub changes : S → Outcome S → Effect S
   changes old o = tells (says o) (after old o)
+
+  -- the same where what the call gives is laid over the places of what there is
+  abbrev pub lays : {M : Type 0} → (S → M → S) → S → Outcome M → Effect S
+  lays over old o = tells (says o) (after old (mapped (over old) o))
 
   -- by what an answer says, the new one or the old one
   abbrev pub chosen : Said → S → S → S

@@ -10,10 +10,12 @@ use contract.Lifetimes.{Lfts}
 use denote.Ref.{now}
 use Rattle.model.specs.Said.{Outcome}
 use Rattle.model.specs.Block.{Block}
+use Rattle.model.specs.Packet.{Packet}
 use Rattle.caption.proofs.Answers.{answerOf, refused-again, saidAnswer-injective, saidCounted-injective, saidTruth-injective}
 use Rattle.caption.specs.declared.Answer.{Answer}
+use Rattle.caption.specs.Answers.{saidAnswer}
 use Rattle.service.specs.declared.Service.{Service}
-use Rattle.packet.specs.Packet.{Answers, ledBy}
+use Rattle.packet.specs.Packet.{Answers, Pushes, ledBy}
 use Rattle.packet.specs.Place.{saidPlace, Placed}
 use Rattle.packet.specs.declared.DTVCCPacket.{DTVCCPacket}
 use Rattle.packet.specs.declared.Lead.{Lead}
@@ -56,14 +58,18 @@ place-again (Refused why) = refused-again placeOf Refused why
 saidPlace-injective : Injective saidPlace
 saidPlace-injective = LeftInverse·injective (answerOf placeOf Refused) saidPlace place-again
 
+-- answers that say the same beside the same packet
+answer-same : (r q : PacketAnswer) → saidAnswer (r .answer) ≡ saidAnswer (q .answer) → r .packet ≡ q .packet → r ≡ q
+answer-same r q e f = two (λ (x : Answer) (p : DTVCCPacket). record { answer = x; packet = p }) (saidAnswer-injective (r .answer) (q .answer) e) f
+
 module _ {A E : Type 0} where
   -- an answer and a packet
   answers : {o : A → Outcome DTVCCPacket} {beside : A → DTVCCPacket} → Determines (λ (a : A) (r : PacketAnswer) (e : E). Answers (o a) (beside a) r)
-  answers =
-      record {
-        result = λ a r q e f h k. two (λ (x : Answer) (p : DTVCCPacket). record { answer = x; packet = p })
-            (saidAnswer-injective (r .answer) (q .answer) (h .answer ∙ sym (k .answer))) (h .packet ∙ sym (k .packet));
-      }
+  answers = record { result = λ a r q e f h k. answer-same r q (h .answer ∙ sym (k .answer)) (h .packet ∙ sym (k .packet)) }
+
+  -- a packet that is pushed to
+  pushes : {o : A → Outcome Packet} {p : A → DTVCCPacket} → Determines (λ (a : A) (r : PacketAnswer) (e : E). Pushes (o a) (p a) r)
+  pushes = record { result = λ a r q e f h k. answer-same r q (h .answer ∙ sym (k .answer)) (h .places ∙ sym (k .places)) }
 
   -- a place and the block there
   placed : {o : A → Outcome (List Block)} → Determines (λ (a : A) (r : ServiceAt) (e : E). Placed (o a) r)
@@ -136,15 +142,15 @@ DTVCCPacket-service = placed
 
 -- `packet.push_service(service)`
 pub DTVCCPacket-push-service : Determines (push_service.Post (tt {0}))
-DTVCCPacket-push-service = answers
+DTVCCPacket-push-service = pushes
 
 -- `packet.push_code(service_no, code)`
 pub DTVCCPacket-push-code : (κs : Lfts 1) → Determines (push_code.Post κs)
-DTVCCPacket-push-code κs = answers
+DTVCCPacket-push-code κs = pushes
 
 -- `packet.push_code_into_single_service(service_no, code)`
 pub DTVCCPacket-push-code-into-single-service : (κs : Lfts 1) → Determines (push_code_into_single_service.Post κs)
-DTVCCPacket-push-code-into-single-service κs = answers
+DTVCCPacket-push-code-into-single-service κs = pushes
 
 -- `DTVCCPacket::parse(data)`
 pub DTVCCPacket-parse : (κs : Lfts 1) → Determines (parse.Post κs)

@@ -1,15 +1,17 @@
 -- The block's functions. Assumes nothing.
-use mathlib.Core.Path.{sym, _∙_}
+use mathlib.Core.Path.{_≡_, sym, _∙_}
 use mathlib.Core.Bool.{Bool}
 use mathlib.Core.List.{List}
 use Prim.Native.Nat.{ℕ}
 use contract.Lifetimes.{Lfts}
 use denote.Ref.{now}
 use Rattle.model.specs.Said.{Outcome}
+use Rattle.model.specs.Block.{Block}
 use Rattle.caption.proofs.Answers.{saidRefusal-injective, saidAnswer-injective, saidCounted-injective, saidTruth-injective}
 use Rattle.caption.specs.declared.Answer.{Answer}
 use Rattle.caption.specs.declared.Counted.{Counted}
-use Rattle.service.specs.Service.{Answers, Writes}
+use Rattle.caption.specs.Answers.{saidAnswer}
+use Rattle.service.specs.Service.{Answers, Pushes, Writes}
 use Rattle.service.specs.declared.Service.{Service}
 use Rattle.service.specs.declared.ServiceAnswer.{ServiceAnswer}
 use Rattle.service.proofs.lesser.Reads as Lesser
@@ -32,14 +34,18 @@ use Rattle.service.proofs.Service.write.Reads as write
 use Rattle.determined.specs.Determines.{Determines, DeterminesLent, DeterminesPart}
 use Rattle.determined.proofs.Ways.{equal, said, filled, part-equal, two}
 
+-- answers that say the same beside the same block
+answer-same : (r q : ServiceAnswer) → saidAnswer (r .answer) ≡ saidAnswer (q .answer) → r .service ≡ q .service → r ≡ q
+answer-same r q e f = two (λ (x : Answer) (s : Service). record { answer = x; service = s }) (saidAnswer-injective (r .answer) (q .answer) e) f
+
 module _ {A E : Type 0} where
   -- an answer and a block
   pub answers : {o : A → Outcome Service} {beside : A → Service} → Determines (λ (a : A) (r : ServiceAnswer) (e : E). Answers (o a) (beside a) r)
-  answers =
-      record {
-        result = λ a r q e f h k. two (λ (x : Answer) (s : Service). record { answer = x; service = s })
-            (saidAnswer-injective (r .answer) (q .answer) (h .answer ∙ sym (k .answer))) (h .service ∙ sym (k .service));
-      }
+  answers = record { result = λ a r q e f h k. answer-same r q (h .answer ∙ sym (k .answer)) (h .service ∙ sym (k .service)) }
+
+  -- a block that is pushed to
+  pub pushes : {o : A → Outcome Block} {s : A → Service} → Determines (λ (a : A) (r : ServiceAnswer) (e : E). Pushes (o a) (s a) r)
+  pushes = record { result = λ a r q e f h k. answer-same r q (h .answer ∙ sym (k .answer)) (h .places ∙ sym (k .places)) }
 
   -- bytes written to a lent output, and how many
   pub writes : {valid : A → Bool} {bytes before : A → List ℕ} {lent : E → List ℕ} → DeterminesLent lent (λ (a : A) (r : Counted) (e : E). Writes (valid a) (bytes a) (before a) r (lent e))
@@ -104,7 +110,7 @@ Service-is-empty = said saidTruth-injective
 
 -- `service.push_code(code)`
 pub Service-push-code : (κs : Lfts 1) → Determines (push_code.Post κs)
-Service-push-code κs = answers
+Service-push-code κs = pushes
 
 -- `Service::parse(data)`
 pub Service-parse : (κs : Lfts 1) → Determines (parse.Post κs)

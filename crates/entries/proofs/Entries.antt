@@ -3,18 +3,20 @@ use mathlib.Core.Path.{_≡_, refl, sym, ap, ap₂, _∙_}
 use mathlib.Core.Bool.{true, cond, _&&_}
 use mathlib.Core.List.{List, [], _∷_, _++_, map, append-assoc}
 use Prim.Native.Nat.{ℕ, zero, suc, _+_, _-_, _*_, _≤_, _<_}
-use native.Mathlib.Nat.{add-zero}
+use native.Mathlib.Nat.{add-zero, zero-add}
 use native.Mathlib.Omega.{arith}
 use lib.Dec.{eqb, leb, ltb}
 use lib.ListN.{length, take, drop, getD, length-append, length-drop}
-use lib.Seq.{drop-drop, getD-drop, length-take-le, take-add, take-at, drop-at}
+use lib.Seq.{drop-drop, getD-drop, length-take-le, take-all, take-nil, take-add, take-at, drop-at}
 use borrow.Author.Tests.{ne-eqb, le-leb, leb-true}
 use Rattle.model.specs.Block.{Block, blockLength}
 use Rattle.model.specs.Packet.{carriable, allCarriable, blocksLength}
 use Rattle.model.proofs.Cases.{by-test, both, and-both}
 use Rattle.model.proofs.Blocks.{Carriable, facts-carriable, carriable-facts, block-length, written-length}
 use Rattle.service.specs.Head.{lengthFor}
-use Rattle.entries.specs.Fields.{Entry, entries, cut, goodEntry, goodEntries, lengthsOf, usedBy, numbersOf, sizesOf, payloadsOf}
+use Rattle.service.proofs.Heads.{length-by}
+use Rattle.entries.specs.Fields.{blocksHeld, sumOf, numbersOf, sizesOf, payloadsOf}
+use Rattle.entries.specs.Entries.{Entry, entries, cut, goodEntry, goodEntries, lengthsOf, usedBy}
 
 -- as many entries as were asked for
 pub entries-length : (k : ℕ) (ns ss : List ℕ) → length (entries k ns ss) ≡ k
@@ -33,6 +35,15 @@ pub entries-at : (k i : ℕ) (ns ss : List ℕ) → i < k
     → entries (k - i) (drop i ns) (drop i ss) ≡ record { number = getD ns i 0; size = getD ss i 0 } ∷ entries (k - (i + 1)) (drop (i + 1) ns) (drop (i + 1) ss)
 unfolding entries
 entries-at k i ns ss h =
+    let e : k - i ≡ suc (k - (i + 1)) = omega arith in
+    rw (e, getD-drop i ns 0 0, getD-drop i ss 0 0, drop-drop 1 i ns, drop-drop 1 i ss, add-zero)
+
+-- and the blocks from there on likewise
+pub held-at : (k i : ℕ) (ns ss d : List ℕ) → i < k
+    → blocksHeld (k - i) (drop i ns) (drop i ss) d
+    ≡ record { number = getD ns i 0; payload = take (getD ss i 0) d } ∷ blocksHeld (k - (i + 1)) (drop (i + 1) ns) (drop (i + 1) ss) (drop (getD ss i 0) d)
+unfolding blocksHeld
+held-at k i ns ss d h =
     let e : k - i ≡ suc (k - (i + 1)) = omega arith in
     rw (e, getD-drop i ns 0 0, getD-drop i ss 0 0, drop-drop 1 i ns, drop-drop 1 i ss, add-zero)
 
@@ -67,15 +78,13 @@ good-at (suc k) (suc i) ns ss ok h =
 
 -- the length of a block with a payload
 pub length-for : (n k : ℕ) → 1 ≤ k → lengthFor n k ≡ cond (ltb n 7) 1 2 + k
-unfolding lengthFor
-length-for n k h = simp (ne-eqb k 0 (λ e. omega arith))
+length-for n k h = length-by n k ∙ simp (ne-eqb k 0 (λ e. omega arith))
 
 pub length-least : (n k : ℕ) → 1 ≤ k → 1 + k ≤ lengthFor n k
 length-least n k h = rw (length-for n k h) (by-test (ltb n 7) (λ e. rw e (omega arith)) (λ e. rw e (omega arith)))
 
 pub length-most : (n k : ℕ) → lengthFor n k ≤ 2 + k
-unfolding lengthFor
-length-most n k = by-test (eqb k 0) (λ e. rw e (omega arith)) (λ e. rw e (by-test (ltb n 7) (λ q. rw q (omega arith)) (λ q. rw q (omega arith))))
+length-most n k = rw (length-by n k) (by-test (eqb k 0) (λ e. rw e (omega arith)) (λ e. rw e (by-test (ltb n 7) (λ q. rw q (omega arith)) (λ q. rw q (omega arith)))))
 
 -- every block has a header besides its payload
 pub used-least : (es : List Entry) → goodEntries es ≡ true → usedBy es + length es ≤ lengthsOf es
@@ -92,6 +101,23 @@ entries-two (e ∷ es) ok =
     let g = both (goodEntry (e .number) (e .size)) (goodEntries es) ok in
     let k = good-facts (e .number) (e .size) (g .0) in
     omega (arith, entries-two es (g .1), length-least (e .number) (e .size) (k .filled), k .filled)
+
+-- the blocks that arrays hold are those cut by their entries
+pub held-cut : (k : ℕ) (ns ss d : List ℕ) → blocksHeld k ns ss d ≡ cut (entries k ns ss) d
+unfolding blocksHeld cut entries
+held-cut zero ns ss d = refl
+held-cut (suc k) ns ss d = ap (λ (bs : List Block). record { number = getD ns 0 0; payload = take (getD ss 0 0) d } ∷ bs) (held-cut k (drop 1 ns) (drop 1 ss) (drop (getD ss 0 0) d))
+
+-- the payloads before a place, by the sizes alone
+pub used-sum : (j k : ℕ) (ns ss : List ℕ) → j ≤ k → usedBy (take j (entries k ns ss)) ≡ sumOf (take j ss)
+unfolding usedBy entries sumOf
+used-sum zero k ns ss h = refl
+used-sum (suc j) zero ns ss h = absurd (omega arith)
+used-sum (suc j) (suc k) ns [] h = zero-add _ ∙ used-sum j k (drop 1 ns) [] (omega arith) ∙ rw (take-nil {A = ℕ} j)
+used-sum (suc j) (suc k) ns (s ∷ ss) h = ap (λ n. s + n) (used-sum j k (drop 1 ns) ss (omega arith))
+
+pub used-all : (k : ℕ) (ns ss : List ℕ) → usedBy (entries k ns ss) ≡ sumOf (take k ss)
+used-all k ns ss = ap usedBy (sym (take-all k (entries k ns ss) (omega (arith, entries-length k ns ss)))) ∙ used-sum k k ns ss (omega arith)
 
 -- the blocks that are cut
 pub cut-length : (es : List Entry) (d : List ℕ) → length (cut es d) ≡ length es
@@ -126,6 +152,16 @@ cut-carriable [] d ok h = refl
 cut-carriable (e ∷ es) d ok h =
     let g = both (goodEntry (e .number) (e .size)) (goodEntries es) ok in
     and-both _ _ (facts-carriable _ (cut-block e d (good-facts _ _ (g .0)) (omega arith))) (cut-carriable es (drop (e .size) d) (g .1) (rw length-drop (omega arith)))
+
+pub cut-good : (es : List Entry) (d : List ℕ) → usedBy es ≤ length d → allCarriable (cut es d) ≡ true → goodEntries es ≡ true
+unfolding cut usedBy goodEntries allCarriable
+cut-good [] d h ok = refl
+cut-good (e ∷ es) d h ok =
+    let b : Block = record { number = e .number; payload = take (e .size) d } in
+    let f = both (carriable b) (allCarriable (cut es (drop (e .size) d))) ok in
+    let c = carriable-facts b (f .0) in
+    let n : length (take (e .size) d) ≡ e .size = length-take-le (e .size) d (omega arith) in
+    and-both _ _ (facts-good _ _ (record { named = c .named; known = c .known; filled = omega (arith, c .filled); small = omega (arith, c .small) })) (cut-good es (drop (e .size) d) (rw length-drop (omega arith)) (f .1))
 
 pub block-lengths : (n k : ℕ) (p : List ℕ) → 1 ≤ k → length p ≡ k → blockLength (record { number = n; payload = p }) ≡ lengthFor n k
 block-lengths n k p h e = block-length (record { number = n; payload = p }) (omega arith) ∙ written-length (record { number = n; payload = p }) ∙ rw e (sym (length-for n k h))

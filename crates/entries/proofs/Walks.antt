@@ -14,8 +14,9 @@ use Rattle.service.specs.Head.{lengthFor}
 use Rattle.entries.specs.declared.Extent.{Extent}
 use Rattle.entries.specs.declared.Extent.the-variants.{Of, Bad}
 use Rattle.entries.specs.declared.Found.the-variants.{At, Nothing}
-use Rattle.entries.specs.Fields.{Fields, Entry, entries, entriesOf, goodEntry, goodEntries, lengthsOf, usedBy, validAs, validFields}
-use Rattle.entries.specs.Extent.{lengthWith, walked, extentAs, Sized, latestIn, latestOf, sumOf, sumTo}
+use Rattle.entries.specs.Fields.{Fields, sumOf}
+use Rattle.entries.specs.Entries.{Entry, entries, entriesOf, goodEntry, goodEntries, lengthsOf, usedBy, validAs, validEntries}
+use Rattle.entries.specs.Extent.{lengthWith, walked, extentAs, Sized, latestIn, latestOf, sumTo}
 use Rattle.entries.proofs.Entries.{entries-at, good-facts, length-most}
 
 -- the tests of an entry
@@ -197,8 +198,8 @@ module _ (q k : ℕ) (es : List Entry) where
 module _ (p : Fields) (e : Extent) (is : e ≡ extentAs (p .«seq_no») (p .count) (entriesOf p)) where
   pub extent-sized : (n u : ℕ) → e ≡ Of n u → Sized p n u
   unfolding extentAs
-  extent-sized n u z = let w = of-parts (validFields p) _ _ n u (sym is ∙ z) in record { valid = w .0; length-is = sym (w .1); used-is = sym (w .2) }
+  extent-sized n u z = let w = of-parts (validEntries p) _ _ n u (sym is ∙ z) in record { valid = w .0; length-is = sym (w .1); used-is = sym (w .2) }
 
-  pub extent-invalid : e ≡ Bad → validFields p ≡ false
+  pub extent-invalid : e ≡ Bad → validEntries p ≡ false
   unfolding extentAs
-  extent-invalid z = bad-parts (validFields p) _ _ (sym is ∙ z)
+  extent-invalid z = bad-parts (validEntries p) _ _ (sym is ∙ z)

@@ -21,11 +21,12 @@ use Rattle.service.specs.Service.{Writes}
 use Rattle.service.specs.Head.{lengthFor}
 use Rattle.service.proofs.Runs.{sets-append, sets-front}
 use Rattle.service.proofs.Heads.{laid-block}
-use Rattle.entries.specs.Fields.{Fields, Entry, Written, entries, entriesOf, cut, goodEntry, goodEntries, lengthsOf, usedBy, packetIn, validFields, blockFrom}
+use Rattle.entries.specs.Fields.{Fields, packetIn, validFields, blockFrom}
+use Rattle.entries.specs.Entries.{Entry, Written, entries, entriesOf, cut, goodEntry, goodEntries, lengthsOf, usedBy, validEntries}
 use Rattle.entries.specs.Extent.{Sized}
-use Rattle.entries.proofs.Entries.{Good, no-lengths, entries-at, good-facts, length-for, cut-lengths, cut-carriable}
-use Rattle.entries.proofs.Holds.{Within, within-facts, used-fits}
-use Rattle.entries.proofs.Measures.{sized-within, sized-length}
+use Rattle.entries.proofs.Entries.{Good, no-lengths, entries-at, good-facts, length-for}
+use Rattle.entries.proofs.Holds.{Within, within-facts, blocks-cut, used-fits, lengths-held, held-valid, tests-agree}
+use Rattle.entries.proofs.Measures.{sized-within, sized-valid, sized-length}
 
 -- the fill of an odd length, and of an even one
 module _ (l : List ℕ) (n : ℕ) where
@@ -134,9 +135,7 @@ module _ (p : Fields) (n u : ℕ) (s : Sized p n u) (full : length (p .payload) 
   lengths = lengthsOf (entriesOf p)
 
   blocks-are : length (writtenBlocks (packetIn p .blocks)) ≡ lengths
-  blocks-are =
-      blocks-length (packetIn p .blocks) (cut-carriable (entriesOf p) (p .payload) (w .good) (used-fits p w full))
-      ∙ cut-lengths (entriesOf p) (p .payload) (w .good) (used-fits p w full)
+  blocks-are = blocks-length (packetIn p .blocks) (held-valid p w full .blocks) ∙ lengths-held p w full
 
   -- a packet without blocks has length 0, and any other a byte more than its blocks
   none-or-more : (P : ℕ → ℕ → Type 0) → P 0 0 → ((l : ℕ) → P (1 + l) l) → P n lengths
@@ -156,11 +155,11 @@ module _ (p : Fields) (n u : ℕ) (s : Sized p n u) (full : length (p .payload) 
   unfolding fill
   fill-place l = none-or-more (λ k m. sets l k (fill k) ≡ sets l (1 + m) (fill k)) refl (λ _. refl)
 
-  pub packet-laid : (h : ℕ) (out l₁ l₂ : List ℕ) → h ≡ p .«seq_no» * 64 + (n + 1) / 2 % 64 → l₁ ≡ sets (set out 0 h) 1 (writtenBlocks (packetIn p .blocks)) → l₂ ≡ sets l₁ n (fill n)
+  pub packet-laid : (h : ℕ) (out l₁ l₂ : List ℕ) → h ≡ p .«seq_no» * 64 + (n + 1) / 2 % 64 → l₁ ≡ sets (set out 0 h) 1 (writtenBlocks (cut (entriesOf p) (p .payload))) → l₂ ≡ sets l₁ n (fill n)
       → l₂ ≡ sets out 0 (writtenPacket (packetIn p))
   unfolding writtenPacket packetHeader
   packet-laid h out l₁ l₂ e a b =
-      b ∙ fill-place l₁ ∙ rw (sized-length p n u s full, ← e, a) (sym (sets-append (writtenBlocks (packetIn p .blocks)) (fill n) (set out 0 h) 1 ∙ rw blocks-are))
+      b ∙ fill-place l₁ ∙ rw (sized-length p n u s full, ← e, a, ← blocks-cut p) (sym (sets-append (writtenBlocks (packetIn p .blocks)) (fill n) (set out 0 h) 1 ∙ rw blocks-are))
 
   -- what the write answers
   module _ (t : ℕ) (is : t ≡ cond (eqb n 0) 1 (n + n % 2)) where
@@ -169,7 +168,7 @@ module _ (p : Fields) (n u : ℕ) (s : Sized p n u) (full : length (p .payload) 
 
     pub write-short : (out : List ℕ) (r : Counted) → length out < t → saidCounted r ≡ outShort t → Writes (validFields p) (writtenPacket (packetIn p)) out r out
     unfolding putInto
-    write-short out r h q = let z : ltb (length out) t ≡ true = lt-ltb _ _ h in record { answer = rw (s .valid, written-total t is, z) q; output = rw (s .valid, written-total t is, z) }
+    write-short out r h q = let z : ltb (length out) t ≡ true = lt-ltb _ _ h in record { answer = rw (sized-valid p n u s full, written-total t is, z) q; output = rw (sized-valid p n u s full, written-total t is, z) }
 
     pub write-fits : (out now : List ℕ) (r : Counted) → t ≤ length out → saidCounted r ≡ accepted (t ∷ []) → now ≡ sets out 0 (writtenPacket (packetIn p))
         → Writes (validFields p) (writtenPacket (packetIn p)) out r now
@@ -177,11 +176,12 @@ module _ (p : Fields) (n u : ℕ) (s : Sized p n u) (full : length (p .payload) 
     write-fits out now r h q e =
         let z : ltb (length out) t ≡ false = le-ltb _ _ h in
         let f = sets-front out (writtenPacket (packetIn p)) (omega (arith, written-total t is)) in
-        record { answer = rw (s .valid, written-total t is, z) q; output = rw (s .valid, written-total t is, z) (e ∙ rw (written-total t is) at f) }
+        record { answer = rw (sized-valid p n u s full, written-total t is, z) q; output = rw (sized-valid p n u s full, written-total t is, z) (e ∙ rw (written-total t is) at f) }
 
-pub write-invalid : (p : Fields) (out : List ℕ) (r : Counted) → validFields p ≡ false → saidCounted r ≡ badValue → Writes (validFields p) (writtenPacket (packetIn p)) out r out
-write-invalid p out r e q = rw e (record { answer = q; output = refl })
+pub write-invalid : (p : Fields) → length (p .payload) ≡ 127 → (out : List ℕ) (r : Counted) → validEntries p ≡ false → saidCounted r ≡ badValue
+    → Writes (validFields p) (writtenPacket (packetIn p)) out r out
+write-invalid p full out r e q = rw (tests-agree p full, e) (record { answer = q; output = refl })
 
 -- the blocks of such a packet may be written
-pub writable : (p : Fields) → validFields p ≡ true → length (p .payload) ≡ 127 → Written (entriesOf p) (p .count) (length (p .payload))
+pub writable : (p : Fields) → validEntries p ≡ true → length (p .payload) ≡ 127 → Written (entriesOf p) (p .count) (length (p .payload))
 writable p v full = let w = within-facts p v in record { few = w .count; there = used-fits p w full; good = w .good; short = w .lengths }

@@ -1,7 +1,8 @@
--- What is measured of the places of a packet on the way, and the block that one of them holds. Assumes nothing.
+-- What is measured of the places of a packet on the way, and the block that one of them holds: for the functions and the proofs of this crate, of
+-- `pushes` and of `packet`, and no public contract of `packet` reaches it. Assumes nothing.
 use mathlib.Core.Path.{_≡_}
 use mathlib.Core.Bool.{true, cond}
-use mathlib.Core.List.{List, [], _∷_}
+use mathlib.Core.List.{List}
 use Prim.Native.Nat.{ℕ, zero, suc, _+_}
 use lib.Dec.{eqb, ltb}
 use lib.ListN.{getD, take, drop, replicate}
@@ -12,7 +13,8 @@ use Rattle.entries.specs.declared.Extent.{Extent}
 use Rattle.entries.specs.declared.Extent.the-variants.{Of, Bad}
 use Rattle.entries.specs.declared.Found.{Found}
 use Rattle.entries.specs.declared.Found.the-variants.{At, Nothing}
-use Rattle.entries.specs.Fields.{Fields, Entry, entriesOf, goodEntries, lengthsOf, usedBy, validAs, validFields}
+use Rattle.entries.specs.Fields.{Fields, sumOf}
+use Rattle.entries.specs.Entries.{Entry, entriesOf, goodEntries, lengthsOf, usedBy, validAs, validEntries}
 
 -- the length of a packet of so many entries: "An empty packet has length 0"; any other has a byte more than its blocks
 abbrev pub lengthWith : ℕ → ℕ → ℕ
@@ -26,9 +28,9 @@ walked es = cond (goodEntries es) (Of (lengthsOf es) (usedBy es)) Bad
 unfoldable pub extentAs : ℕ → ℕ → List Entry → Extent
 extentAs q k es = cond (validAs q k es) (Of (lengthWith k (lengthsOf es)) (usedBy es)) Bad
 
--- a packet within the limits, with its length and the sum of its payloads
+-- entries within the limits, with the length of their packet and the sum of its payloads
 pub record Sized (p : Fields) (length used : ℕ) : Type 0 where
-  pub valid : validFields p ≡ true
+  pub valid : validEntries p ≡ true
   pub length-is : length ≡ lengthWith (p .count) (lengthsOf (entriesOf p))
   pub used-is : used ≡ usedBy (entriesOf p)
 
@@ -42,10 +44,6 @@ unfoldable pub latestOf : ℕ → List ℕ → ℕ → Found
 latestOf k ns n = cond (ltb 63 k) Nothing (latestIn k ns n)
 
 -- the sum of the first k sizes; 0 where there are fewer places
-unfoldable pub sumOf : List ℕ → ℕ
-sumOf [] = 0
-sumOf (x ∷ xs) = x + sumOf xs
-
 unfoldable pub sumTo : ℕ → List ℕ → ℕ
 sumTo k ss = cond (ltb 63 k) 0 (sumOf (take k ss))
 

@@ -14,19 +14,19 @@ Places p = fields.Places (fieldsOf p)
 
 -- a valid packet, as facts
 abbrev pub Within : DTVCCPacket → Type 0
-Within p = held.Within (fieldsOf p)
+Within p = held.Held (fieldsOf p)
 
 pub within-facts : (p : DTVCCPacket) → validDTVCC p ≡ true → Within p
 unfolding validDTVCC
-within-facts p e = held.within-facts (fieldsOf p) e
-
-pub facts-within : (p : DTVCCPacket) → Within p → validDTVCC p ≡ true
-unfolding validDTVCC
-facts-within p w = held.facts-within (fieldsOf p) w
+within-facts p e = held.held-facts (fieldsOf p) e
 
 -- "what a reader gives is valid", as the model has it
 pub held-valid : (p : DTVCCPacket) → Within p → Places p → Valid (packetOf p)
-held-valid p w places = held.held-valid (fieldsOf p) w (places .payload)
+held-valid p w places = w .packet
+
+-- and its entries are within the limits
+pub entries-within : (p : DTVCCPacket) → Within p → Places p → held.Within (fieldsOf p)
+entries-within p w places = held.held-within (fieldsOf p) w (places .payload)
 
 -- a packet laid over any places is what is then held, breaks no limit and keeps the places
 module _ (old : DTVCCPacket) (places : Places old) (p : Packet) (v : Valid p) where
@@ -34,9 +34,9 @@ module _ (old : DTVCCPacket) (places : Places old) (p : Packet) (v : Valid p) wh
   unfolding over
   over-holds = held.over-holds (fieldsOf old) places p v
 
-  pub over-within : Within (over old p)
-  unfolding over
-  over-within = held.over-within (fieldsOf old) places p v
+  pub over-valid : validDTVCC (over old p) ≡ true
+  unfolding over validDTVCC
+  over-valid = held.over-valid (fieldsOf old) places p v
 
   pub over-places : Places (over old p)
   unfolding over

@@ -1,23 +1,29 @@
 -- What a reader gives and a push leaves breaks no limit and holds what the model says; a packet written is read back. Assumes nothing.
-use mathlib.Core.Path.{_≡_}
+use mathlib.Core.Path.{_≡_, refl}
 use mathlib.Core.Bool.{Bool, true}
 use mathlib.Core.List.{List}
 use Prim.Native.Nat.{ℕ, _≤_}
 use lib.ListN.{length, length-replicate}
 use Rattle.model.specs.Said.{gave}
-use Rattle.model.specs.Packet.{Packet, readPacket, readTidy, writtenPacket, pushBlock, pushRunBy}
+use Rattle.model.specs.Packet.{Packet, readPacket, readTidy, writtenPacket, pushBlock, pushRunBy, packetLength, allCarriable, validPacket}
 use Rattle.model.proofs.Packets.{Valid, plain-back, tidy-back}
 use Rattle.model.specs.Block.{Block, validBlock}
 use Rattle.model.proofs.Cases.{gives-at}
 use Rattle.model.proofs.Limits.{plain-valid, tidy-valid}
 use Rattle.model.proofs.Pushing.{block-valid, run-valid}
+use Rattle.entries.specs.Fields.{blocksHeld, sumOf, validFields}
 use Rattle.packet.specs.declared.DTVCCPacket.{DTVCCPacket}
 use Rattle.packet.specs.Packet.{packetOf, over, blank, validDTVCC}
-use Rattle.packet.proofs.Holds.{Places, within-facts, facts-within, held-valid, over-holds, over-within, over-places}
+use Rattle.packet.proofs.Holds.{Places, within-facts, held-valid, over-holds, over-valid, over-places}
 
 -- the empty places have their lengths
 pub blank-places : Places blank
 blank-places = record { numbers = length-replicate {A = ℕ} 63 0; sizes = length-replicate {A = ℕ} 63 0; payload = length-replicate {A = ℕ} 127 0 }
+
+-- and break no limit
+pub blank-valid : validDTVCC blank ≡ true
+unfolding validDTVCC validFields blocksHeld sumOf validPacket allCarriable packetLength
+blank-valid = refl
 
 -- a packet within the limits, laid over any places: it is held, breaks no limit and keeps the places
 pub record Laid (old : DTVCCPacket) (p : Packet) : Type 0 where
@@ -26,7 +32,7 @@ pub record Laid (old : DTVCCPacket) (p : Packet) : Type 0 where
   pub places : Places (over old p)
 
 pub laid-over : (old : DTVCCPacket) → Places old → (p : Packet) → Valid p → Laid old p
-laid-over old places p v = record { holds = over-holds old places p v; valid = facts-within (over old p) (over-within old places p v); places = over-places old places p v }
+laid-over old places p v = record { holds = over-holds old places p v; valid = over-valid old places p v; places = over-places old places p v }
 
 -- what the plain reader gives, and the tidy one
 pub parsed-held : (d : List ℕ) {p : Packet} → readPacket d ≡ gave p → Laid blank p

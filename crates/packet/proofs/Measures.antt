@@ -1,5 +1,5 @@
 -- What is measured of a packet, by each way out. Assumes nothing.
-use mathlib.Core.Path.{_≡_, sym, ap}
+use mathlib.Core.Path.{_≡_, sym, ap, _∙_}
 use mathlib.Core.Bool.{false, cond}
 use mathlib.Core.List.{[], _∷_}
 use Prim.Native.Nat.{ℕ, _-_, _≤_, _<_}
@@ -12,9 +12,9 @@ use Rattle.entries.specs.declared.Extent.{Extent}
 use Rattle.entries.specs.declared.Extent.the-variants.{Of, Bad}
 use Rattle.entries.specs.Fields as places
 use Rattle.entries.specs.Extent.{Sized}
-use Rattle.entries.proofs.Holds.{blocks-count}
+use Rattle.entries.proofs.Holds.{blocks-count, tests-agree}
 use Rattle.entries.proofs.Walks as walks
-use Rattle.entries.proofs.Measures.{sized-within, length-small, sized-length}
+use Rattle.entries.proofs.Measures.{length-small, sized-valid, sized-length}
 use Rattle.packet.specs.declared.DTVCCPacket.{DTVCCPacket}
 use Rattle.packet.specs.Packet.{fieldsOf, packetOf, over, laid, blank, validDTVCC, extentOf}
 use Rattle.packet.proofs.Holds.{Places}
@@ -29,30 +29,30 @@ unfolding newPacket over places.over
 new-good q h = simp (le-ltb _ _ h)
 
 module _ (p : DTVCCPacket) (e : Extent) (is : e ≡ extentOf p) where
-  pub invalid : e ≡ Bad → validDTVCC p ≡ false
-  unfolding validDTVCC
-  invalid q = walks.extent-invalid (fieldsOf p) e is q
+  pub sized : (l u : ℕ) → e ≡ Of l u → Sized (fieldsOf p) l u
+  sized l u q = walks.extent-sized (fieldsOf p) e is l u q
 
-  pub bad-measured : (n : ℕ) → e ≡ Bad → badValue ≡ measured (validDTVCC p) n
-  bad-measured n q = rw (invalid q)
+  pub length-few : (l u : ℕ) → e ≡ Of l u → l ≤ 128
+  length-few l u q = length-small (fieldsOf p) l u (sized l u q)
 
-  module _ (l u : ℕ) (q : e ≡ Of l u) where
-    pub sized : Sized (fieldsOf p) l u
-    sized = walks.extent-sized (fieldsOf p) e is l u q
-
-    pub good-measured : (n k : ℕ) → n ≡ k → accepted (n ∷ []) ≡ measured (validDTVCC p) k
+  module _ (places : Places p) where
+    pub invalid : e ≡ Bad → validDTVCC p ≡ false
     unfolding validDTVCC
-    good-measured n k m = rw (sized .valid, m)
+    invalid q = tests-agree (fieldsOf p) (places .payload) ∙ walks.extent-invalid (fieldsOf p) e is q
 
-    pub length-few : l ≤ 128
-    length-few = length-small (fieldsOf p) l u sized
+    pub bad-measured : (n : ℕ) → e ≡ Bad → badValue ≡ measured (validDTVCC p) n
+    bad-measured n q = rw (invalid q)
 
-    module _ (places : Places p) where
+    module _ (l u : ℕ) (q : e ≡ Of l u) where
+      pub good-measured : (n k : ℕ) → n ≡ k → accepted (n ∷ []) ≡ measured (validDTVCC p) k
+      unfolding validDTVCC
+      good-measured n k m = rw (sized-valid (fieldsOf p) l u (sized l u q) (places .payload), m)
+
       length-is : l ≡ packetLength (packetOf p)
-      length-is = sym (sized-length (fieldsOf p) l u sized (places .payload))
+      length-is = sym (sized-length (fieldsOf p) l u (sized l u q) (places .payload))
 
       count-is : p .count ≡ length (packetOf p .blocks)
-      count-is = sym (blocks-count (fieldsOf p) (sized-within (fieldsOf p) l u sized) (places .payload))
+      count-is = sym (blocks-count (fieldsOf p))
 
       pub length-measured : accepted (l ∷ []) ≡ measured (validDTVCC p) (packetLength (packetOf p))
       length-measured = good-measured l _ length-is

@@ -12,17 +12,17 @@ use Rattle.service.specs.declared.Service.{Service}
 use Rattle.packet.specs.declared.DTVCCPacket.{DTVCCPacket}
 use Rattle.packet.specs.declared.ServiceAt.{ServiceAt}
 use Rattle.packet.specs.declared.Place.the-variants.{Here, Nothing, Refused}
-use Rattle.entries.specs.Fields.{entries, cut, usedBy}
+use Rattle.entries.specs.Entries.{entries, cut, usedBy}
 use Rattle.entries.specs.Extent.{Sized, sumTo, blockAt}
-use Rattle.entries.proofs.Entries.{entries-at}
-use Rattle.entries.proofs.Holds.{used-fits, blocks-count}
+use Rattle.entries.proofs.Entries.{entries-at, used-sum}
+use Rattle.entries.proofs.Holds.{Within, used-fits, blocks-cut, blocks-count}
 use Rattle.entries.proofs.Walks.{sum-few}
-use Rattle.entries.proofs.Measures.{sized-within}
+use Rattle.entries.proofs.Measures.{sized-within, sized-valid}
 use Rattle.entries.proofs.Placed.{place-block}
-use Rattle.pushes.proofs.Pushed.{used-sum, used-parts, cut-drop}
+use Rattle.pushes.proofs.Pushed.{used-parts, cut-drop}
 use Rattle.packet.specs.Packet.{fieldsOf, entriesOf, packetOf, validDTVCC}
 use Rattle.packet.specs.Place.{Placed, blocksAt, saidPlace}
-use Rattle.packet.proofs.Holds.{Places, Within}
+use Rattle.packet.proofs.Holds.{Places}
 
 pub place-invalid : (p : DTVCCPacket) (i : ℕ) (r : ServiceAt) → validDTVCC p ≡ false → r .place ≡ Refused BadValue → r .service ≡ blank → Placed (blocksAt i p) r
 unfolding blocksAt
@@ -41,17 +41,17 @@ entries-drop (suc i) (suc k) ns ss h =
     one-more i = omega arith
 
 module _ (p : DTVCCPacket) (l u : ℕ) (s : Sized (fieldsOf p) l u) (places : Places p) (i : ℕ) where
-  w : Within p
+  w : Within (fieldsOf p)
   w = sized-within (fieldsOf p) l u s
 
   valid : validDTVCC p ≡ true
   unfolding validDTVCC
-  valid = s .valid
+  valid = sized-valid (fieldsOf p) l u s (places .payload)
 
   pub place-none : (r : ServiceAt) → p .count ≤ i → r .place ≡ Nothing → r .service ≡ blank → Placed (blocksAt i p) r
   unfolding blocksAt
   place-none r h a b =
-      let few : length (packetOf p .blocks) ≤ i = omega (arith, blocks-count (fieldsOf p) w (places .payload)) in
+      let few : length (packetOf p .blocks) ≤ i = omega (arith, blocks-count (fieldsOf p)) in
       let z : drop i (packetOf p .blocks) ≡ [] = drop-of-length-le (packetOf p .blocks) few in
       rw (valid, z) (record { place = ap saidPlace a; service = b })
 
@@ -79,5 +79,5 @@ module _ (p : DTVCCPacket) (l u : ℕ) (s : Sized (fieldsOf p) l u) (places : Pl
     place-here b e =
         let size : length (take k (drop from (p .payload))) ≡ k = length-take-le k (drop from (p .payload)) (rw length-drop (omega (arith, bytes-there))) in
         let d : drop i (packetOf p .blocks) ≡ cut (record { number = getD (p .numbers) i 0; size = k } ∷ entries (p .count - (i + 1)) (drop (i + 1) (p .numbers)) (drop (i + 1) (p .sizes))) (drop from (p .payload)) =
-        cut-drop i (entriesOf p) (p .payload) ∙ rw (before, rest-at) in
+        ap (drop i) (blocks-cut (fieldsOf p)) ∙ cut-drop i (entriesOf p) (p .payload) ∙ rw (before, rest-at) in
         rw (valid, d) (record { place = refl; service = e ∙ place-block i (p .numbers) (p .sizes) (p .payload) (omega (arith, w .count)) size })

@@ -1,6 +1,6 @@
 -- What is answered beside a packet, by what was stored in its places. Assumes nothing.
 use mathlib.Core.Path.{_≡_, refl, sym, ap, _∙_}
-use mathlib.Core.Bool.{Bool}
+use mathlib.Core.Bool.{Bool, true, _&&_}
 use mathlib.Core.List.{List, [], _∷_}
 use Prim.Native.Nat.{ℕ}
 use native.Mathlib.Omega.{arith}
@@ -8,19 +8,24 @@ use lib.ListN.{length, getD, replicate}
 use Rattle.caption.specs.declared.Answer.{Answer}
 use Rattle.caption.specs.declared.Counted.{Counted}
 use Rattle.caption.specs.Answers.{saidAnswer}
-use Rattle.model.specs.Said.{Said, Outcome, gave, refused, isGiven, says, after, mapped, accepted}
-use Rattle.model.specs.Packet.{Packet, sequenceIn}
+use Rattle.model.specs.Said.{Said, Outcome, gave, refused, isGiven, says, after, mapped, checked, accepted}
+use Rattle.model.specs.Packet.{Packet, sequenceIn, pushBlock, pushRunBy}
+use Rattle.model.proofs.Cases.{by-cond, both, Gives}
+use Rattle.model.proofs.Packets.{Valid}
+use Rattle.model.proofs.Pushing.{block-valid, run-valid}
 use Rattle.service.specs.declared.Service.{Service}
-use Rattle.entries.specs.Fields.{Fields}
+use Rattle.service.specs.Service.{blockOf, validService}
+use Rattle.service.proofs.Services.{valid-block}
+use Rattle.entries.specs.Fields.{fields}
 use Rattle.entries.specs.Fields as places
 use Rattle.blocks.specs.Reading.{Read}
-use Rattle.pushes.specs.Pushing.{Stores, Pushes}
+use Rattle.pushes.specs.Pushing.{Stores}
 use Rattle.pushes.specs.Pushing as pushes
 use Rattle.packet.specs.declared.DTVCCPacket.{DTVCCPacket}
 use Rattle.packet.specs.declared.Lead.{Lead}
 use Rattle.packet.specs.declared.PacketAnswer.{PacketAnswer}
-use Rattle.packet.specs.Packet.{Answers, fieldsOf, packetWith, ledBy, leadOf, answerTo, over, blank, laid, answerOf, pushedRun, pushedBlock}
-use Rattle.packet.proofs.Holds.{Places}
+use Rattle.packet.specs.Packet.{Answers, Pushes, fieldsOf, packetWith, packetOf, validDTVCC, ledBy, leadOf, answerTo, over, blank, laid, answerOf}
+use Rattle.packet.proofs.Holds.{Places, within-facts, over-holds}
 
 -- an answer that refuses, and one that gives
 pub refuses : (o : Outcome DTVCCPacket) (beside : DTVCCPacket) (why : Said) (r : PacketAnswer) → o ≡ refused why → saidAnswer (r .answer) ≡ why → r .packet ≡ beside → Answers o beside r
@@ -54,19 +59,32 @@ module _ (r : Counted) (n s p : List ℕ) (q : ℕ) (l : Lead) (lead : l ≡ lea
       says-so (refused why) (e, k, m, a, b, c) = rw k m
 
 -- what a push left
-module _ (p : DTVCCPacket) (places : Places p) (r : Counted) (n s d : List ℕ) (a : PacketAnswer) (is : a ≡ answerOf (p .«seq_no») (p .count) r n s d) where
-  stored : (o : Outcome Fields) → Stores o (fieldsOf p) r n s d → Answers (mapped packetWith o) p a
-  unfolding Stores
-  stored (gave g) (e, q) = rw (is, e) (record { answer = refl; packet = ap packetWith (sym q) })
-  stored (refused why) (e, q, m, x, y, z) = rw (is, q, x, y, z) (record { answer = m; packet = refl })
+module _ (p : DTVCCPacket) (full : Places p) (r : Counted) (n s d : List ℕ) (a : PacketAnswer) (is : a ≡ answerOf (p .«seq_no») (p .count) r n s d) where
+  stored : (o : Outcome Packet) → Gives Valid o → Stores (mapped (places.over (fieldsOf p)) o) (fieldsOf p) r n s d → Pushes o p a
+  unfolding Stores over
+  stored (gave q) v (e, k) =
+      let same : packetWith (fields (p .«seq_no») (places.over (fieldsOf p) q .count) n s d) ≡ over p q = ap packetWith (sym k) in
+      rw (is, e) (record { answer = refl; means = ap packetOf same ∙ over-holds p full q v; places = same })
+  stored (refused why) v (e, q, m, x, y, z) = rw (is, q, x, y, z) (record { answer = m; means = refl; places = refl })
 
-  pub run-stored : (needsRoom : Bool) (number : ℕ) (run : List ℕ) → Pushes (pushes.pushedRun needsRoom number run) (fieldsOf p) r n s d → Answers (pushedRun needsRoom number run p) p a
-  unfolding pushedRun
-  run-stored needsRoom number run k = stored (pushes.pushedRun needsRoom number run (fieldsOf p)) (k places)
+  within : validDTVCC p ≡ true → Valid (packetOf p)
+  within v = within-facts p v .packet
 
-  pub block-stored : (b : Service) → Pushes (pushes.pushedBlock b) (fieldsOf p) r n s d → Answers (pushedBlock b p) p a
-  unfolding pushedBlock
-  block-stored b k = stored (pushes.pushedBlock b (fieldsOf p)) (k places)
+  pub run-stored : (needsRoom : Bool) (number : ℕ) (run : List ℕ) → pushes.Pushes (pushes.pushedRun needsRoom number run) (fieldsOf p) r n s d
+      → Pushes (checked (validDTVCC p) (pushRunBy needsRoom number run (packetOf p))) p a
+  unfolding pushes.pushedRun validDTVCC
+  run-stored needsRoom number run k =
+      stored (checked (validDTVCC p) (pushRunBy needsRoom number run (packetOf p)))
+      (by-cond (Gives Valid) (validDTVCC p) (λ v. run-valid (packetOf p) (within v) needsRoom number run) (λ _. tt)) (k full)
+
+  pub block-stored : (b : Service) → pushes.Pushes (pushes.pushedBlock b) (fieldsOf p) r n s d
+      → Pushes (checked (validDTVCC p && validService b) (pushBlock (blockOf b) (packetOf p))) p a
+  unfolding pushes.pushedBlock validDTVCC
+  block-stored b k =
+      stored (checked (validDTVCC p && validService b) (pushBlock (blockOf b) (packetOf p)))
+      (by-cond (Gives Valid) (validDTVCC p && validService b)
+      (λ e. let v = both (validDTVCC p) (validService b) e in block-valid (packetOf p) (within (v .0)) (blockOf b) (valid-block b (v .1)))
+      (λ _. tt)) (k full)
 
 -- no first byte
 pub none-first : (d : List ℕ) → length d ≡ 0 → 0 ≡ sequenceIn (getD d 0 0)

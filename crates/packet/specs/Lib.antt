@@ -1,3 +1,2 @@
 pub mod Packet
 pub mod Place
-pub mod Header

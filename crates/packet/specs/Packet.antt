@@ -11,12 +11,12 @@ use Rattle.caption.specs.declared.Answer.the-variants as answer
 use Rattle.caption.specs.Answers.{saidAnswer}
 use Rattle.model.specs.Said.{Outcome, says, after, mapped}
 use Rattle.model.specs.Packet.{Packet}
-use Rattle.service.specs.declared.Service.{Service}
 use Rattle.entries.specs.declared.Extent.{Extent}
-use Rattle.entries.specs.Fields.{Fields, Entry, fields, packetIn, validFields}
+use Rattle.entries.specs.Fields.{Fields, fields, packetIn, validFields}
 use Rattle.entries.specs.Fields as places
+use Rattle.entries.specs.Entries.{Entry}
+use Rattle.entries.specs.Entries as listed
 use Rattle.entries.specs.Extent.{extentAs}
-use Rattle.pushes.specs.Pushing as pushes
 use Rattle.packet.specs.declared.DTVCCPacket.{DTVCCPacket}
 use Rattle.packet.specs.declared.Lead.{Lead}
 use Rattle.packet.specs.declared.PacketAnswer.{PacketAnswer}
@@ -46,40 +46,38 @@ answerTo (Refused why) = answer.Refused why
 unfoldable pub over : DTVCCPacket → Packet → DTVCCPacket
 over old p = packetWith (places.over (fieldsOf old) p)
 
--- no packet: zeros in all places
+-- no packet: zeros in all places; and a packet with zeros behind it
 abbrev pub blank : DTVCCPacket
 blank = record { «seq_no» = 0; count = 0; numbers = replicate 63 0; sizes = replicate 63 0; payload = replicate 127 0 }
 
--- a packet in its places, with zeros behind it
 abbrev pub laid : Packet → DTVCCPacket
 laid p = over blank p
-
-abbrev pub entriesOf : DTVCCPacket → List Entry
-entriesOf p = places.entriesOf (fieldsOf p)
 
 -- the packet that it holds
 abbrev pub packetOf : DTVCCPacket → Packet
 packetOf p = packetIn (fieldsOf p)
 
--- whether it breaks no limit
+-- whether its blocks are in their places, and the packet breaks no limit
 unfoldable pub validDTVCC : DTVCCPacket → Bool
 validDTVCC p = validFields (fieldsOf p)
-
--- its extent, or that it breaks a limit
-abbrev pub extentOf : DTVCCPacket → Extent
-extentOf p = extentAs (p .«seq_no») (p .count) (entriesOf p)
 
 -- an answer says what the outcome says, and the packet beside it is the outcome's, or `beside` where it refuses
 pub record Answers (o : Outcome DTVCCPacket) (beside : DTVCCPacket) (r : PacketAnswer) : Type 0 where
   pub answer : saidAnswer (r .answer) ≡ says o
   pub packet : r .packet ≡ after beside o
 
--- a block pushed, and a run: to the latest block of the number only if it has room, or whether or not it has
-unfoldable pub pushedBlock : Service → DTVCCPacket → Outcome DTVCCPacket
-pushedBlock s p = mapped packetWith (pushes.pushedBlock s (fieldsOf p))
+-- a push: what the packet then means is what the outcome gives of it, and it is laid over the places that were there
+pub record Pushes (o : Outcome Packet) (p : DTVCCPacket) (r : PacketAnswer) : Type 0 where
+  pub answer : saidAnswer (r .answer) ≡ says o
+  pub means : packetOf (r .packet) ≡ after (packetOf p) o
+  pub places : r .packet ≡ after p (mapped (over p) o)
 
-unfoldable pub pushedRun : Bool → ℕ → List ℕ → DTVCCPacket → Outcome DTVCCPacket
-pushedRun needsRoom n run p = mapped packetWith (pushes.pushedRun needsRoom n run (fieldsOf p))
+-- for the functions that are not public: its entries, and its extent, or that it breaks a limit
+abbrev pub entriesOf : DTVCCPacket → List Entry
+entriesOf p = listed.entriesOf (fieldsOf p)
+
+abbrev pub extentOf : DTVCCPacket → Extent
+extentOf p = extentAs (p .«seq_no») (p .count) (entriesOf p)
 
 -- how many blocks there are after a push: as many as before, where it is refused
 abbrev pub countAfter : Counted → ℕ → ℕ

@@ -2,12 +2,12 @@
 use mathlib.Core.Path.{_≡_}
 use mathlib.Core.List.{List, [], _∷_}
 use Prim.Native.Nat.{ℕ}
-use lib.ListN.{length, take, drop}
+use lib.ListN.{length, getD, take, drop}
 use Rattle.caption.specs.Answers.{saidRefusal}
-use Rattle.model.specs.Said.{Said, Outcome, gave, refused, accepted, saysWith, checked}
+use Rattle.model.specs.Said.{Said, Outcome, gave, accepted, saysWith, after, checked}
 use Rattle.model.specs.Block.{Block}
-use Rattle.service.specs.declared.Service.{Service}
-use Rattle.service.specs.Service.{laid, blank}
+use Rattle.model.specs.Packet.{noBlock}
+use Rattle.service.specs.Service.{laid}
 use Rattle.packet.specs.declared.DTVCCPacket.{DTVCCPacket}
 use Rattle.packet.specs.declared.Place.{Place}
 use Rattle.packet.specs.declared.Place.the-variants.{Here, Nothing, Refused}
@@ -24,12 +24,7 @@ saidPlace (Refused why) = saidRefusal why
 unfoldable pub blocksAt : ℕ → DTVCCPacket → Outcome (List Block)
 blocksAt i p = checked (validDTVCC p) (gave (take 1 (drop i (packetOf p .blocks))))
 
--- the block that is handed out: without one, an empty one
-abbrev pub firstOf : Outcome (List Block) → Service
-firstOf (gave (b ∷ bs)) = laid b
-firstOf (gave []) = blank
-firstOf (refused why) = blank
-
+-- an answer says whether there is one, and the block handed out is that: without one, an empty one
 pub record Placed (o : Outcome (List Block)) (r : ServiceAt) : Type 0 where
   pub place : saidPlace (r .place) ≡ saysWith (λ bs. length bs ∷ []) o
-  pub service : r .service ≡ firstOf o
+  pub service : r .service ≡ laid (getD (after [] o) 0 noBlock)

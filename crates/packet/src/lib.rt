@@ -1,17 +1,16 @@
 // A DTVCC packet: its sequence number and its blocks, how it is read, written and pushed to.
 ghost use mathlib.Core.Path.{_≡_};
-ghost use mathlib.Core.Bool.{true, false, cond};
+ghost use mathlib.Core.Bool.{cond, _&&_};
 ghost use lib.ListN.{length, getD, take};
 ghost use lib.Dec.{eqb};
 ghost use Rattle.caption.specs.Answers.{saidRefusal, saidAnswer, saidCounted, saidTruth};
-ghost use Rattle.model.specs.Said.{after, mapped, measured};
-ghost use Rattle.model.specs.Packet.{packetSize, sequenceIn, readPacket, readTidy, newPacket, packetLength, packetRoom, writtenPacket};
+ghost use Rattle.model.specs.Said.{after, mapped, checked, measured};
+ghost use Rattle.model.specs.Packet.{packetSize, sequenceIn, readPacket, readTidy, newPacket, packetLength, packetRoom, writtenPacket, pushBlock, pushRun, pushRunSingle, pushRunBy};
 ghost use Rattle.model.specs.Packet as model;
-ghost use Rattle.service.specs.Service.{Writes};
+ghost use Rattle.service.specs.Service.{Writes, blockOf, validService};
 ghost use Rattle.service.specs.Service as service;
 ghost use Rattle.blocks.specs.Reading.{readAs};
-ghost use Rattle.packet.specs.Header.{headerOf};
-ghost use Rattle.packet.specs.Packet.{Answers, packetOf, ledBy, leadOf, answerTo, laid, blank, validDTVCC, extentOf, pushedBlock, pushedRun, countAfter, answerOf};
+ghost use Rattle.packet.specs.Packet.{Answers, Pushes, packetOf, ledBy, leadOf, answerTo, laid, blank, validDTVCC, extentOf, countAfter, answerOf};
 ghost use Rattle.packet.specs.Place.{Placed, blocksAt};
 use caption::Answer;
 use caption::Counted;
@@ -73,7 +72,7 @@ pub fn packet_size(h: u8) -> usize
 
 // The header of a packet.
 pub fn parse_hdr_byte(byte: u8) -> Header
-    ensures { λ r. ⌜ r ≡ headerOf byte ⌝ }
+    ensures { λ r. ⌜ r ≡ record { «seq_no» = sequenceIn byte; size = packetSize byte } ⌝ }
 {
     Header {
         seq_no: byte / 64 % 4,
@@ -341,7 +340,7 @@ impl DTVCCPacket {
 
     // Pushes a block behind the others.
     pub fn push_service(self, service: Service) -> PacketAnswer
-        ensures { λ r. ⌜ Answers (pushedBlock service self) self r ⌝ }
+        ensures { λ r. ⌜ Pushes (checked (validDTVCC self && validService service) (pushBlock (blockOf service) (packetOf self))) self r ⌝ }
     {
         let mut numbers = self.numbers;
         let mut sizes = self.sizes;
@@ -360,7 +359,7 @@ impl DTVCCPacket {
     // Pushes a run to the latest block of its number, or as a new block: where there is no such block, or where it has no
     // room and `needs_room` says that it has to.
     fn push_run(self, needs_room: bool, service_no: u8, code: &[u8]) -> PacketAnswer
-        ensures { λ r. ⌜ Answers (pushedRun «needs_room» «service_no» (now (code .entry)) self) self r ⌝ }
+        ensures { λ r. ⌜ Pushes (checked (validDTVCC self) (pushRunBy «needs_room» «service_no» (now (code .entry)) (packetOf self))) self r ⌝ }
     {
         let mut numbers = self.numbers;
         let mut sizes = self.sizes;
@@ -380,14 +379,14 @@ impl DTVCCPacket {
 
     // Pushes a code, a run of bytes, to the latest block of its number that has room, or as a new block.
     pub fn push_code(self, service_no: u8, code: &[u8]) -> PacketAnswer
-        ensures { λ r. ⌜ Answers (pushedRun true «service_no» (now (code .entry)) self) self r ⌝ }
+        ensures { λ r. ⌜ Pushes (checked (validDTVCC self) (pushRun «service_no» (now (code .entry)) (packetOf self))) self r ⌝ }
     {
         self.push_run(true, service_no, code)
     }
 
     // Pushes a code to the latest block of its number; a new block is made only where there is none.
     pub fn push_code_into_single_service(self, service_no: u8, code: &[u8]) -> PacketAnswer
-        ensures { λ r. ⌜ Answers (pushedRun false «service_no» (now (code .entry)) self) self r ⌝ }
+        ensures { λ r. ⌜ Pushes (checked (validDTVCC self) (pushRunSingle «service_no» (now (code .entry)) (packetOf self))) self r ⌝ }
     {
         self.push_run(false, service_no, code)
     }

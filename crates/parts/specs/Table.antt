@@ -6,8 +6,8 @@ use Prim.Native.Nat.{ℕ, _/_, _%_}
 use lib.Dec.{eqb, leb}
 use lib.ListN.{getD, drop}
 use Rattle.model.specs.Said.{gave, checked, mapped}
-use Rattle.model.specs.Block.{newBlock, readBlock, writtenBlock, partIn}
-use Rattle.model.specs.Packet.{newPacket, readPacket, readTidy, writtenPacket}
+use Rattle.model.specs.Block.{newBlock, readBlock, writtenBlock, partIn, pushToBlock}
+use Rattle.model.specs.Packet.{newPacket, readPacket, readTidy, writtenPacket, pushBlock, pushRun, pushRunSingle}
 use Rattle.model.specs.Mux.{pushPacket, pushCea608}
 use Rattle.caption.specs.declared.Cea608.{Cea608}
 use Rattle.caption.specs.declared.Cea608.the-variants.{Field1, Field2}
@@ -23,7 +23,7 @@ use Rattle.writer.specs.Calls as writer
 use Rattle.writer.specs.Writer.{means, validWriter}
 use Rattle.records.specs.Reading.{highestFirst}
 use Rattle.answers.specs.Script.{answerLine, runLine, blockMeasures, packetMeasures, durations, readBlockLine, readPacketLine}
-use Rattle.answers.specs.Steps.{Effect, tells, changes, makes, reads, becomes}
+use Rattle.answers.specs.Steps.{Effect, tells, changes, lays, makes, reads, becomes}
 use Rattle.values.specs.Fields as values
 use Rattle.machines.specs.Counts as machines
 use Rattle.parts.specs.declared.Machine.{Machine}
@@ -69,7 +69,7 @@ blockRows =
     -- "s becomes Service::new(number)"
     row "b" (exactly 1) (λ m a. onBlock m (makes block.blank (m .s) (mapped block.laid (newBlock (byte a 0)))))
     -- "run pushed to s"
-    ∷ row "c" allOfThem (λ m a. onBlock m (changes (m .s) (block.pushed a (m .s))))
+    ∷ row "c" allOfThem (λ m a. onBlock m (lays block.over (m .s) (checked (block.validService (m .s)) (pushToBlock a (block.blockOf (m .s))))))
     -- "measures of s"
     ∷ row "m" (exactly 0) (λ m a. stays m (answerLine (blockMeasures (m .s))))
     -- "s written to out L"
@@ -86,11 +86,11 @@ packetRows =
     -- "p becomes DTVCCPacket::new(sequence)"
     row "k" (exactly 1) (λ m a. onPacket m (makes packet.blank (m .p) (mapped packet.laid (newPacket (byte a 0)))))
     -- "s pushed to p"
-    ∷ row "v" (exactly 0) (λ m a. onPacket m (changes (m .p) (packet.pushedBlock (m .s) (m .p))))
+    ∷ row "v" (exactly 0) (λ m a. onPacket m (lays packet.over (m .p) (checked (packet.validDTVCC (m .p) && block.validService (m .s)) (pushBlock (block.blockOf (m .s)) (packet.packetOf (m .p))))))
     -- "run pushed to p"
-    ∷ row "a" numberAndRun (λ m a. onPacket m (changes (m .p) (packet.pushedRun true (byte a 0) (drop 1 a) (m .p))))
+    ∷ row "a" numberAndRun (λ m a. onPacket m (lays packet.over (m .p) (checked (packet.validDTVCC (m .p)) (pushRun (byte a 0) (drop 1 a) (packet.packetOf (m .p))))))
     -- "run pushed to p, single-service form"
-    ∷ row "i" numberAndRun (λ m a. onPacket m (changes (m .p) (packet.pushedRun false (byte a 0) (drop 1 a) (m .p))))
+    ∷ row "i" numberAndRun (λ m a. onPacket m (lays packet.over (m .p) (checked (packet.validDTVCC (m .p)) (pushRunSingle (byte a 0) (drop 1 a) (packet.packetOf (m .p))))))
     -- "measures of p"
     ∷ row "l" (exactly 0) (λ m a. stays m (answerLine (packetMeasures (m .p))))
     -- "p written to out L"

@@ -23,13 +23,14 @@ use Rattle.service.specs.Service.{blockOf, validService}
 use Rattle.service.proofs.Services.{valid-number, valid-len, valid-null, payload-length}
 use Rattle.entries.specs.declared.Found.{Found}
 use Rattle.entries.specs.declared.Found.the-variants.{At, Nothing}
-use Rattle.entries.specs.Fields.{Fields, Places, fields, entriesOf, lengthsOf, packetIn, over, blockFrom, validFields}
+use Rattle.entries.specs.Fields.{Fields, Places, fields, packetIn, over, blockFrom, validFields}
+use Rattle.entries.specs.Entries.{entriesOf, lengthsOf, validEntries}
 use Rattle.entries.specs.Extent.{Sized, latestIn}
 use Rattle.entries.specs.Extent as extent
 use Rattle.entries.proofs.Entries.{entries-length, no-lengths, entries-two, block-lengths, length-least, length-most, used-least, good-at}
-use Rattle.entries.proofs.Holds.{Within, blocks-count}
+use Rattle.entries.proofs.Holds.{Within, blocks-count, tests-agree}
 use Rattle.entries.proofs.Walks.{latest-few}
-use Rattle.entries.proofs.Measures.{sized-within, sized-length}
+use Rattle.entries.proofs.Measures.{sized-within, sized-valid, sized-length}
 use Rattle.blocks.specs.Reading.{Laid}
 use Rattle.pushes.specs.Pushing.{Stores, RoomAt, grownOver, pushedNew, pushedAt, pushedBlock, pushedRun}
 use Rattle.pushes.proofs.Pushed.{size-held, number-held, append-as, before-within, extend-as}
@@ -62,7 +63,7 @@ module _ (p : Fields) (w : Within p) (places : Places p) (n : ℕ) where
       (by-test (eqb (getD (p .numbers) k 0) n) (λ e. rw e) (λ e. rw e (latest-up k (omega arith))))
 
   latest-held : latest n (packetIn p) ≡ placeOf (extent.latestOf (p .count) (p .numbers) n)
-  latest-held = rw (blocks-count p w (places .payload), latest-few (p .numbers) n (p .count) (w .count)) (latest-up (p .count) (omega arith))
+  latest-held = rw (blocks-count p, latest-few (p .numbers) n (p .count) (w .count)) (latest-up (p .count) (omega arith))
 
 -- the place that is found is one of the blocks
 latest-within : (k : ℕ) (ns : List ℕ) (n i : ℕ) → latestIn k ns n ≡ At i → i < k
@@ -113,6 +114,9 @@ module _ (p : Fields) (n u : ℕ) (z : Sized p n u) where
       record { there = omega (arith, w .count); before = before-within p n u z i there; bytes = omega (arith, taken .1); small = omega arith }
 
   module _ (places : Places p) where
+    valid : validFields p ≡ true
+    valid = sized-valid p n u z (places .payload)
+
     room-is : packetRoom (packetIn p) ≡ 128 - n
     room-is = ap (λ k. 128 - k) (sized-length p n u z (places .payload))
 
@@ -163,17 +167,17 @@ module _ (p : Fields) (n u : ℕ) (z : Sized p n u) where
     module _ (needsRoom : Bool) (number : ℕ) (run : List ℕ) where
       pub run-number : 63 < number → (why : Refusal) → saidRefusal why ≡ badNumber → Stores (pushedRun needsRoom number run p) p (Refused why) (p .numbers) (p .sizes) (p .payload)
       unfolding pushedRun pushRunBy
-      run-number h why m = refuses _ p why (rw (z .valid) (simp (lt-ltb _ _ h) (ap refused (sym m))))
+      run-number h why m = refuses _ p why (rw valid (simp (lt-ltb _ _ h) (ap refused (sym m))))
 
       module _ (known : number ≤ 63) where
         pub run-empty : length run ≡ 0 → (why : Refusal) → saidRefusal why ≡ badRun → Stores (pushedRun needsRoom number run p) p (Refused why) (p .numbers) (p .sizes) (p .payload)
         unfolding pushedRun pushRunBy
-        run-empty e why m = refuses _ p why (rw (z .valid) (simp (le-ltb _ _ known, eq-eqb _ _ e) (ap refused (sym m))))
+        run-empty e why m = refuses _ p why (rw valid (simp (le-ltb _ _ known, eq-eqb _ _ e) (ap refused (sym m))))
 
         module _ (some : length run ≡ 0 → ⊥) (found : Found) (is : found ≡ extent.latestOf (p .count) (p .numbers) number) where
           by-place : pushedRun needsRoom number run p ≡ mapped (over p) (pushRunAt needsRoom number run (packetIn p) (placeOf found))
           unfolding pushedRun pushRunBy
-          by-place = rw (z .valid) (simp (le-ltb _ _ known, ne-eqb _ _ some) (ap (λ o. mapped (over p) (pushRunAt needsRoom number run (packetIn p) o)) (latest-held p w places number ∙ ap placeOf (sym is))))
+          by-place = rw valid (simp (le-ltb _ _ known, ne-eqb _ _ some) (ap (λ o. mapped (over p) (pushRunAt needsRoom number run (packetIn p) o)) (latest-held p w places number ∙ ap placeOf (sym is))))
 
           pub run-none : found ≡ Nothing → pushedRun needsRoom number run p ≡ pushedNew number run p
           unfolding pushRunAt pushedNew
@@ -191,6 +195,10 @@ module _ (p : Fields) (n u : ℕ) (z : Sized p n u) where
             unfolding pushRunAt pushedAt
             run-at t = by-place ∙ rw (q, lacks-is, t)
 
+    pub service-invalid : (s : Service) → validService s ≡ false → (why : Refusal) → saidRefusal why ≡ badValue → Stores (pushedBlock s p) p (Refused why) (p .numbers) (p .sizes) (p .payload)
+    unfolding pushedBlock
+    service-invalid s e why m = refuses _ p why (rw (valid, e) (ap refused (sym m)))
+
     -- a block pushed: one without payload is refused, and any other is a run as a new block
     module _ (s : Service) (v : validService s ≡ true) (full : length (s .payload) ≡ 31) where
       payload-is : length (take (s .len) (s .payload)) ≡ s .len
@@ -201,24 +209,23 @@ module _ (p : Fields) (n u : ℕ) (z : Sized p n u) where
       block-empty e why m =
           let empty : length (blockOf s .payload) ≡ 0 = payload-is ∙ e in
           let fits : ltb (packetRoom (packetIn p)) (blockLength (blockOf s)) ≡ false = rw (block-length-none (blockOf s) empty) (le-ltb (packetRoom (packetIn p)) 0 (omega arith)) in
-          refuses _ p why (rw (z .valid, v) (simp (fits, eq-eqb _ _ empty) (ap refused (sym m))))
+          refuses _ p why (rw (valid, v) (simp (fits, eq-eqb _ _ empty) (ap refused (sym m))))
 
       pub block-new : (s .len ≡ 0 → ⊥) → pushedBlock s p ≡ pushedNew (s .number) (take (s .len) (s .payload)) p
       unfolding pushedBlock pushBlock pushedNew pushNew
       block-new filled =
           let small : length (take (s .len) (s .payload)) ≤ 31 = omega (arith, payload-is, valid-len s v) in
-          rw (z .valid, v) (simp (ne-eqb (s .number) 0 (λ q. filled (valid-null s v q)), le-ltb 31 _ small, ne-eqb (length (take (s .len) (s .payload))) 0 (λ q. filled (sym payload-is ∙ q))))
+          rw (valid, v) (simp (ne-eqb (s .number) 0 (λ q. filled (valid-null s full v q)), le-ltb 31 _ small, ne-eqb (length (take (s .len) (s .payload))) 0 (λ q. filled (sym payload-is ∙ q))))
 
   -- its run is one that may be pushed
   pub block-run : (s : Service) → validService s ≡ true → length (s .payload) ≡ 31 → (s .len ≡ 0 → ⊥) → (1 ≤ length (take (s .len) (s .payload))) × (s .number ≤ 63)
   block-run s v full filled = (omega (arith, payload-length s (validService s) refl full v, filled), valid-number s v)
 
-  pub service-invalid : (s : Service) → validService s ≡ false → (why : Refusal) → saidRefusal why ≡ badValue → Stores (pushedBlock s p) p (Refused why) (p .numbers) (p .sizes) (p .payload)
-  unfolding pushedBlock
-  service-invalid s e why m = refuses _ p why (rw (z .valid, e) (ap refused (sym m)))
-
 -- a packet that breaks a limit is refused
-module _ (p : Fields) (bad : validFields p ≡ false) (why : Refusal) (m : saidRefusal why ≡ badValue) where
+module _ (p : Fields) (places : Places p) (fails : validEntries p ≡ false) (why : Refusal) (m : saidRefusal why ≡ badValue) where
+  bad : validFields p ≡ false
+  bad = tests-agree p (places .payload) ∙ fails
+
   pub run-invalid : (needsRoom : Bool) (number : ℕ) (run : List ℕ) → Stores (pushedRun needsRoom number run p) p (Refused why) (p .numbers) (p .sizes) (p .payload)
   unfolding pushedRun
   run-invalid needsRoom number run = refuses _ p why (rw bad (ap refused (sym m)))

@@ -6,29 +6,19 @@ use native.Mathlib.Nat.{zero-add}
 use native.Mathlib.Numerals.{add-one}
 use native.Mathlib.Omega.{arith}
 use lib.ListN.{length, take, drop, getD, set, length-append, length-set, take-append-drop, List·getD-map}
-use lib.Seq.{sets, length-take-le, drop-drop, take-nil, getD-take, map-set-same, take-set-lt, drop-set-lt}
+use lib.Seq.{sets, length-take-le, drop-drop, getD-take, map-set-same, take-set-lt, drop-set-lt}
 use Rattle.model.specs.Block.{Block, withRun}
 use Rattle.model.specs.Packet.{noBlock, withBlocks, blockAt, extended}
-use Rattle.service.proofs.Runs.{sets-front, sets-append}
-use Rattle.entries.specs.Fields.{Fields, Places, Entry, fields, entries, entriesOf, cut, usedBy, packetIn, over, numbersOf, sizesOf, payloadsOf, blockFrom}
-use Rattle.entries.specs.Extent.{Sized, sumOf, sumTo}
-use Rattle.entries.proofs.Entries.{entries-numbers, entries-sizes, cut-numbers, cut-sizes, cut-payloads}
+use Rattle.service.proofs.Runs.{sets-front, sets-append, sets-own, sets-behind}
+use Rattle.entries.specs.Fields.{Fields, Places, fields, packetIn, over, numbersOf, sizesOf, payloadsOf, blockFrom}
+use Rattle.entries.specs.Entries.{Entry, entriesOf, cut, usedBy}
+use Rattle.entries.specs.Extent.{Sized, sumTo}
+use Rattle.entries.proofs.Entries.{used-sum, entries-numbers, entries-sizes, cut-numbers, cut-sizes, cut-payloads}
 use Rattle.blocks.proofs.Reading.{map-append, payloads-append}
-use Rattle.entries.proofs.Holds.{Within, within-facts, used-fits, blocks-count}
+use Rattle.entries.proofs.Holds.{Within, within-facts, used-fits, blocks-cut, blocks-count}
 use Rattle.entries.proofs.Walks.{sum-few}
 use Rattle.blocks.specs.Reading.{Laid}
 use Rattle.pushes.specs.Pushing.{grownOver}
-
--- the front of a list laid over itself changes nothing; a run behind it is laid there
-sets-own : (l : List ℕ) (k : ℕ) → k ≤ length l → sets l 0 (take k l) ≡ l
-sets-own l k h =
-    let n : length (take k l) ≡ k = length-take-le k l h in
-    sets-front l (take k l) (omega arith) ∙ rw n (take-append-drop k l)
-
-sets-behind : (l run : List ℕ) (k : ℕ) → k ≤ length l → sets l 0 (take k l ++ run) ≡ sets l k run
-sets-behind l run k h =
-    let n : length (take k l) ≡ k = length-take-le k l h in
-    sets-append (take k l) run l 0 ∙ rw (sets-own l k h, n, zero-add)
 
 module _ (p : Fields) (w : Within p) (places : Places p) where
   abbrev used : ℕ
@@ -36,13 +26,13 @@ module _ (p : Fields) (w : Within p) (places : Places p) where
 
   -- what stands in the three arrays
   pub numbers-held : numbersOf (packetIn p .blocks) ≡ take (p .count) (p .numbers)
-  numbers-held = cut-numbers (entriesOf p) (p .payload) ∙ entries-numbers (p .count) (p .numbers) (p .sizes) (omega (arith, w .count, places .numbers))
+  numbers-held = ap (λ (bs : List Block). numbersOf bs) (blocks-cut p) ∙ cut-numbers (entriesOf p) (p .payload) ∙ entries-numbers (p .count) (p .numbers) (p .sizes) (omega (arith, w .count, places .numbers))
 
   pub sizes-held : sizesOf (packetIn p .blocks) ≡ take (p .count) (p .sizes)
-  sizes-held = cut-sizes (entriesOf p) (p .payload) (used-fits p w (places .payload)) ∙ entries-sizes (p .count) (p .numbers) (p .sizes) (omega (arith, w .count, places .sizes))
+  sizes-held = ap (λ (bs : List Block). sizesOf bs) (blocks-cut p) ∙ cut-sizes (entriesOf p) (p .payload) (used-fits p w (places .payload)) ∙ entries-sizes (p .count) (p .numbers) (p .sizes) (omega (arith, w .count, places .sizes))
 
   pub payloads-held : payloadsOf (packetIn p .blocks) ≡ take used (p .payload)
-  payloads-held = cut-payloads (entriesOf p) (p .payload)
+  payloads-held = ap (λ (bs : List Block). payloadsOf bs) (blocks-cut p) ∙ cut-payloads (entriesOf p) (p .payload)
 
   -- a block behind the others
   pub appended : (n k : ℕ) (run : List ℕ) → length run ≡ k
@@ -51,7 +41,7 @@ module _ (p : Fields) (w : Within p) (places : Places p) where
   unfolding over
   appended n k run e =
       let b : Block = record { number = n; payload = run } in
-      let c : length (packetIn p .blocks ++ (b ∷ [])) ≡ p .count + 1 = rw (length-append, blocks-count p w (places .payload)) in
+      let c : length (packetIn p .blocks ++ (b ∷ [])) ≡ p .count + 1 = rw (length-append, blocks-count p) in
       let ns : sets (p .numbers) 0 (numbersOf (packetIn p .blocks ++ (b ∷ []))) ≡ set (p .numbers) (p .count) n =
       rw (map-append (λ (x : Block). x .number) (packetIn p .blocks) (b ∷ []), numbers-held) (sets-behind (p .numbers) (n ∷ []) (p .count) (omega (arith, w .count, places .numbers))) in
       let ss : sets (p .sizes) 0 (sizesOf (packetIn p .blocks ++ (b ∷ []))) ≡ set (p .sizes) (p .count) k =
@@ -125,7 +115,7 @@ module _ (p : Fields) (w : Within p) (places : Places p) (i : ℕ) (there : i < 
       let bs : List Block = packetIn p .blocks in
       let b : Block = withRun run (getD bs i noBlock) in
       let u : before + usedBy (drop (suc i) (entriesOf p)) ≡ usedBy (entriesOf p) = used-parts (suc i) (entriesOf p) in
-      let c : length (set bs i b) ≡ p .count = rw (length-set) (blocks-count p w (places .payload)) in
+      let c : length (set bs i b) ≡ p .count = rw (length-set) (blocks-count p) in
       let ns : sets (p .numbers) 0 (numbersOf (set bs i b)) ≡ p .numbers =
       rw (map-set-same (λ (x : Block). x .number) bs i b noBlock refl, numbers-held p w places) (sets-own (p .numbers) (p .count) (omega (arith, w .count, places .numbers))) in
       let v : length (getD bs i noBlock .payload ++ run) ≡ getD (p .sizes) i 0 + length run = length-append (getD bs i noBlock .payload) run ∙ ap (λ n. n + length run) size-held in
@@ -133,19 +123,11 @@ module _ (p : Fields) (w : Within p) (places : Places p) (i : ℕ) (there : i < 
       rw (map-set (λ (x : Block). length (x .payload)) bs i b, sizes-held p w places, v) (sets-set (p .sizes) (p .count) i _ there (omega (arith, w .count, places .sizes))) in
       let q : usedBy (drop (suc i) (entriesOf p)) ≡ usedBy (entriesOf p) - before = omega arith in
       let ds : payloadsOf (set bs i b) ≡ take before (p .payload) ++ (run ++ take (usedBy (entriesOf p) - before) (drop before (p .payload))) =
-      grown run bs i (omega (arith, blocks-count p w (places .payload)))
-      ∙ rw (cut-take (suc i) (entriesOf p) (p .payload), cut-drop (suc i) (entriesOf p) (p .payload), cut-payloads (take (suc i) (entriesOf p)) (p .payload), cut-payloads (drop (suc i) (entriesOf p)) (drop before (p .payload)), q) in
+      grown run bs i (omega (arith, blocks-count p))
+      ∙ rw (blocks-cut p, cut-take (suc i) (entriesOf p) (p .payload), cut-drop (suc i) (entriesOf p) (p .payload), cut-payloads (take (suc i) (entriesOf p)) (p .payload), cut-payloads (drop (suc i) (entriesOf p)) (drop before (p .payload)), q) in
       let fs : sets (p .payload) 0 (payloadsOf (set bs i b)) ≡ sets (sets (p .payload) before run) (before + length run) (take (usedBy (entriesOf p) - before) (drop before (p .payload))) =
       rw ds (sets-behind (p .payload) _ before (omega (arith, used-fits p w (places .payload))) ∙ sets-append run _ (p .payload) before) in
       rw (c, ns, ss, fs)
-
--- the payloads before a place, by the sizes alone
-pub used-sum : (j k : ℕ) (ns ss : List ℕ) → j ≤ k → usedBy (take j (entries k ns ss)) ≡ sumOf (take j ss)
-unfolding usedBy entries sumOf
-used-sum zero k ns ss h = refl
-used-sum (suc j) zero ns ss h = absurd (omega arith)
-used-sum (suc j) (suc k) ns [] h = zero-add _ ∙ used-sum j k (drop 1 ns) [] (omega arith) ∙ rw (take-nil {A = ℕ} j)
-used-sum (suc j) (suc k) ns (s ∷ ss) h = ap (λ n. s + n) (used-sum j k (drop 1 ns) ss (omega arith))
 
 -- what the two pushes leave, as the code makes it
 module _ (p : Fields) (n u : ℕ) (s : Sized p n u) where

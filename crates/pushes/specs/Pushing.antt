@@ -1,4 +1,5 @@
--- What pushing to the places of a packet answers, and what it leaves. Assumes nothing.
+-- What pushing to the places of a packet answers, and what it leaves: for the functions of this crate and the proofs of `packet`, whose public
+-- contracts say it by the model and do not reach this file. Assumes nothing.
 use mathlib.Core.Path.{_≡_}
 use mathlib.Core.Bool.{Bool, _&&_}
 use mathlib.Core.List.{List}

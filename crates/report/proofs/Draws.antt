@@ -15,9 +15,8 @@ use Rattle.model.specs.Demux.{Demux, aPair, aPacket, noItem, closed}
 use Rattle.model.proofs.Cases.{both}
 use Rattle.model.proofs.Packets.{Valid, valid-facts, all-append}
 use Rattle.model.proofs.DemuxStates.{closed-valid}
-use Rattle.entries.specs.Fields.{validAs, goodEntries, lengthsOf, entries}
 use Rattle.packet.specs.Packet.{packetOf, blank, laid, validDTVCC}
-use Rattle.packet.proofs.Keeps.{blank-places, laid-over}
+use Rattle.packet.proofs.Keeps.{blank-places, blank-valid, laid-over}
 use Rattle.slots.specs.declared.Slot.{Slot}
 use Rattle.gather.specs.Ring.{packetsIn, ringFrom}
 use Rattle.parser.specs.Valid.{countsOf, valid}
@@ -107,10 +106,9 @@ item-lines (aPacket p) h = ap packetLines (laid-over blank blank-places p h .hol
 item-lines noItem h = refl
 
 beside-valid : (i : model.Item) → Holds i → validDTVCC (packetOfItem i) ≡ true
-unfolding validDTVCC validAs goodEntries lengthsOf entries
-beside-valid (aPair x) h = refl
+beside-valid (aPair x) h = blank-valid
 beside-valid (aPacket p) h = laid-over blank blank-places p h .valid
-beside-valid noItem h = refl
+beside-valid noItem h = blank-valid
 
 -- a draw that tells nothing found nothing
 none-told : (i : model.Item) → length (itemValues i) ≡ 0 → i ≡ noItem

@@ -6,11 +6,11 @@ use native.Mathlib.Omega.{arith}
 use lib.ListN.{length, getD, take, drop}
 use mathlib.Core.Bool.{true}
 use lib.Seq.{drop-drop}
-use Rattle.entries.specs.Fields.{entries, cut}
+use Rattle.entries.specs.Fields.{blocksHeld}
 use Rattle.packet.specs.Packet.{packetOf, validDTVCC}
 use Rattle.packet.specs.declared.DTVCCPacket.{DTVCCPacket}
-use Rattle.entries.proofs.Entries.{entries-at, good-at}
-use Rattle.packet.proofs.Holds.{within-facts}
+use Rattle.entries.proofs.Entries.{held-at, good-at}
+use Rattle.packet.proofs.Holds.{Places, within-facts, entries-within}
 use Rattle.records.specs.Laid.{Laid}
 use Rattle.records.proofs.Layings.{laid-append}
 use Rattle.lines.specs.Lines.{blockLine, pairText, packetText}
@@ -39,7 +39,7 @@ laid-nothing out at h = record { place = omega arith; bytes = refl }
 -- the blocks of a packet from place i on, whose payloads begin at `used`
 module _ (packet : DTVCCPacket) where
   unfoldable pub linesFrom : ℕ → ℕ → List ℕ
-  linesFrom i used = blockLines (cut (entries (packet .count - i) (drop i (packet .numbers)) (drop i (packet .sizes))) (drop used (packet .payload)))
+  linesFrom i used = blockLines (blocksHeld (packet .count - i) (drop i (packet .numbers)) (drop i (packet .sizes)) (drop used (packet .payload)))
 
   -- all of them
   pub lines-first : linesFrom 0 0 ≡ blockLines (packetOf packet .blocks)
@@ -49,17 +49,17 @@ module _ (packet : DTVCCPacket) where
   -- the one there, and those behind it
   pub lines-next : (i used : ℕ) → i < packet .count
       → linesFrom i used ≡ blockLine (getD (packet .numbers) i 0) (take (getD (packet .sizes) i 0) (drop used (packet .payload))) ++ linesFrom (i + 1) (used + getD (packet .sizes) i 0)
-  unfolding linesFrom blockLines cut
-  lines-next i used h = rw (entries-at (packet .count) i (packet .numbers) (packet .sizes) h, drop-drop (getD (packet .sizes) i 0) used (packet .payload))
+  unfolding linesFrom blockLines
+  lines-next i used h = rw (held-at (packet .count) i (packet .numbers) (packet .sizes) (drop used (packet .payload)) h, drop-drop (getD (packet .sizes) i 0) used (packet .payload))
 
   -- none
   pub lines-last : (i used : ℕ) → packet .count ≤ i → linesFrom i used ≡ []
-  unfolding linesFrom blockLines cut entries
+  unfolding linesFrom blockLines blocksHeld
   lines-last i used h = let e : packet .count - i ≡ 0 = omega arith in rw e
 
   -- a payload within the limits is short
-  pub size-small : (i : ℕ) → validDTVCC packet ≡ true → i < packet .count → getD (packet .sizes) i 0 ≤ 31
-  size-small i v h = good-at (packet .count) i (packet .numbers) (packet .sizes) (within-facts packet v .good) h .small
+  pub size-small : (i : ℕ) → validDTVCC packet ≡ true → Places packet → i < packet .count → getD (packet .sizes) i 0 ≤ 31
+  size-small i v places h = good-at (packet .count) i (packet .numbers) (packet .sizes) (entries-within packet (within-facts packet v) places .good) h .small
 
   -- a loop over them, in three laws: its begin, a turn, its end
   pub blocks-first : (before : List ℕ) (at : ℕ) → Completes (linesFrom 0 0) before at (blockLines (packetOf packet .blocks)) before at

@@ -7,16 +7,16 @@ use native.Mathlib.Nat.{add-zero}
 use native.Mathlib.Numerals.{add-one}
 use native.Mathlib.Omega.{arith}
 use lib.Dec.{eqb, ltb}
-use lib.ListN.{length, take, drop, getD, set, length-take, length-drop, drop-of-length-le, length-set}
+use lib.ListN.{length, take, drop, getD, set, replicate, length-replicate, length-take, length-drop, drop-of-length-le, length-set}
 use lib.Seq.{sets, getD-take, getD-drop, set-out}
 use borrow.Author.Tests.{eq-eqb, ne-eqb, lt-ltb, le-ltb, ltb-false}
-use Rattle.model.specs.Block.{Block, topNumber, blockSize, headerLength, numberIn, needed, isShort, blockIn, partIn, writtenHeader, writtenBlock}
+use Rattle.model.specs.Block.{Block, topNumber, blockSize, headerLength, numberIn, needed, isShort, blockIn, partIn, writtenHeader, writtenBlock, blockLength}
 use Rattle.model.proofs.Cases.{by-cond}
-use Rattle.model.proofs.Blocks.{header-one, header-two, header-bare, header-written}
+use Rattle.model.proofs.Blocks.{header-one, header-two, header-bare, header-written, written-length}
 use Rattle.model.proofs.Limits.{all-there}
 use Rattle.service.specs.declared.Head.{Head}
 use Rattle.service.specs.declared.Head.the-variants.{Whole, Short}
-use Rattle.service.specs.Head.{headOf, HeadBy}
+use Rattle.service.specs.Head.{headOf, HeadBy, lengthFor}
 use Rattle.service.proofs.Runs.{sets-append}
 
 -- the header's own length
@@ -111,6 +111,19 @@ module _ (l : List ℕ) (at number size : ℕ) where
   pub laid-cut : 7 ≤ number → length l ≤ at + 1 → set l at (224 + size) ≡ sets l at (writtenHeader number size)
   unfolding writtenHeader
   laid-cut h k = simp (le-ltb _ _ h) (sym (set-out (set l at (224 + size)) (suc at) number (rw length-set (omega arith))))
+
+-- the length of a block, by its number and the size of its payload alone
+length-told : (b : Block) → blockLength b ≡ cond (eqb (length (b .payload)) 0) 0 (cond (ltb (b .number) 7) 1 2 + length (b .payload))
+unfolding blockLength
+length-told b = rw (written-length b)
+
+-- whatever bytes stand for it
+pub length-by : (n k : ℕ) → lengthFor n k ≡ cond (eqb k 0) 0 (cond (ltb n 7) 1 2 + k)
+length-by n k = length-told (record { number = n; payload = replicate k 0 }) ∙ rw (length-replicate {A = ℕ} k 0)
+
+-- so that it is the block's
+pub length-of : (b : Block) → blockLength b ≡ lengthFor (b .number) (length (b .payload))
+length-of b = length-told b ∙ sym (length-by (b .number) (length (b .payload)))
 
 -- a header and the payload behind it are the block as written
 pub laid-block : (b : Block) (l : List ℕ) (at start size : ℕ) → start ≡ cond (ltb (b .number) 7) 1 2 → size ≡ length (b .payload)

@@ -27,6 +27,18 @@ sets-past (v ∷ vs) l i h = rw (set-out l i v) (sets-past vs l (suc i) (omega a
 pub sets-front : (l vs : List ℕ) → length vs ≤ length l → sets l 0 vs ≡ vs ++ drop (length vs) l
 sets-front l vs h = sets-eq vs l 0 (omega arith) ∙ rw zero-add
 
+-- the front of a list laid over itself changes nothing
+pub sets-own : (l : List ℕ) (k : ℕ) → k ≤ length l → sets l 0 (take k l) ≡ l
+sets-own l k h =
+    let n : length (take k l) ≡ k = length-take-le k l h in
+    sets-front l (take k l) (omega arith) ∙ rw n (take-append-drop k l)
+
+-- a run behind it is laid there
+pub sets-behind : (l run : List ℕ) (k : ℕ) → k ≤ length l → sets l 0 (take k l ++ run) ≡ sets l k run
+sets-behind l run k h =
+    let n : length (take k l) ≡ k = length-take-le k l h in
+    sets-append (take k l) run l 0 ∙ rw (sets-own l k h, n, zero-add)
+
 module _ (l src : List ℕ) (at : ℕ) where
   -- one byte more
   pub sets-more : (i : ℕ) → i < length src → set (sets l at (take i src)) (at + i) (getD src i 0) ≡ sets l at (take (i + 1) src)

@@ -1,27 +1,27 @@
 -- What the functions of a `Service` answer, by each way out of them. Assumes nothing.
 use mathlib.Core.Path.{_≡_, refl, sym, ap, _∙_}
 use mathlib.Core.Bool.{Bool, true, false, cond, not, _&&_, _||_}
-use mathlib.Core.List.{List, [], _∷_}
+use mathlib.Core.List.{List, [], _∷_, _++_}
 use Prim.Native.Nat.{ℕ, _+_, _-_, _%_, _≤_, _<_}
 use native.Mathlib.Nat.{zero-add}
 use native.Mathlib.Omega.{arith}
 use lib.Dec.{eqb, leb, ltb}
-use lib.ListN.{length, take, drop, replicate, length-drop}
-use lib.Seq.{sets, length-take-le}
-use borrow.Author.Tests.{eq-eqb, ne-eqb, le-leb, lt-leb, lt-ltb, le-ltb, leb-true, eqb-true, eqb-false}
+use lib.ListN.{length, take, drop, replicate, length-append, length-take, length-drop}
+use lib.Seq.{sets, take-at, length-take-le}
+use borrow.Author.Tests.{eq-eqb, ne-eqb, le-leb, lt-leb, lt-ltb, le-ltb, leb-true, eqb-true}
 use Rattle.caption.specs.declared.Counted.{Counted}
 use Rattle.caption.specs.Answers.{saidAnswer, saidCounted}
-use Rattle.model.specs.Said.{Said, Outcome, gave, refused, says, after, mapped, measured, putInto, accepted, badValue, badNumber, badRun, readOnly, wouldOverflow, lengthMismatch, outShort}
-use Rattle.model.specs.Block.{newBlock, readBlock, blockIn, pushToBlock, writtenHeader, writtenBlock, blockLength}
+use Rattle.model.specs.Said.{Said, Outcome, gave, refused, says, after, mapped, checked, measured, putInto, accepted, badValue, badNumber, badRun, readOnly, wouldOverflow, lengthMismatch, outShort}
+use Rattle.model.specs.Block.{Block, validBlock, newBlock, readBlock, blockIn, pushToBlock, withRun, writtenHeader, writtenBlock, blockLength}
 use Rattle.model.proofs.Cases.{by-test, by-cond, both}
-use Rattle.model.proofs.Blocks.{block-length, block-length-none, written-length}
+use Rattle.model.proofs.Blocks.{written-length}
 use Rattle.service.specs.declared.Service.{Service}
 use Rattle.service.specs.declared.ServiceAnswer.{ServiceAnswer}
 use Rattle.service.specs.declared.Head.the-variants.{Whole, Short}
 use Rattle.service.specs.Head.{headOf, lengthFor}
-use Rattle.service.specs.Service.{Answers, Writes, blockOf, laid, blank, validService, withRunLaid, pushed}
-use Rattle.service.proofs.Runs.{sets-front}
-use Rattle.service.proofs.Heads.{headed, head-short, laid-block}
+use Rattle.service.specs.Service.{Answers, Pushes, Writes, blockOf, over, laid, blank, validService}
+use Rattle.service.proofs.Runs.{sets-front, sets-behind}
+use Rattle.service.proofs.Heads.{headed, head-short, length-of, laid-block}
 
 -- an answer that refuses, and one that gives
 pub refuses : (o : Outcome Service) (beside : Service) (why : Said) (r : ServiceAnswer) → o ≡ refused why → saidAnswer (r .answer) ≡ why
@@ -42,10 +42,21 @@ pub laid-as : (n k : ℕ) (p q : List ℕ) → length q ≡ k → p ≡ sets (re
     → _≡_ {A = Service} (record { number = n; len = k; payload = p }) (laid (record { number = n; payload = q }))
 laid-as n k p q e f = rw (← e, f)
 
--- and the places of a block that a run was laid into
-pub pushed-as : (s : Service) (run p : List ℕ) → p ≡ sets (s .payload) (s .len) run
-    → _≡_ {A = Service} (record { number = s .number; len = s .len + length run; payload = p }) (withRunLaid run s)
-pushed-as s run p e = rw e
+-- a block laid over any places is the block that they hold
+pub over-means : (old : Service) (b : Block) → length (old .payload) ≡ 31 → length (b .payload) ≤ 31 → blockOf (over old b) ≡ b
+over-means old b places h =
+    let e : take (length (b .payload)) (sets (old .payload) 0 (b .payload)) ≡ b .payload =
+    rw (sets-front (old .payload) (b .payload) (omega arith)) (take-at (b .payload) _ (length (b .payload)) refl) in
+    ap (λ (p : List ℕ). record { number = b .number; payload = p }) e
+
+-- a push that refuses
+pub push-refuses : (o : Outcome Block) (s : Service) (why : Said) (r : ServiceAnswer) → o ≡ refused why → saidAnswer (r .answer) ≡ why → r .service ≡ s → Pushes o s r
+push-refuses o s why r e a k = rw e (record { answer = a; means = ap blockOf k; places = k })
+
+-- one that gives
+pub push-gives : (o : Outcome Block) (s : Service) (b : Block) (r : ServiceAnswer) → length (s .payload) ≡ 31 → length (b .payload) ≤ 31 → o ≡ gave b
+    → saidAnswer (r .answer) ≡ accepted [] → r .service ≡ over s b → Pushes o s r
+push-gives o s b r places h e a k = rw e (record { answer = a; means = ap blockOf k ∙ over-means s b places h; places = k })
 
 -- a new block
 pub new-bad : (n : ℕ) → 63 < n → mapped laid (newBlock n) ≡ refused badNumber
@@ -57,44 +68,75 @@ pub new-good : (n : ℕ) → n ≤ 63 → mapped laid (newBlock n) ≡ gave (lai
 unfolding newBlock
 new-good n h = simp (le-ltb _ _ h)
 
+-- a block within the limits, as facts
+pub record Facts (b : Block) : Type 0 where
+  pub known : b .number ≤ 63
+  pub small : length (b .payload) ≤ 31
+  pub null : b .number ≡ 0 → length (b .payload) ≡ 0
+
+pub block-facts : (b : Block) → validBlock b ≡ true → Facts b
+unfolding validBlock
+block-facts b e =
+    let n : ℕ = b .number in
+    let k : ℕ = length (b .payload) in
+    let v = both (leb n 63 && leb k 31) (not (eqb n 0) || eqb k 0) e in
+    let w = both (leb n 63) (leb k 31) (v .0) in
+    record {
+      known = leb-true n 63 (w .0);
+      small = leb-true k 31 (w .1);
+      null = λ z. let q : eqb k 0 ≡ true = simp (eq-eqb n 0 z) at (v .1) in eqb-true k 0 q;
+    }
+
 -- the test of the limits, in its order
 module _ (s : Service) where
   -- a number above 63 fails it
   pub over-number : 63 < s .number → false ≡ validService s
-  unfolding validService
-  over-number h = simp (lt-leb _ _ h)
+  unfolding validService validBlock
+  over-number h = by-test (leb (s .len) 31) (λ e. simp (e, lt-leb _ _ h)) (λ e. simp e)
 
   -- a length above 31 fails it
-  pub over-length : s .number ≤ 63 → 31 < s .len → false ≡ validService s
+  pub over-length : 31 < s .len → false ≡ validService s
   unfolding validService
-  over-length k h = simp (le-leb _ _ k, lt-leb _ _ h)
+  over-length h = simp (lt-leb _ _ h)
+
+  -- within its places the payload has at most 31 bytes
+  taken-few : s .len ≤ 31 → length (take (s .len) (s .payload)) ≤ 31
+  taken-few h = omega (arith, length-take (s .len) (s .payload))
 
   -- number 0 passes without payload
-  pub null-valid : s .number ≤ 63 → s .len ≤ 31 → s .number ≡ 0 → eqb (s .len) 0 ≡ validService s
-  unfolding validService
-  null-valid k h z = simp (le-leb _ _ k, le-leb _ _ h, eq-eqb _ _ z)
+  pub null-valid : length (s .payload) ≡ 31 → s .number ≤ 63 → s .len ≤ 31 → s .number ≡ 0 → eqb (s .len) 0 ≡ validService s
+  unfolding validService validBlock
+  null-valid places k h z =
+      let n : length (take (s .len) (s .payload)) ≡ s .len = length-take-le (s .len) (s .payload) (omega arith) in
+      simp (n, le-leb _ _ k, le-leb _ _ h, eq-eqb _ _ z)
 
   -- any other number passes
   pub named-valid : s .number ≤ 63 → s .len ≤ 31 → (s .number ≡ 0 → ⊥) → true ≡ validService s
-  unfolding validService
-  named-valid k h z = simp (le-leb _ _ k, le-leb _ _ h, ne-eqb _ _ z)
+  unfolding validService validBlock
+  named-valid k h z = simp (le-leb _ _ k, le-leb _ _ h, le-leb _ _ (taken-few h), ne-eqb _ _ z)
 
   -- what passes it
-  valid-both : validService s ≡ true → (leb (s .number) 63 && leb (s .len) 31 ≡ true) × (not (eqb (s .number) 0) || eqb (s .len) 0 ≡ true)
+  valid-parts : validService s ≡ true → (leb (s .len) 31 ≡ true) × (validBlock (blockOf s) ≡ true)
   unfolding validService
-  valid-both e = both (leb (s .number) 63 && leb (s .len) 31) (not (eqb (s .number) 0) || eqb (s .len) 0) e
+  valid-parts e = both (leb (s .len) 31) (validBlock (blockOf s)) e
+
+  -- the block breaks no limit
+  pub valid-block : validService s ≡ true → validBlock (blockOf s) ≡ true
+  valid-block e = valid-parts e .1
 
   -- the number is at most 63
   pub valid-number : validService s ≡ true → s .number ≤ 63
-  valid-number e = leb-true _ _ (both (leb (s .number) 63) (leb (s .len) 31) (valid-both e .0) .0)
+  valid-number e = block-facts (blockOf s) (valid-block e) .known
 
   -- the length is at most 31
   pub valid-len : validService s ≡ true → s .len ≤ 31
-  valid-len e = leb-true _ _ (both (leb (s .number) 63) (leb (s .len) 31) (valid-both e .0) .1)
+  valid-len e = leb-true _ _ (valid-parts e .0)
 
   -- number 0 has no payload
-  pub valid-null : validService s ≡ true → s .number ≡ 0 → s .len ≡ 0
-  valid-null e z = let w : eqb (s .len) 0 ≡ true = simp (eq-eqb _ _ z) at (valid-both e .1) in eqb-true _ _ w
+  pub valid-null : length (s .payload) ≡ 31 → validService s ≡ true → s .number ≡ 0 → s .len ≡ 0
+  valid-null places e z =
+      let n : length (take (s .len) (s .payload)) ≡ s .len = length-take-le (s .len) (s .payload) (omega (arith, valid-len e)) in
+      sym n ∙ block-facts (blockOf s) (valid-block e) .null z
 
 -- a block whose payload has its 31 places, and what the test of its limits answered
 module _ (s : Service) (v : Bool) (is : v ≡ validService s) where
@@ -129,12 +171,7 @@ module _ (s : Service) (v : Bool) (is : v ≡ validService s) where
 
     -- the length of the block, by its number and its length alone
     pub length-for : v ≡ true → lengthFor (s .number) (s .len) ≡ blockLength (blockOf s)
-    unfolding lengthFor
-    length-for e =
-        by-test (eqb (s .len) 0)
-        (λ z. simp z (sym (block-length-none (blockOf s) (payload-length e ∙ eqb-true _ _ z))))
-        (λ z. let some : 1 ≤ length (take (s .len) (s .payload)) = omega (arith, payload-length e, eqb-false (s .len) 0 z) in
-        simp z (sym (block-length (blockOf s) some ∙ payload-written e)))
+    length-for e = sym (length-of (blockOf s) ∙ ap (lengthFor (s .number)) (payload-length e))
 
     -- its length
     pub measure-length : (n : ℕ) → v ≡ true → n ≡ lengthFor (s .number) (s .len) → accepted (n ∷ []) ≡ measured (validService s) (blockLength (blockOf s))
@@ -142,30 +179,47 @@ module _ (s : Service) (v : Bool) (is : v ≡ validService s) where
 
     -- a run pushed, in the order of the refusals
     module _ (run : List ℕ) where
+      abbrev Pushed : Outcome Block
+      Pushed = checked (validService s) (pushToBlock run (blockOf s))
+
       -- 11: the block breaks a limit
-      pub push-invalid : v ≡ false → pushed run s ≡ refused badValue
+      pub push-invalid : v ≡ false → Pushed ≡ refused badValue
       push-invalid e = rw (← is, e)
 
       module _ (e : v ≡ true) where
         -- 7: the run has no bytes
-        pub push-empty : length run ≡ 0 → pushed run s ≡ refused badRun
+        pub push-empty : length run ≡ 0 → Pushed ≡ refused badRun
         unfolding pushToBlock
         push-empty z = rw (← is, e) (simp (eq-eqb _ _ z))
 
         -- 4: the run is for service 0
-        pub push-null : (length run ≡ 0 → ⊥) → s .number ≡ 0 → pushed run s ≡ refused readOnly
+        pub push-null : (length run ≡ 0 → ⊥) → s .number ≡ 0 → Pushed ≡ refused readOnly
         unfolding pushToBlock
         push-null n z = rw (← is, e) (simp (ne-eqb _ _ n, eq-eqb _ _ z))
 
         -- 3: the run does not fit
-        pub push-over : (length run ≡ 0 → ⊥) → (s .number ≡ 0 → ⊥) → 31 - s .len < length run → pushed run s ≡ refused (wouldOverflow (length run - (31 - s .len)))
+        pub push-over : (length run ≡ 0 → ⊥) → (s .number ≡ 0 → ⊥) → 31 - s .len < length run → Pushed ≡ refused (wouldOverflow (length run - (31 - s .len)))
         unfolding pushToBlock
         push-over n m h = rw (← is, e) (simp (ne-eqb _ _ n, ne-eqb _ _ m, payload-length e, lt-ltb _ _ h))
 
         -- accepted: the run stands behind the payload
-        pub push-fits : (length run ≡ 0 → ⊥) → (s .number ≡ 0 → ⊥) → length run ≤ 31 - s .len → pushed run s ≡ gave (withRunLaid run s)
+        pub push-fits : (length run ≡ 0 → ⊥) → (s .number ≡ 0 → ⊥) → length run ≤ 31 - s .len → Pushed ≡ gave (withRun run (blockOf s))
         unfolding pushToBlock
         push-fits n m h = rw (← is, e) (simp (ne-eqb _ _ n, ne-eqb _ _ m, payload-length e, le-ltb _ _ h))
+
+        -- which is as long as both
+        grown-length : length (take (s .len) (s .payload) ++ run) ≡ s .len + length run
+        grown-length = length-append (take (s .len) (s .payload)) run ∙ ap (λ n. n + length run) (payload-length e)
+
+        pub push-small : length run ≤ 31 - s .len → length (take (s .len) (s .payload) ++ run) ≤ 31
+        push-small h = omega (arith, grown-length, small-len e)
+
+        -- the block with the run is laid over its own places by laying the run behind its payload
+        pub pushed-as : (p : List ℕ) → p ≡ sets (s .payload) (s .len) run
+            → _≡_ {A = Service} (record { number = s .number; len = s .len + length run; payload = p }) (over s (withRun run (blockOf s)))
+        pushed-as p q =
+            let b : sets (s .payload) 0 (take (s .len) (s .payload) ++ run) ≡ sets (s .payload) (s .len) run = sets-behind (s .payload) run (s .len) (omega (arith, small-len e)) in
+            rw (q, grown-length, b)
 
     -- a block written, in the order of the refusals
     module _ (out : List ℕ) where

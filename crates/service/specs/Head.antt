@@ -2,11 +2,10 @@
 use mathlib.Core.Path.{_≡_}
 use mathlib.Core.Bool.{cond}
 use mathlib.Core.List.{List}
-use Prim.Native.Nat.{ℕ, _+_, _≤_}
-use lib.Dec.{eqb, ltb}
-use lib.ListN.{length, getD}
+use Prim.Native.Nat.{ℕ, _≤_}
+use lib.ListN.{length, getD, replicate}
 use Rattle.model.specs.Said.{Said, badValue, lengthMismatch}
-use Rattle.model.specs.Block.{headerLength, blockSize, numberIn, needed, isShort}
+use Rattle.model.specs.Block.{headerLength, blockSize, numberIn, needed, isShort, blockLength}
 use Rattle.service.specs.declared.Head.{Head}
 use Rattle.service.specs.declared.Head.the-variants.{Whole, Short}
 
@@ -18,9 +17,9 @@ headOf d = cond (isShort d) (Short (needed d)) (Whole (numberIn d) (headerLength
 abbrev pub HeadBy : ℕ → ℕ → ℕ → Head → Type 0
 HeadBy first second n r = (d : List ℕ) → length d ≡ n → first ≡ getD d 0 0 → (2 ≤ n → second ≡ getD d 1 0) → r ≡ headOf d
 
--- the length of a block by its number and the size of its payload
-unfoldable pub lengthFor : ℕ → ℕ → ℕ
-lengthFor number size = cond (eqb size 0) 0 (cond (ltb number 7) 1 2 + size)
+-- for the proofs: the length of a block by its number and the size of its payload, for which any bytes may stand
+abbrev pub lengthFor : ℕ → ℕ → ℕ
+lengthFor number size = blockLength (record { number = number; payload = replicate size 0 })
 
 -- what a header that is short says, `present` bytes being there; one that is whole is none
 abbrev pub saidShort : Head → ℕ → Said

@@ -1,15 +1,15 @@
 // A service block: its number, its payload, how it is read, written and pushed to.
 ghost use mathlib.Core.Path.{_≡_};
 ghost use Prim.Native.Nat.{_%_, min};
-ghost use lib.ListN.{length, take, drop};
+ghost use lib.ListN.{length, take, drop, replicate};
 ghost use lib.Seq.{sets};
 ghost use mathlib.Core.Bool.{cond};
 ghost use lib.Dec.{eqb, ltb};
 ghost use Rattle.caption.specs.Answers.{saidRefusal, saidAnswer, saidCounted, saidTruth};
-ghost use Rattle.model.specs.Said.{mapped, measured};
-ghost use Rattle.model.specs.Block.{headerLength, partIn, writtenHeader, writtenBlock, newBlock, readBlock, blockLength, blockRoom};
-ghost use Rattle.service.specs.Head.{headOf, HeadBy, lengthFor, saidShort};
-ghost use Rattle.service.specs.Service.{Answers, Writes, blockOf, laid, blank, validService, pushed};
+ghost use Rattle.model.specs.Said.{mapped, checked, measured};
+ghost use Rattle.model.specs.Block.{headerLength, partIn, writtenHeader, writtenBlock, newBlock, readBlock, blockLength, blockRoom, pushToBlock};
+ghost use Rattle.service.specs.Head.{headOf, HeadBy, saidShort};
+ghost use Rattle.service.specs.Service.{Answers, Pushes, Writes, blockOf, laid, blank, validService};
 use caption::Answer;
 use caption::Counted;
 use caption::Refusal;
@@ -176,9 +176,9 @@ pub fn payload_of(data: &[u8]) -> &[u8]
     &data[start..end]
 }
 
-// The length of a block with a payload of `size` bytes.
+// The length of a block with a payload of `size` bytes, whichever they are.
 pub fn block_length(number: u8, size: u8) -> usize
-    ensures { λ r. ⌜ r ≡ lengthFor number size ⌝ }
+    ensures { λ r. ⌜ r ≡ blockLength (record { number = number; payload = replicate size 0 }) ⌝ }
 {
     if size == 0 {
         return 0;
@@ -302,7 +302,7 @@ impl Service {
 
     // Pushes a code, a run of bytes, to the end of the payload.
     pub fn push_code(self, code: &[u8]) -> ServiceAnswer
-        ensures { λ r. ⌜ Answers (pushed (now (code .entry)) self) self r ⌝ }
+        ensures { λ r. ⌜ Pushes (checked (validService self) (pushToBlock (now (code .entry)) (blockOf self))) self r ⌝ }
     {
         let number = self.number;
         let len = self.len;

@@ -1,15 +1,15 @@
 // The operations of a script on its block and its packet: each makes one call, lays the line that tells of it into a lent buffer from a place on,
 // and answers the place behind the line beside what the call leaves.
 ghost use mathlib.Core.Path.{_≡_};
-ghost use mathlib.Core.Bool.{true, false};
-ghost use Rattle.model.specs.Said.{mapped};
-ghost use Rattle.model.specs.Block.{newBlock, readBlock, writtenBlock};
-ghost use Rattle.model.specs.Packet.{newPacket, readPacket, readTidy, writtenPacket};
+ghost use mathlib.Core.Bool.{_&&_};
+ghost use Rattle.model.specs.Said.{mapped, checked};
+ghost use Rattle.model.specs.Block.{newBlock, readBlock, writtenBlock, pushToBlock};
+ghost use Rattle.model.specs.Packet.{newPacket, readPacket, readTidy, writtenPacket, pushBlock, pushRun, pushRunSingle};
 ghost use Rattle.caption.specs.Answers.{saidAnswer};
 ghost use Rattle.service.specs.Service as block;
 ghost use Rattle.packet.specs.Packet as packet;
 ghost use Rattle.answers.specs.Script.{readBlockLine, readPacketLine};
-ghost use Rattle.answers.specs.Steps.{Did, Lends, tells, changes, makes, reads, becomes};
+ghost use Rattle.answers.specs.Steps.{Did, Lends, tells, lays, makes, reads, becomes};
 ghost use Rattle.values.specs.Fields.{withFields, withCounts, packetRead};
 use caption::Answer;
 use packet::DTVCCPacket;
@@ -48,7 +48,7 @@ pub fn new_block(out: &mut [u8], at: usize, before: Service, number: u8) -> OnBl
 
 // A run pushed to the block.
 pub fn push_to_block(out: &mut [u8], at: usize, before: Service, run: &[u8]) -> OnBlock
-    ensures { λ r. ⌜ Did (changes before (block.pushed (now (run .entry)) before)) (now (out .entry)) at (r .laid) (r .service) (now (out .exit)) ⌝ }
+    ensures { λ r. ⌜ Did (lays block.over before (checked (block.validService before) (pushToBlock (now (run .entry)) (block.blockOf before)))) (now (out .entry)) at (r .laid) (r .service) (now (out .exit)) ⌝ }
 {
     let pushed = before.push_code(run);
     let answer = pushed.answer;
@@ -125,14 +125,14 @@ fn packet_pushed(out: &mut [u8], at: usize, pushed: PacketAnswer) -> OnPacket
 
 // A block pushed to the packet.
 pub fn push_block(out: &mut [u8], at: usize, before: DTVCCPacket, service: Service) -> OnPacket
-    ensures { λ r. ⌜ Did (changes before (packet.pushedBlock service before)) (now (out .entry)) at (r .laid) (r .packet) (now (out .exit)) ⌝ }
+    ensures { λ r. ⌜ Did (lays packet.over before (checked (packet.validDTVCC before && block.validService service) (pushBlock (block.blockOf service) (packet.packetOf before)))) (now (out .entry)) at (r .laid) (r .packet) (now (out .exit)) ⌝ }
 {
     packet_pushed(out, at, before.push_service(service))
 }
 
 // A run pushed to the packet.
 pub fn push_run(out: &mut [u8], at: usize, before: DTVCCPacket, number: u8, run: &[u8]) -> OnPacket
-    ensures { λ r. ⌜ Did (changes before (packet.pushedRun true number (now (run .entry)) before)) (now (out .entry)) at (r .laid) (r .packet) (now (out .exit)) ⌝ }
+    ensures { λ r. ⌜ Did (lays packet.over before (checked (packet.validDTVCC before) (pushRun number (now (run .entry)) (packet.packetOf before)))) (now (out .entry)) at (r .laid) (r .packet) (now (out .exit)) ⌝ }
 {
     packet_pushed(out, at, before.push_code(number, run))
 }
@@ -145,7 +145,7 @@ pub fn push_single(
     number: u8,
     run: &[u8],
 ) -> OnPacket
-    ensures { λ r. ⌜ Did (changes before (packet.pushedRun false number (now (run .entry)) before)) (now (out .entry)) at (r .laid) (r .packet) (now (out .exit)) ⌝ }
+    ensures { λ r. ⌜ Did (lays packet.over before (checked (packet.validDTVCC before) (pushRunSingle number (now (run .entry)) (packet.packetOf before)))) (now (out .entry)) at (r .laid) (r .packet) (now (out .exit)) ⌝ }
 {
     packet_pushed(out, at, before.push_code_into_single_service(number, run))
 }

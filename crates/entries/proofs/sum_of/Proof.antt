@@ -5,7 +5,8 @@ use native.Mathlib.Nat.{zero-add, sub-zero}
 use native.Mathlib.Omega.{arith}
 use borrow.Author.Needs.{needs}
 use lib.ListN.{take, drop}
-use Rattle.entries.specs.Extent.{sumOf, sumTo}
+use Rattle.entries.specs.Fields.{sumOf}
+use Rattle.entries.specs.Extent.{sumTo}
 use Rattle.entries.proofs.Walks.{sum-at, sum-done, sum-few, sum-many}
 use Rattle.entries.proofs.sum_of.Statement.{statement}
 use Rattle.entries.proofs.sum_of.Tie as tie

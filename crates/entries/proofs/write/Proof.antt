@@ -21,8 +21,11 @@ start c = c .before .before .before .before .before
 abbrev P : tie.Start → Fields
 P c = fields (c .args .seq-no) (c .args .count) (now (c .args .numbers)) (now (c .args .sizes)) (now (c .args .payload))
 
+all : (c : tie.After-extent-of) → length (now (c .before .before .before .args .payload)) ≡ 127
+all c = search needs
+
 full : (c : tie.After-extent) → length (now ((start c) .args .payload)) ≡ 127
-full c = search needs
+full c = all (c .before .before)
 
 sized : (c : tie.After-extent) → Sized (P (start c)) (c .extent .given .0 .0) (c .extent .given .0 .1 .0)
 sized c = extent-sized (P (start c)) _ (c .before .before .extent-of .ensures) _ _ (c .extent .given .1)
@@ -41,7 +44,7 @@ enum-told : tie.Need-enum-told
 enum-told c = search needs
 
 returns : tie.Need-returns
-returns c = let e = c .before .before in let s = e .before .before .before in write-invalid (P s) _ _ (extent-invalid (P s) _ (e .extent-of .ensures) (c .enum-told .given .1)) refl
+returns c = let e = c .before .before in let s = e .before .before .before in write-invalid (P s) (all e) _ _ (extent-invalid (P s) _ (e .extent-of .ensures) (c .enum-told .given .1)) refl
 
 written-in-requires : tie.Need-written-in-requires
 written-in-requires c κs = let e = c .before in length-small (P (start e)) _ _ (sized e)

@@ -44,13 +44,13 @@ enum-told : tie.Need-enum-told
 enum-told c = search needs
 
 returns : tie.Need-returns
-returns c = λ places. let e = c .before .before in let s = c .before .before .before .before .before .before in block-invalid (P s) (extent-invalid (P s) _ (e .extent-of .ensures) (c .enum-told .given .1)) _ refl _
+returns c = λ places. let e = c .before .before in let s = c .before .before .before .before .before .before in block-invalid (P s) places (extent-invalid (P s) _ (e .extent-of .ensures) (c .enum-told .given .1)) _ refl _
 
 is-valid-requires : tie.Need-is-valid-requires
 is-valid-requires c κs = search needs
 
 returns-2 : tie.Need-returns-2
-returns-2 c = λ places. let e = c .before .before .before in service-invalid (P (start e)) _ _ (sized e) _ (sym (c .before .is-valid .ensures) ∙ not-true _ (c .if1 .taken)) _ refl
+returns-2 c = λ places. let e = c .before .before .before in service-invalid (P (start e)) _ _ (sized e) places _ (sym (c .before .is-valid .ensures) ∙ not-true _ (c .if1 .taken)) _ refl
 
 returns-3 : tie.Need-returns-3
 returns-3 c = λ places. let e = c .before .before .before .before in block-empty (P (start e)) _ _ (sized e) places _ (valid (c .before)) (full (start e)) (c .if2 .taken) _ refl

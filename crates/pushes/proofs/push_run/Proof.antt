@@ -47,7 +47,7 @@ enum-told : tie.Need-enum-told
 enum-told c = search needs
 
 returns : tie.Need-returns
-returns c = λ places. let e = c .before .before in let s = c .before .before .before .before .before .before in run-invalid (P s) (extent-invalid (P s) _ (e .extent-of .ensures) (c .enum-told .given .1)) _ refl _ _ _
+returns c = λ places. let e = c .before .before in let s = c .before .before .before .before .before .before in run-invalid (P s) places (extent-invalid (P s) _ (e .extent-of .ensures) (c .enum-told .given .1)) _ refl _ _ _
 
 returns-2 : tie.Need-returns-2
 returns-2 c = λ places. let e = c .before .before in run-number (P (start e)) _ _ (sized e) places _ _ _ (c .if1 .taken) _ refl

@@ -7,7 +7,7 @@ use borrow.Author.Needs.{needs}
 use Rattle.packet.specs.Packet.{packetOf}
 use Rattle.records.proofs.Layings.{laid-within}
 use Rattle.report.specs.Report.{blockLines}
-use Rattle.packet.proofs.Holds.{within-facts}
+use Rattle.packet.proofs.Holds.{Places, within-facts}
 use Rattle.report.proofs.Lays.{size-small, Completes, linesFrom, blocks-first, blocks-again, blocks-last}
 use Rattle.report.proofs.put_blocks.Statement.{statement}
 use Rattle.report.proofs.put_blocks.Tie as tie
@@ -17,6 +17,9 @@ Inv-loop out₀ at packet payload laid₀ used₀ i₀ out laid used i = (i ≤ 
 
 abbrev μ-loop : tie.MeasureT-loop
 μ-loop out₀ at packet payload laid₀ used₀ i₀ out laid used i = packet .count - i
+
+places : (c : tie.Start Inv-loop μ-loop) → Places (c .args .t3)
+places c = record { numbers = search needs; sizes = search needs; payload = search needs }
 
 loop-holds : tie.Need-loop-holds Inv-loop μ-loop
 loop-holds c = (omega arith, omega arith, within-facts _ (c .before .before .pre .0) .count, search needs, refl, blocks-first _ _ _)
@@ -40,7 +43,7 @@ put-block-line-requires : tie.Need-put-block-line-requires Inv-loop μ-loop
 put-block-line-requires c κs = search needs
 
 add-used : tie.Need-add-used Inv-loop μ-loop
-add-used c = let l = c .before .before .before .before .before .before .before .before .before .loop in omega (arith, size-small _ (l .i) (c .before .before .before .before .before .before .before .before .before .before .before .before .pre .0) (c .before .before .before .before .before .before .before .before .loop-test .taken))
+add-used c = let l = c .before .before .before .before .before .before .before .before .before .loop in omega (arith, size-small _ (l .i) (c .before .before .before .before .before .before .before .before .before .before .before .before .pre .0) (places (c .before .before .before .before .before .before .before .before .before .before .before .before)) (c .before .before .before .before .before .before .before .before .loop-test .taken))
 
 add-i : tie.Need-add-i Inv-loop μ-loop
 add-i c = search needs
@@ -49,7 +52,7 @@ loop-less : tie.Need-loop-less Inv-loop μ-loop
 loop-less c = omega arith
 
 loop-again : tie.Need-loop-again Inv-loop μ-loop
-loop-again c = let l = c .before .before .before .before .before .before .before .before .before .loop in let w = laid-within (c .before .before .put-block-line .ensures) in (omega arith, omega (arith, size-small _ (l .i) (c .before .before .before .before .before .before .before .before .before .before .before .before .pre .0) (c .before .before .before .before .before .before .before .before .loop-test .taken)), l .inv .2, omega (arith, w .0, w .1), w .1 ∙ l .inv .4, blocks-again _ (l .i) (l .used) (c .before .before .before .before .before .before .before .before .loop-test .taken) (c .before .before .before .before .part .ensures) (l .inv .5) (c .before .before .put-block-line .ensures))
+loop-again c = let l = c .before .before .before .before .before .before .before .before .before .loop in let w = laid-within (c .before .before .put-block-line .ensures) in (omega arith, omega (arith, size-small _ (l .i) (c .before .before .before .before .before .before .before .before .before .before .before .before .pre .0) (places (c .before .before .before .before .before .before .before .before .before .before .before .before)) (c .before .before .before .before .before .before .before .before .loop-test .taken)), l .inv .2, omega (arith, w .0, w .1), w .1 ∙ l .inv .4, blocks-again _ (l .i) (l .used) (c .before .before .before .before .before .before .before .before .loop-test .taken) (c .before .before .before .before .part .ensures) (l .inv .5) (c .before .before .put-block-line .ensures))
 
 same-length : tie.Need-same-length Inv-loop μ-loop
 same-length c = search needs
