@@ -36,7 +36,7 @@ use Rattle.packet.proofs.DTVCCPacket.push_service.Reads as push_service
 use Rattle.packet.proofs.DTVCCPacket.push_code.Reads as push_code
 use Rattle.packet.proofs.DTVCCPacket.push_code_into_single_service.Reads as push_code_into_single_service
 use Rattle.packet.proofs.DTVCCPacket.parse.Reads as parse
-use Rattle.packet.proofs.DTVCCPacket.parse_in.Reads as parse_in
+use Rattle.packet.proofs.DTVCCPacket.parse_in.Reads as ParseIn
 use Rattle.packet.proofs.DTVCCPacket.parse_tidy.Reads as parse_tidy
 use Rattle.determined.specs.Determines.{Determines, DeterminesLent}
 use Rattle.determined.proofs.Ways.{equal, said, two}
@@ -133,7 +133,7 @@ pub DTVCCPacket-parse : (κs : Lfts 1) → Determines (parse.Post κs)
 DTVCCPacket-parse κs = answers
 
 -- `DTVCCPacket::parse_in(bytes, len)`
-pub DTVCCPacket-parse-in : (κs : Lfts 1) → Determines (parse_in.Post κs)
+pub DTVCCPacket-parse-in : (κs : Lfts 1) → Determines (ParseIn.Post κs)
 DTVCCPacket-parse-in κs = answers
 
 -- `DTVCCPacket::parse_tidy(data)`
