@@ -17,6 +17,8 @@ use Rattle.entries.specs.declared.Extent.{Extent}
 use Rattle.entries.specs.Fields.{Fields, Entry, fields, packetIn, validFields}
 use Rattle.entries.specs.Fields as places
 use Rattle.entries.specs.Extent.{extentAs}
+use Rattle.blocks.specs.declared.Filled.{Filled}
+use Rattle.blocks.specs.Reading as reading
 use Rattle.pushes.specs.Pushing as pushes
 use Rattle.packet.specs.declared.DTVCCPacket.{DTVCCPacket}
 use Rattle.packet.specs.declared.PacketAnswer.{PacketAnswer}
@@ -65,13 +67,13 @@ pub record Answers (o : Outcome DTVCCPacket) (beside : DTVCCPacket) (r : PacketA
   pub answer : saidAnswer (r .answer) ≡ says o
   pub packet : r .packet ≡ after beside o
 
--- a reading that is refused, and one by how many blocks were read and the places they are in
+-- a refusal, beside no packet
 abbrev pub unreadFor : Refusal → PacketAnswer
 unreadFor why = record { answer = answer.Refused why; packet = blank }
 
-abbrev pub filledBy : ℕ → Counted → List ℕ → List ℕ → List ℕ → PacketAnswer
-filledBy sequence (Count k) n s d = record { answer = answer.Accepted; packet = packetWith (fields sequence k n s d) }
-filledBy sequence (Refused why) n s d = unreadFor why
+-- what is answered to a reading, with the packet of the places that it filled
+abbrev pub answerFrom : Filled → PacketAnswer
+answerFrom r = record { answer = r .answer; packet = packetWith (reading.fieldsOf r) }
 
 -- a block pushed, and a run: to the latest block of the number only if it has room, or whether or not it has
 unfoldable pub pushedBlock : Service → DTVCCPacket → Outcome DTVCCPacket

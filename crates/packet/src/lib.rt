@@ -1,18 +1,19 @@
 // A DTVCC packet: its sequence number and its blocks, how it is read, written and pushed to.
 ghost use mathlib.Core.Path.{_≡_};
 ghost use mathlib.Core.Bool.{true, false, cond};
-ghost use lib.ListN.{length, getD, take};
+ghost use lib.ListN.{length, take};
 ghost use lib.Dec.{eqb};
 ghost use Rattle.caption.specs.Answers.{saidCounted, saidTruth};
 ghost use Rattle.model.specs.Said.{mapped, measured};
-ghost use Rattle.model.specs.Packet.{packetSize, sequenceIn, readPacket, readTidy, newPacket, packetLength, packetRoom, writtenPacket};
+ghost use Rattle.model.specs.Packet.{packetSize, readPacket, readTidy, newPacket, packetLength, packetRoom, writtenPacket};
 ghost use Rattle.model.specs.Packet as model;
 ghost use Rattle.service.specs.Service.{Writes};
 ghost use Rattle.service.specs.Service as service;
 ghost use Rattle.blocks.specs.Reading.{readAs};
 ghost use Rattle.packet.specs.Header.{headerOf};
-ghost use Rattle.packet.specs.Packet.{Answers, packetOf, unreadFor, filledBy, answerTo, laid, blank, validDTVCC, extentOf, pushedBlock, pushedRun, countAfter, answerOf};
+ghost use Rattle.packet.specs.Packet.{Answers, packetOf, unreadFor, answerFrom, answerTo, laid, blank, validDTVCC, extentOf, pushedBlock, pushedRun, countAfter, answerOf};
 ghost use Rattle.packet.specs.Place.{Placed, blocksAt};
+use blocks::Filled;
 use caption::Answer;
 use caption::Counted;
 use caption::Refusal;
@@ -81,7 +82,7 @@ pub fn reads_in(bytes: &[u8; 128], len: usize) -> bool
     blocks::reads_in(bytes, len)
 }
 
-// A refusal of reading, beside an empty packet.
+// A refusal, beside an empty packet.
 fn unread(why: Refusal) -> PacketAnswer
     ensures { λ r. ⌜ r ≡ unreadFor why ⌝ }
 {
@@ -97,17 +98,7 @@ fn unread(why: Refusal) -> PacketAnswer
     }
 }
 
-// The sequence number that the first byte gives; 0 where there is none.
-fn sequence_in(data: &[u8]) -> u8
-    ensures { λ r. ⌜ r ≡ sequenceIn (getD (now («data» .entry)) 0 0) ⌝ }
-{
-    if data.len() == 0 {
-        return 0;
-    }
-    data[0] / 64 % 4
-}
-
-// What is answered beside a packet that was read, or was refused.
+// What is answered to a push, by how many blocks there then are.
 fn answer_to(r: Counted) -> Answer
     ensures { λ a. ⌜ a ≡ answerTo r ⌝ }
 {
@@ -117,27 +108,22 @@ fn answer_to(r: Counted) -> Answer
     }
 }
 
-// The answer to a reading: the packet of its sequence number, how many blocks were read and the arrays with them; or a refusal.
-fn filled(
-    seq_no: u8,
-    r: Counted,
-    numbers: [u8; 63],
-    sizes: [u8; 63],
-    payload: [u8; 127],
-) -> PacketAnswer
-    ensures { λ a. ⌜ a ≡ filledBy «seq_no» r numbers sizes payload ⌝ }
+// The answer to a reading: the packet of the places that it filled.
+fn packet_of(r: Filled) -> PacketAnswer
+    ensures { λ a. ⌜ a ≡ answerFrom r ⌝ }
 {
-    match r {
-        Counted::Refused(why) => unread(why),
-        Counted::Count(count) => PacketAnswer {
-            answer: Answer::Accepted,
-            packet: DTVCCPacket {
-                seq_no,
-                count,
-                numbers,
-                sizes,
-                payload,
-            },
+    let answer = r.answer;
+    let numbers = r.numbers;
+    let sizes = r.sizes;
+    let payload = r.payload;
+    PacketAnswer {
+        answer,
+        packet: DTVCCPacket {
+            seq_no: r.seq_no,
+            count: r.count,
+            numbers,
+            sizes,
+            payload,
         },
     }
 }
@@ -146,11 +132,7 @@ fn filled(
 fn read_packet(data: &[u8], tidy: bool) -> PacketAnswer
     ensures { λ r. ⌜ Answers (mapped laid (readAs tidy (now («data» .entry)))) blank r ⌝ }
 {
-    let mut numbers = [0u8; 63];
-    let mut sizes = [0u8; 63];
-    let mut payload = [0u8; 127];
-    let r = blocks::read(data, tidy, &mut numbers, &mut sizes, &mut payload);
-    filled(sequence_in(data), r, numbers, sizes, payload)
+    packet_of(blocks::read(data, tidy))
 }
 
 // How many blocks there are after a push; one that is refused leaves as many as there were.
@@ -373,11 +355,7 @@ impl DTVCCPacket {
     pub fn parse_in(bytes: &[u8; 128], len: usize) -> PacketAnswer
         ensures { λ r. ⌜ Answers (mapped laid (readPacket (take len (now (bytes .entry))))) blank r ⌝ }
     {
-        let mut numbers = [0u8; 63];
-        let mut sizes = [0u8; 63];
-        let mut payload = [0u8; 127];
-        let r = blocks::read_in(bytes, len, false, &mut numbers, &mut sizes, &mut payload);
-        filled(bytes[0] / 64 % 4, r, numbers, sizes, payload)
+        packet_of(blocks::read_in(bytes, len, false))
     }
 
     // Reads a packet whose length is what its header says, and passes each block whole.
