@@ -10,6 +10,10 @@ use lib.ListN.{length, take, drop, getD, set, length-append, length-map, length-
 use lib.Seq.{sets, drop-drop, length-take-le, take-take, take-nil}
 use borrow.Author.Tests.{eq-eqb, ne-eqb, eqb-true, eqb-false, ltb-false}
 use Rattle.model.specs.Said.{Outcome, gave, refused, isGiven, mapped, lengthMismatch}
+use Rattle.caption.specs.declared.Refusal.{Refusal}
+use Rattle.caption.specs.declared.Counted.{Counted}
+use Rattle.caption.specs.declared.Counted.the-variants.{Count, Refused}
+use Rattle.caption.specs.Answers.{saidRefusal}
 use Rattle.model.specs.Block.{Block, needed, isShort, blockIn, readBlock, blockLength}
 use Rattle.model.specs.Packet.{plainMove, tidyMove, kept, blocksFrom}
 use Rattle.model.proofs.Cases.{by-test, by-cond, mapped-by}
@@ -18,12 +22,12 @@ use Rattle.model.proofs.Walk.{blocks-next, blocks-none}
 use Rattle.model.proofs.Limits.{Moves, read-from}
 use Rattle.service.specs.declared.Head.{Head}
 use Rattle.service.specs.declared.Head.the-variants.{Whole, Short}
-use Rattle.service.specs.Head.{headOf}
+use Rattle.service.specs.Head.{headOf, saidShort}
 use Rattle.service.proofs.Heads.{Headed, headed, head-short, header-least, header-most}
 use Rattle.service.proofs.Runs.{sets-append}
 use Rattle.blocks.specs.declared.Kept.{Kept}
 use Rattle.entries.specs.Fields.{numbersOf, sizesOf, payloadsOf, blockFrom}
-use Rattle.blocks.specs.Reading.{moveBy, moveFor, keptFor, Laid, behind, Stored, Stops, Room, KeepRoom}
+use Rattle.blocks.specs.Reading.{moveBy, moveFor, keptFor, Laid, behind, Stored, Room, KeepRoom}
 
 -- what is laid behind other blocks
 pub payloads-append : (bs cs : List Block) → payloadsOf (bs ++ cs) ≡ payloadsOf bs ++ payloadsOf cs
@@ -51,11 +55,11 @@ module _ (bs : List Block) (at : Kept) (n₀ s₀ p₀ n₁ s₁ p₁ : List ℕ
       }
 
   -- blocks stored, and then those of an outcome
-  stored-append : (o : Outcome (List Block)) (r : ℕ) → Stored o (behind bs at) r n₁ s₁ p₁ n₂ s₂ p₂ → Stored (mapped (λ cs. bs ++ cs) o) at r n₀ s₀ p₀ n₂ s₂ p₂
+  stored-append : (o : Outcome (List Block)) (r : Counted) → Stored o (behind bs at) r n₁ s₁ p₁ n₂ s₂ p₂ → Stored (mapped (λ cs. bs ++ cs) o) at r n₀ s₀ p₀ n₂ s₂ p₂
   unfolding Stored
   stored-append (gave cs) r k =
       let n : at .count + length bs + length cs ≡ at .count + length (bs ++ cs) = omega (arith, length-append bs cs) in
-      (k .0 ∙ n, k .1, laid-append cs (k .2))
+      (k .0 ∙ ap Count n, laid-append cs (k .1))
   stored-append (refused why) r k = k
 
 -- bytes whose header was read
@@ -192,11 +196,10 @@ module _ (tidy : Bool) (d : List ℕ) (here : ℕ) (left : here < length d) wher
 pub head-room : (d : List ℕ) (head : Head) (n st sz : ℕ) → head ≡ headOf d → head ≡ Whole n st sz → (st ≤ 2) × (sz ≤ 31)
 head-room d head n st sz e q = let h = headed d n st sz (sym e ∙ q) in (omega (arith, h .start, header-most (getD d 0 0)), h .small)
 
--- an outcome and what is made of it stop at the same place
-stops-mapped : (f : List Block → List Block) (o : Outcome (List Block)) (d : List ℕ) (r : ℕ) → Stops o d r → Stops (mapped f o) d r
-unfolding Stops
-stops-mapped f (gave bs) d r h = h
-stops-mapped f (refused why) d r h = h
+-- whether blocks read
+pub given-mapped : {A B : Type 0} (f : A → B) (o : Outcome A) → isGiven (mapped f o) ≡ isGiven o
+given-mapped f (gave x) = refl
+given-mapped f (refused why) = refl
 
 -- a part of the front is a part of the whole
 part-front : (b : List ℕ) (end from size : ℕ) → from + size ≤ end → take size (drop from (take end b)) ≡ take size (drop from b)
@@ -211,7 +214,7 @@ module _ (b : List ℕ) (end : ℕ) (fits : end ≤ length b) where
   front = take end b
 
   -- there are so many
-  pub long : length front ≡ end
+  long : length front ≡ end
   long = length-take-le end b fits
 
   -- the blocks from `here` on
@@ -223,31 +226,29 @@ module _ (b : List ℕ) (end : ℕ) (fits : end ≤ length b) where
     from-none : end ≤ here → from here ≡ gave []
     from-none h = let e : length front ≤ here = omega (arith, long) in rw (drop-of-length-le front e, blocks-none (moveBy tidy))
 
-    -- so that the walk stops
-    pub stops-none : end ≤ here → Stops (from here) front here
-    unfolding Stops
-    stops-none h = rw (from-none h) (omega (arith, long))
+    -- which read
+    pub given-none : end ≤ here → true ≡ isGiven (from here)
+    given-none h = rw (from-none h)
 
     -- and nothing more is stored
-    pub stored-none : (at : Kept) (n s p : List ℕ) → end ≤ here → Room at here end → Stored (from here) at (at .count) n s p n s p
+    pub stored-none : (at : Kept) (n s p : List ℕ) → end ≤ here → Stored (from here) at (Count (at .count)) n s p n s p
     unfolding Stored
-    stored-none at n s p h room =
-        rw (from-none h) (sym (add-zero (at .count)), omega (arith, room .within, room .short, room .blocks), record { numbers = refl; sizes = refl; payload = refl })
+    stored-none at n s p h =
+        rw (from-none h) (ap Count (sym (add-zero (at .count))), record { numbers = refl; sizes = refl; payload = refl })
 
     -- some are left
     module _ (left : here < end) (head : Head) (is : head ≡ headOf (drop here front)) where
       in-front : here < length front
       in-front = omega (arith, long)
 
-      -- a header that is short: the walk stops there
-      pub stops-short : (k : ℕ) → head ≡ Short k → Stops (from here) front here
-      unfolding Stops
-      stops-short k q = rw (refused-at tidy front here in-front k (sym is ∙ q)) (in-front, rw (← is, q))
+      -- a header that is short does not read
+      pub given-short : (k : ℕ) → head ≡ Short k → false ≡ isGiven (from here)
+      given-short k q = rw (refused-at tidy front here in-front k (sym is ∙ q))
 
-      -- and what was stored does not count
-      pub stored-short : (k : ℕ) (at : Kept) (n₀ s₀ p₀ n₁ s₁ p₁ : List ℕ) → head ≡ Short k → Stored (from here) at 64 n₀ s₀ p₀ n₁ s₁ p₁
+      -- and the refusal is told
+      pub stored-short : (k : ℕ) (why : Refusal) (at : Kept) (n₀ s₀ p₀ n₁ s₁ p₁ : List ℕ) → head ≡ Short k → saidRefusal why ≡ saidShort head (end - here) → Stored (from here) at (Refused why) n₀ s₀ p₀ n₁ s₁ p₁
       unfolding Stored
-      stored-short k at n₀ s₀ p₀ n₁ s₁ p₁ q = rw (refused-at tidy front here in-front k (sym is ∙ q))
+      stored-short k why at n₀ s₀ p₀ n₁ s₁ p₁ q w = rw (refused-at tidy front here in-front k (sym is ∙ q)) (why, refl, w ∙ rw (q, long))
 
       -- one that is whole
       module _ (n st sz : ℕ) (q : head ≡ Whole n st sz) where
@@ -274,11 +275,9 @@ module _ (b : List ℕ) (end : ℕ) (fits : end ≤ length b) where
           pub move-within : (here + m ≤ end) × (1 ≤ m)
           move-within = let w = move-bounds tidy front here in-front n st sz whole in (omega (arith, w .most, long, em), omega (arith, w .least, em))
 
-          -- the walk goes on there
-          pub stops-next : (r : ℕ) → Stops (from (here + m)) front r → Stops (from here) front r
-          stops-next r k =
-              rw (next-is tidy front here in-front n st sz whole)
-              (stops-mapped _ (from (here + moveFor tidy n st sz)) front r (rw (← em) k))
+          -- whether the blocks read is whether those from there on do
+          pub given-next : (r : Bool) → r ≡ isGiven (from (here + m)) → r ≡ isGiven (from here)
+          given-next r k = rw (next-is tidy front here in-front n st sz whole, given-mapped (λ cs. keptFor n (take sz (drop (here + st) front)) ++ cs) (from (here + moveFor tidy n st sz)), ← em) k
 
           module _ (at next : Kept) (en : next ≡ behind (keptFor n (take sz (drop (here + st) b))) at) where
             abbrev kept-here : List Block
@@ -292,18 +291,13 @@ module _ (b : List ℕ) (end : ℕ) (fits : end ≤ length b) where
             room-next room = let k : Room at here (length front) = rw long room in rw (em, next-kept) (rw long at (room-behind tidy front here in-front n st sz whole at k))
 
             -- what is stored here and what is stored from there on join
-            pub stored-next : (r : ℕ) (n₀ s₀ p₀ n₁ s₁ p₁ n₂ s₂ p₂ : List ℕ) → Laid (keptFor n (take sz (drop (here + st) b))) at n₀ s₀ p₀ n₁ s₁ p₁
+            pub stored-next : (r : Counted) (n₀ s₀ p₀ n₁ s₁ p₁ n₂ s₂ p₂ : List ℕ) → Laid (keptFor n (take sz (drop (here + st) b))) at n₀ s₀ p₀ n₁ s₁ p₁
                 → Stored (from (here + m)) next r n₁ s₁ p₁ n₂ s₂ p₂ → Stored (from here) at r n₀ s₀ p₀ n₂ s₂ p₂
             stored-next r n₀ s₀ p₀ n₁ s₁ p₁ n₂ s₂ p₂ l k =
                 let k′ : Stored (from (here + moveFor tidy n st sz)) (behind kept-here at) r n₁ s₁ p₁ n₂ s₂ p₂ = rw (← em, ← next-kept) k in
                 let l′ : Laid kept-here at n₀ s₀ p₀ n₁ s₁ p₁ = rw (part-front b end (here + st) sz reach) l in
                 rw (next-is tidy front here in-front n st sz whole)
                 (stored-append kept-here at n₀ s₀ p₀ n₁ s₁ p₁ l′ n₂ s₂ p₂ (from (here + moveFor tidy n st sz)) r k′)
-
--- whether blocks read
-pub given-mapped : {A B : Type 0} (f : A → B) (o : Outcome A) → isGiven (mapped f o) ≡ isGiven o
-given-mapped f (gave x) = refl
-given-mapped f (refused why) = refl
 
 -- a block laid in its place
 pub entry-laid : (number k : ℕ) (run : List ℕ) (at : Kept) (n s p p₁ : List ℕ) → k ≡ length run → p₁ ≡ sets p (at .used) run

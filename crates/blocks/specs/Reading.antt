@@ -1,21 +1,21 @@
--- What reading a packet into three arrays answers. Assumes nothing.
+-- What reading a packet answers, with the places that it fills. Assumes nothing.
 use mathlib.Core.Path.{_≡_}
 use mathlib.Core.Bool.{Bool, cond, not}
 use mathlib.Core.List.{List, [], _∷_}
-use Prim.Native.Nat.{ℕ, _+_, _-_, _*_, _≤_, _<_}
+use Prim.Native.Nat.{ℕ, _+_, _*_, _≤_}
 use lib.Dec.{eqb, ltb}
-use lib.ListN.{length, drop, replicate}
+use lib.ListN.{length, getD}
 use lib.Seq.{sets}
 use Rattle.caption.specs.declared.Refusal.{Refusal}
 use Rattle.caption.specs.declared.Counted.{Counted}
 use Rattle.caption.specs.declared.Counted.the-variants.{Count, Refused}
-use Rattle.caption.specs.Answers.{saidRefusal}
-use Rattle.model.specs.Said.{Outcome, gave, refused}
+use Rattle.caption.specs.Answers.{saidRefusal, saidAnswer}
+use Rattle.model.specs.Said.{Outcome, gave, refused, says, after, mapped}
 use Rattle.model.specs.Block.{Block}
-use Rattle.model.specs.Packet.{Packet, plainMove, tidyMove, readPacket, readTidy}
-use Rattle.service.specs.Head.{headOf, saidShort}
+use Rattle.model.specs.Packet.{Packet, sequenceIn, plainMove, tidyMove, readPacket, readTidy}
 use Rattle.blocks.specs.declared.Kept.{Kept}
-use Rattle.entries.specs.Fields.{numbersOf, sizesOf, payloadsOf}
+use Rattle.blocks.specs.declared.Filled.{Filled}
+use Rattle.entries.specs.Fields.{Fields, fields, zeros, over, numbersOf, sizesOf, payloadsOf}
 
 -- the two readers
 abbrev pub moveBy : Bool → List ℕ → ℕ
@@ -50,20 +50,23 @@ behind bs at = record { count = at .count + length bs; used = at .used + length 
 abbrev pub soFar : ℕ → ℕ → Kept
 soFar count used = record { count = count; used = used }
 
--- the blocks of an outcome are laid, and counted: at most 63 in all, as a block that is kept takes two of 127 bytes; a refusal is counted as 64
-unfoldable pub Stored : Outcome (List Block) → Kept → ℕ → List ℕ → List ℕ → List ℕ → List ℕ → List ℕ → List ℕ → Type 0
-Stored (gave bs) at r n₀ s₀ p₀ n₁ s₁ p₁ = (r ≡ at .count + length bs) × (r ≤ 63) × Laid bs at n₀ s₀ p₀ n₁ s₁ p₁
-Stored (refused why) at r n₀ s₀ p₀ n₁ s₁ p₁ = r ≡ 64
+-- the blocks of an outcome are laid, and counted; or its refusal is told
+unfoldable pub Stored : Outcome (List Block) → Kept → Counted → List ℕ → List ℕ → List ℕ → List ℕ → List ℕ → List ℕ → Type 0
+Stored (gave bs) at r n₀ s₀ p₀ n₁ s₁ p₁ = (r ≡ Count (at .count + length bs)) × Laid bs at n₀ s₀ p₀ n₁ s₁ p₁
+Stored (refused why) at r n₀ s₀ p₀ n₁ s₁ p₁ = (e : Refusal) × (r ≡ Refused e) × (saidRefusal e ≡ why)
 
--- where reading the blocks of these bytes ends: behind the last byte, or at the header that is short, which tells the refusal
-unfoldable pub Stops : Outcome (List Block) → List ℕ → ℕ → Type 0
-Stops (gave bs) d r = length d ≤ r
-Stops (refused why) d r = (r < length d) × (saidShort (headOf (drop r d)) (length d - r) ≡ why)
+-- the packet of these blocks, by its first byte
+abbrev pub packetWith : List ℕ → List Block → Packet
+packetWith d bs = record { sequence = sequenceIn (getD d 0 0); blocks = bs }
 
--- a packet that was read: its blocks are laid from the first place on, and counted; or its refusal is told, and zeros are left
-unfoldable pub Read : Outcome Packet → Counted → List ℕ → List ℕ → List ℕ → List ℕ → List ℕ → List ℕ → Type 0
-Read (gave p) r n₀ s₀ p₀ n₁ s₁ p₁ = (r ≡ Count (length (p .blocks))) × Laid (p .blocks) (soFar 0 0) n₀ s₀ p₀ n₁ s₁ p₁
-Read (refused why) r n₀ s₀ p₀ n₁ s₁ p₁ = (e : Refusal) × (r ≡ Refused e) × (saidRefusal e ≡ why) × (n₁ ≡ replicate 63 0) × (s₁ ≡ replicate 63 0) × (p₁ ≡ replicate 127 0)
+-- the places of a reading
+abbrev pub fieldsOf : Filled → Fields
+fieldsOf r = fields (r .«seq_no») (r .count) (r .numbers) (r .sizes) (r .payload)
+
+-- a reading says what the outcome says; beside it is the outcome's packet with zeros behind it, or zeros where it refuses
+pub record Read (o : Outcome Packet) (r : Filled) : Type 0 where
+  pub answer : saidAnswer (r .answer) ≡ says o
+  pub places : fieldsOf r ≡ after zeros (mapped (over zeros) o)
 
 -- how many bytes the blocks kept so far were read from
 pub record Room (at : Kept) (here end : ℕ) : Type 0 where

@@ -1,13 +1,14 @@
-// The blocks of a packet read from bytes into its three arrays.
+// The blocks of a packet read from bytes into its places.
 ghost use mathlib.Core.Path.{_≡_};
 ghost use mathlib.Core.Bool.{false};
 ghost use Prim.Native.Nat.{_≤_};
 ghost use lib.ListN.{length, take, drop};
 ghost use Rattle.caption.specs.Answers.{saidRefusal};
-ghost use Rattle.model.specs.Said.{refused, isGiven, lengthMismatch};
-ghost use Rattle.model.specs.Packet.{packetSize, blocksFrom};
+ghost use Rattle.model.specs.Said.{refused, isGiven, mapped, lengthMismatch};
+ghost use Rattle.model.specs.Packet.{packetSize, plainMove, blocksFrom};
 ghost use Rattle.model.specs.Packet as model;
-ghost use Rattle.blocks.specs.Reading.{moveBy, moveFor, wrongLength, readAs, keptFor, behind, soFar, Laid, Stored, Stops, Read, Room, KeepRoom};
+ghost use Rattle.blocks.specs.Reading.{moveBy, moveFor, wrongLength, readAs, keptFor, behind, soFar, packetWith, Laid, Stored, Read, Room, KeepRoom};
+use caption::Answer;
 use caption::Counted;
 use caption::Refusal;
 use service::Head;
@@ -15,8 +16,18 @@ use service::Head;
 // The most bytes of a packet.
 const MOST_PACKET: usize = 128;
 
-// More blocks than a packet has: some block does not read.
-const UNREAD: usize = 64;
+// How far the plain reader moves past a null header, whatever its size.
+const NULL_MOVE: usize = 1;
+
+// An answer to reading, and the places of the packet beside it: zeros where it refuses.
+pub struct Filled {
+    pub answer: Answer,
+    pub seq_no: u8,
+    pub count: usize,
+    pub numbers: [u8; 63],
+    pub sizes: [u8; 63],
+    pub payload: [u8; 127],
+}
 
 // How many bytes a packet whose first byte is `h` has in all.
 pub fn packet_size(h: u8) -> usize
@@ -38,7 +49,7 @@ fn moved(tidy: bool, number: u8, start: usize, size: usize) -> usize
         return start + size;
     }
     if number == 0 {
-        return 1;
+        return NULL_MOVE;
     }
     if size == 0 {
         return 1;
@@ -49,13 +60,13 @@ fn moved(tidy: bool, number: u8, start: usize, size: usize) -> usize
     2 + size
 }
 
-// Where reading the blocks of the first `end` bytes, from `at` on, ends: behind them, or at a header that is short.
-fn stop_at(bytes: &[u8; 128], at: usize, end: usize, tidy: bool) -> usize
+// Whether the blocks of the first `end` bytes, from `at` on, read plainly.
+fn reads_from(bytes: &[u8; 128], at: usize, end: usize) -> bool
     requires { ⌜ end ≤ length (now bytes) ⌝ }
-    ensures { λ r. ⌜ Stops (blocksFrom (moveBy tidy) 0 (drop at (take end (now (bytes .entry))))) (take end (now (bytes .entry))) r ⌝ }
+    ensures { λ r. ⌜ r ≡ isGiven (blocksFrom plainMove 0 (drop at (take end (now (bytes .entry))))) ⌝ }
 {
     if end <= at {
-        return at;
+        return true;
     }
     let Head::Whole {
         number,
@@ -63,9 +74,9 @@ fn stop_at(bytes: &[u8; 128], at: usize, end: usize, tidy: bool) -> usize
         size,
     } = service::head_in(bytes, at, end)
     else {
-        return at;
+        return false;
     };
-    stop_at(bytes, at + moved(tidy, number, start, size), end, tidy)
+    reads_from(bytes, at + moved(false, number, start, size), end)
 }
 
 // How many of the first `len` bytes there are.
@@ -87,7 +98,7 @@ pub fn reads_in(bytes: &[u8; 128], len: usize) -> bool
     if packet_size(bytes[0]) < n {
         return false;
     }
-    n <= stop_at(bytes, 1, n, false)
+    reads_from(bytes, 1, n)
 }
 
 // How many blocks are stored, and how many bytes of payload they have.
@@ -129,7 +140,7 @@ fn keep_block(
     }
 }
 
-// Reads the blocks of the first `end` bytes, from `at` on, into the arrays; answers how many blocks there then are, or UNREAD.
+// Reads the blocks of the first `end` bytes, from `at` on, into the arrays; answers how many blocks there then are.
 fn read_blocks(
     bytes: &[u8; 128],
     at: usize,
@@ -140,20 +151,22 @@ fn read_blocks(
     numbers: &mut [u8; 63],
     sizes: &mut [u8; 63],
     payload: &mut [u8; 127],
-) -> usize
+) -> Counted
     requires { ⌜ Room (soFar count used) at end × (end ≤ length (now bytes)) ⌝ }
     ensures { λ r. ⌜ Stored (blocksFrom (moveBy tidy) 0 (drop at (take end (now (bytes .entry))))) (soFar count used) r (now (numbers .entry)) (now (sizes .entry)) (now (payload .entry)) (now (numbers .exit)) (now (sizes .exit)) (now (payload .exit)) ⌝ }
 {
     if end <= at {
-        return count;
+        return Counted::Count(count);
     }
+    let head = service::head_in(bytes, at, end);
     let Head::Whole {
         number,
         start,
         size,
-    } = service::head_in(bytes, at, end)
+    } = head
     else {
-        return UNREAD;
+        let why = service::short_of(head, end - at);
+        return Counted::Refused(why);
     };
     let next = keep_block(
         bytes,
@@ -178,15 +191,6 @@ fn read_blocks(
     )
 }
 
-// Why the blocks of the first `end` bytes do not read.
-fn why_unread(bytes: &[u8; 128], end: usize, tidy: bool) -> Refusal
-    requires { ⌜ (end ≤ length (now bytes)) × (isGiven (blocksFrom (moveBy tidy) 0 (drop 1 (take end (now bytes)))) ≡ false) ⌝ }
-    ensures { λ r. ⌜ blocksFrom (moveBy tidy) 0 (drop 1 (take end (now (bytes .entry)))) ≡ refused (saidRefusal r) ⌝ }
-{
-    let at = stop_at(bytes, 1, end, tidy);
-    service::short_of(service::head_in(bytes, at, end), end - at)
-}
-
 // Whether a reader refuses `actual` bytes where the header says `size`.
 fn wrong_length(tidy: bool, size: usize, actual: usize) -> bool
     ensures { λ r. ⌜ r ≡ wrongLength tidy size actual ⌝ }
@@ -197,21 +201,6 @@ fn wrong_length(tidy: bool, size: usize, actual: usize) -> bool
     size < actual
 }
 
-// A refusal of reading; it leaves zeros.
-fn refuse(
-    why: Refusal,
-    numbers: &mut [u8; 63],
-    sizes: &mut [u8; 63],
-    payload: &mut [u8; 127],
-) -> Counted
-    ensures { λ r. ⌜ Read (refused (saidRefusal why)) r (now (numbers .entry)) (now (sizes .entry)) (now (payload .entry)) (now (numbers .exit)) (now (sizes .exit)) (now (payload .exit)) ⌝ }
-{
-    *numbers = [0u8; 63];
-    *sizes = [0u8; 63];
-    *payload = [0u8; 127];
-    Counted::Refused(why)
-}
-
 // Why data of this length is refused.
 fn mismatch(expected: usize, actual: usize) -> Refusal
     ensures { λ r. ⌜ saidRefusal r ≡ lengthMismatch expected actual ⌝ }
@@ -219,48 +208,76 @@ fn mismatch(expected: usize, actual: usize) -> Refusal
     Refusal::LengthMismatch { expected, actual }
 }
 
-// Reads the blocks of the packet that the first `len` bytes are, plainly or tidily, into the arrays; at most 128 bytes are there. Answers how many
-// blocks there are. A refusal leaves zeros.
-pub fn read_in(
-    bytes: &[u8; 128],
-    len: usize,
-    tidy: bool,
-    numbers: &mut [u8; 63],
-    sizes: &mut [u8; 63],
-    payload: &mut [u8; 127],
-) -> Counted
-    ensures { λ r. ⌜ Read (readAs tidy (take len (now (bytes .entry)))) r (now (numbers .entry)) (now (sizes .entry)) (now (payload .entry)) (now (numbers .exit)) (now (sizes .exit)) (now (payload .exit)) ⌝ }
+// A refusal of reading, beside zeros.
+fn unread(why: Refusal) -> Filled
+    ensures { λ r. ⌜ Read (refused (saidRefusal why)) r ⌝ }
+{
+    Filled {
+        answer: Answer::Refused(why),
+        seq_no: 0,
+        count: 0,
+        numbers: [0u8; 63],
+        sizes: [0u8; 63],
+        payload: [0u8; 127],
+    }
+}
+
+// Reads the packet that the first `end` bytes are, whose length is not wrong.
+fn fill(bytes: &[u8; 128], end: usize, tidy: bool) -> Filled
+    requires { ⌜ Room (soFar 0 0) 1 end × (end ≤ length (now bytes)) ⌝ }
+    ensures { λ r. ⌜ Read (mapped (packetWith (now (bytes .entry))) (blocksFrom (moveBy tidy) 0 (drop 1 (take end (now (bytes .entry)))))) r ⌝ }
+{
+    let mut numbers = [0u8; 63];
+    let mut sizes = [0u8; 63];
+    let mut payload = [0u8; 127];
+    let r = read_blocks(
+        bytes,
+        1,
+        end,
+        tidy,
+        0,
+        0,
+        &mut numbers,
+        &mut sizes,
+        &mut payload,
+    );
+    match r {
+        Counted::Refused(why) => unread(why),
+        Counted::Count(count) => Filled {
+            answer: Answer::Accepted,
+            seq_no: bytes[0] / 64 % 4,
+            count,
+            numbers,
+            sizes,
+            payload,
+        },
+    }
+}
+
+// Reads the packet that the first `len` bytes are, plainly or tidily; at most 128 bytes are there.
+pub fn read_in(bytes: &[u8; 128], len: usize, tidy: bool) -> Filled
+    ensures { λ r. ⌜ Read (readAs tidy (take len (now (bytes .entry)))) r ⌝ }
 {
     let n = held(bytes, len);
     if n == 0 {
-        return refuse(mismatch(1, 0), numbers, sizes, payload);
+        return unread(mismatch(1, 0));
     }
     let size = packet_size(bytes[0]);
     if wrong_length(tidy, size, n) {
-        return refuse(mismatch(size, n), numbers, sizes, payload);
+        return unread(mismatch(size, n));
     }
-    let count = read_blocks(bytes, 1, n, tidy, 0, 0, numbers, sizes, payload);
-    if count == UNREAD {
-        return refuse(why_unread(bytes, n, tidy), numbers, sizes, payload);
-    }
-    Counted::Count(count)
+    fill(bytes, n, tidy)
 }
 
-// Reads the blocks of the packet that bytes are, as `read_in` does.
-pub fn read(
-    data: &[u8],
-    tidy: bool,
-    numbers: &mut [u8; 63],
-    sizes: &mut [u8; 63],
-    payload: &mut [u8; 127],
-) -> Counted
-    ensures { λ r. ⌜ Read (readAs tidy (now («data» .entry))) r (now (numbers .entry)) (now (sizes .entry)) (now (payload .entry)) (now (numbers .exit)) (now (sizes .exit)) (now (payload .exit)) ⌝ }
+// Reads the packet that bytes are, as `read_in` does.
+pub fn read(data: &[u8], tidy: bool) -> Filled
+    ensures { λ r. ⌜ Read (readAs tidy (now («data» .entry))) r ⌝ }
 {
     let n = data.len();
     if MOST_PACKET < n {
-        return refuse(mismatch(packet_size(data[0]), n), numbers, sizes, payload);
+        return unread(mismatch(packet_size(data[0]), n));
     }
     let mut bytes = [0u8; 128];
     service::put_bytes(&mut bytes, 0, data);
-    read_in(&bytes, n, tidy, numbers, sizes, payload)
+    read_in(&bytes, n, tidy)
 }

@@ -4,7 +4,7 @@ use mathlib.Core.Bool.{Bool, _&&_}
 use mathlib.Core.List.{List, [], _∷_, _++_, map}
 use Prim.Native.Nat.{ℕ, zero, suc, _+_}
 use lib.Dec.{leb}
-use lib.ListN.{length, getD, take, drop}
+use lib.ListN.{length, getD, take, drop, replicate}
 use lib.Seq.{sets}
 use Rattle.model.specs.Block.{Block}
 use Rattle.model.specs.Packet.{Packet, validPacket}
@@ -25,6 +25,10 @@ pub record Places (p : Fields) : Type 0 where
   pub numbers : length (p .numbers) ≡ 63
   pub sizes : length (p .sizes) ≡ 63
   pub payload : length (p .payload) ≡ 127
+
+-- no packet: zeros in all places
+abbrev pub zeros : Fields
+zeros = fields 0 0 (replicate 63 0) (replicate 63 0) (replicate 127 0)
 
 -- the first k blocks of such arrays
 unfoldable pub blocksHeld : ℕ → List ℕ → List ℕ → List ℕ → List Block

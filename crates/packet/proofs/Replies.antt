@@ -1,15 +1,12 @@
 -- What is answered beside a packet, by what was stored in its places. Assumes nothing.
 use mathlib.Core.Path.{_≡_, refl, sym, ap, _∙_}
 use mathlib.Core.Bool.{Bool, true, _&&_}
-use mathlib.Core.List.{List, [], _∷_}
+use mathlib.Core.List.{List, []}
 use Prim.Native.Nat.{ℕ}
-use native.Mathlib.Omega.{arith}
-use lib.ListN.{length, getD, replicate}
-use Rattle.caption.specs.declared.Answer.{Answer}
 use Rattle.caption.specs.declared.Counted.{Counted}
 use Rattle.caption.specs.Answers.{saidAnswer}
-use Rattle.model.specs.Said.{Said, Outcome, gave, refused, isGiven, says, after, mapped, checked, accepted}
-use Rattle.model.specs.Packet.{Packet, sequenceIn, pushBlock, pushRunBy}
+use Rattle.model.specs.Said.{Said, Outcome, gave, refused, says, after, mapped, checked, accepted}
+use Rattle.model.specs.Packet.{Packet, pushBlock, pushRunBy}
 use Rattle.model.proofs.Cases.{by-cond, both, Gives}
 use Rattle.model.proofs.Packets.{Valid}
 use Rattle.model.proofs.Pushing.{block-valid, run-valid}
@@ -18,13 +15,13 @@ use Rattle.service.specs.Service.{blockOf, validService}
 use Rattle.service.proofs.Services.{valid-block}
 use Rattle.entries.specs.Fields.{fields}
 use Rattle.entries.specs.Fields as places
+use Rattle.blocks.specs.declared.Filled.{Filled}
 use Rattle.blocks.specs.Reading.{Read}
 use Rattle.pushes.specs.Pushing.{Stores}
 use Rattle.pushes.specs.Pushing as pushes
 use Rattle.packet.specs.declared.DTVCCPacket.{DTVCCPacket}
-use Rattle.packet.specs.declared.Lead.{Lead}
 use Rattle.packet.specs.declared.PacketAnswer.{PacketAnswer}
-use Rattle.packet.specs.Packet.{Answers, Pushes, fieldsOf, packetWith, packetOf, validDTVCC, ledBy, leadOf, answerTo, over, blank, laid, answerOf}
+use Rattle.packet.specs.Packet.{Answers, Pushes, fieldsOf, packetWith, packetOf, validDTVCC, answerFrom, over, blank, laid, answerOf}
 use Rattle.packet.proofs.Holds.{Places, within-facts, over-holds}
 
 -- an answer that refuses, and one that gives
@@ -34,29 +31,11 @@ refuses o beside why r e a s = record { answer = a ∙ ap says (sym e); packet =
 pub gives : (o : Outcome DTVCCPacket) (beside given : DTVCCPacket) (r : PacketAnswer) → o ≡ gave given → saidAnswer (r .answer) ≡ accepted [] → r .packet ≡ given → Answers o beside r
 gives o beside given r e a s = record { answer = a ∙ ap says (sym e); packet = s ∙ ap (after beside) (sym e) }
 
--- a packet that was read: its blocks are in their places, over zeros; or zeros are left
-module _ (r : Counted) (n s p : List ℕ) (q : ℕ) (l : Lead) (lead : l ≡ leadOf r q) where
-  abbrev Filled : Outcome Packet → Type 0
-  Filled o = Read o r (replicate 63 0) (replicate 63 0) (replicate 127 0) n s p
-
-  pub read-packet : (o : Outcome Packet) → ((x : Packet) → o ≡ gave x → x .sequence ≡ q) → Filled o → ledBy l n s p ≡ after blank (mapped laid o)
-  unfolding Read over places.over
-  read-packet (gave x) first (e, k) = rw (lead, e, k .numbers, k .sizes, k .payload, ← first x refl)
-  read-packet (refused why) first (e, k, m, a, b, c) = rw (lead, k, a, b, c)
-
-  -- whether it was
-  pub read-good : (o : Outcome Packet) → Filled o → l .good ≡ isGiven o
-  unfolding Read
-  read-good (gave x) (e, k) = rw (lead, e)
-  read-good (refused why) (e, k, m, a, b, c) = rw (lead, k)
-
-  pub read-answer : (a : Answer) → a ≡ answerTo r → (o : Outcome Packet) → ((x : Packet) → o ≡ gave x → x .sequence ≡ q) → Filled o → Answers (mapped laid o) blank (record { answer = a; packet = ledBy l n s p })
-  unfolding Read
-  read-answer a is o first k = record { answer = ap saidAnswer is ∙ says-so o k; packet = read-packet o first k }
-    where
-      says-so : (o : Outcome Packet) → Filled o → saidAnswer (answerTo r) ≡ says (mapped laid o)
-      says-so (gave x) (e, k) = rw e
-      says-so (refused why) (e, k, m, a, b, c) = rw k m
+-- a packet that was read: its blocks are in their places, over zeros
+pub read-answer : (o : Outcome Packet) (r : Filled) (a : PacketAnswer) → a ≡ answerFrom r → Read o r → Answers (mapped laid o) blank a
+unfolding over
+read-answer (gave x) r a is k = rw is (record { answer = k .answer; packet = ap packetWith (k .places) })
+read-answer (refused why) r a is k = rw is (record { answer = k .answer; packet = ap packetWith (k .places) })
 
 -- what a push left
 module _ (p : DTVCCPacket) (full : Places p) (r : Counted) (n s d : List ℕ) (a : PacketAnswer) (is : a ≡ answerOf (p .«seq_no») (p .count) r n s d) where
@@ -85,8 +64,3 @@ module _ (p : DTVCCPacket) (full : Places p) (r : Counted) (n s d : List ℕ) (a
       (by-cond (Gives Valid) (validDTVCC p && validService b)
       (λ e. let v = both (validDTVCC p) (validService b) e in block-valid (packetOf p) (within (v .0)) (blockOf b) (valid-block b (v .1)))
       (λ _. tt)) (k full)
-
--- no first byte
-pub none-first : (d : List ℕ) → length d ≡ 0 → 0 ≡ sequenceIn (getD d 0 0)
-none-first [] e = refl
-none-first (x ∷ d) e = absurd (omega arith)

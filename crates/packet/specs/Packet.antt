@@ -1,11 +1,12 @@
 -- What a `DTVCCPacket` holds, and what its functions answer. Assumes nothing.
 use mathlib.Core.Path.{_≡_}
-use mathlib.Core.Bool.{Bool, true, false}
+use mathlib.Core.Bool.{Bool}
 use mathlib.Core.List.{List}
 use Prim.Native.Nat.{ℕ}
 use lib.ListN.{replicate}
 use Rattle.caption.specs.declared.Counted.{Counted}
 use Rattle.caption.specs.declared.Counted.the-variants.{Count, Refused}
+use Rattle.caption.specs.declared.Refusal.{Refusal}
 use Rattle.caption.specs.declared.Answer.{Answer}
 use Rattle.caption.specs.declared.Answer.the-variants as answer
 use Rattle.caption.specs.Answers.{saidAnswer}
@@ -17,8 +18,9 @@ use Rattle.entries.specs.Fields as places
 use Rattle.entries.specs.Entries.{Entry}
 use Rattle.entries.specs.Entries as listed
 use Rattle.entries.specs.Extent.{extentAs}
+use Rattle.blocks.specs.declared.Filled.{Filled}
+use Rattle.blocks.specs.Reading as reading
 use Rattle.packet.specs.declared.DTVCCPacket.{DTVCCPacket}
-use Rattle.packet.specs.declared.Lead.{Lead}
 use Rattle.packet.specs.declared.PacketAnswer.{PacketAnswer}
 
 -- its places, and the packet of places
@@ -28,16 +30,7 @@ fieldsOf p = fields (p .«seq_no») (p .count) (p .numbers) (p .sizes) (p .paylo
 abbrev pub packetWith : Fields → DTVCCPacket
 packetWith f = record { «seq_no» = f .«seq_no»; count = f .count; numbers = f .numbers; sizes = f .sizes; payload = f .payload }
 
--- the packet of what stands before its arrays and of these
-abbrev pub ledBy : Lead → List ℕ → List ℕ → List ℕ → DTVCCPacket
-ledBy l numbers sizes payload = record { «seq_no» = l .«seq_no»; count = l .count; numbers = numbers; sizes = sizes; payload = payload }
-
--- what stands before the arrays by how many blocks were read; zeros where reading is refused
-abbrev pub leadOf : Counted → ℕ → Lead
-leadOf (Count k) sequence = record { good = true; «seq_no» = sequence; count = k }
-leadOf (Refused why) sequence = record { good = false; «seq_no» = 0; count = 0 }
-
--- and what is answered
+-- what is answered by how many blocks there are
 abbrev pub answerTo : Counted → Answer
 answerTo (Count k) = answer.Accepted
 answerTo (Refused why) = answer.Refused why
@@ -71,6 +64,14 @@ pub record Pushes (o : Outcome Packet) (p : DTVCCPacket) (r : PacketAnswer) : Ty
   pub answer : saidAnswer (r .answer) ≡ says o
   pub means : packetOf (r .packet) ≡ after (packetOf p) o
   pub places : r .packet ≡ after p (mapped (over p) o)
+
+-- for the functions that are not public: a refusal, beside no packet
+abbrev pub unreadFor : Refusal → PacketAnswer
+unreadFor why = record { answer = answer.Refused why; packet = blank }
+
+-- what is answered to a reading, with the packet of the places that it filled
+abbrev pub answerFrom : Filled → PacketAnswer
+answerFrom r = record { answer = r .answer; packet = packetWith (reading.fieldsOf r) }
 
 -- for the functions that are not public: its entries, and its extent, or that it breaks a limit
 abbrev pub entriesOf : DTVCCPacket → List Entry

@@ -15,6 +15,7 @@ use Rattle.blocks.proofs.+read_blocks.Lts-read_blocks as read-blocks-lt
 use Rattle.blocks.proofs.keep_block.Reads as keep-block-reads
 use Rattle.blocks.proofs.moved.Reads as moved-reads
 use Rattle.service.proofs.head_in.Reads as head-in-reads
+use Rattle.service.proofs.short_of.Reads as short-of-reads
 use Rattle.blocks.proofs.+read_blocks.{statement}
 use Rattle.blocks.proofs.+read_blocks.Tie.{close}
 
@@ -34,6 +35,8 @@ abbrev read-blocks-claims : ℕ → read-blocks-lts.Claims
 read-blocks-claims t = (
   head-in-reads.Asked,
   head-in-reads.Learnt,
+  short-of-reads.Asked,
+  short-of-reads.Learnt,
   keep-block-reads.Asked,
   keep-block-reads.Learnt,
   moved-reads.Asked,
@@ -44,22 +47,22 @@ read-blocks-claims t = (
 
 -- what is known where a header was read whole
 abbrev Headed-at : ℕ → Type 0
-Headed-at t = read-blocks-lts.After-number (read-blocks-claims t) (read-blocks-at t) read-blocks.Post
+Headed-at t = read-blocks-lts.After-head (read-blocks-claims t) (read-blocks-at t) read-blocks.Post
 
-keeps : (t : ℕ) (c : Headed-at t) → (let s = c .before .before .before .before in KeepRoom (soFar (s .args .count) (s .args .used)) (s .args .at + c .number .given .0 .1 .0) (c .number .given .0 .1 .1 .0) (length (now (s .args .bytes))))
+keeps : (t : ℕ) (c : Headed-at t) → (let s = c .before .before .before .before in KeepRoom (soFar (s .args .count) (s .args .used)) (s .args .at + c .head .given .0 .1 .0) (c .head .given .0 .1 .1 .0) (length (now (s .args .bytes))))
 keeps t c =
     let s = c .before .before .before .before in
-    keep-room _ _ (s .pre .1 .1) (s .args .tidy) _ (c .before .before .before .if1 .left) _ (c .before .before .head-in .ensures) _ _ _ (c .number .given .1) _ (s .pre .1 .0)
+    keep-room _ _ (s .pre .1 .1) (s .args .tidy) _ (c .before .before .before .if1 .left) _ (c .before .before .head-in .ensures) _ _ _ (c .head .given .1) _ (s .pre .1 .0)
 
-reaches : (t : ℕ) (c : Headed-at t) → (let s = c .before .before .before .before in s .args .at + c .number .given .0 .1 .0 + c .number .given .0 .1 .1 .0 ≤ s .args .end)
+reaches : (t : ℕ) (c : Headed-at t) → (let s = c .before .before .before .before in s .args .at + c .head .given .0 .1 .0 + c .head .given .0 .1 .1 .0 ≤ s .args .end)
 reaches t c =
     let s = c .before .before .before .before in
-    reach _ _ (s .pre .1 .1) (s .args .tidy) _ (c .before .before .before .if1 .left) _ (c .before .before .head-in .ensures) _ _ _ (c .number .given .1)
+    reach _ _ (s .pre .1 .1) (s .args .tidy) _ (c .before .before .before .if1 .left) _ (c .before .before .head-in .ensures) _ _ _ (c .head .given .1)
 
-within : (t : ℕ) (c : Headed-at t) (m : ℕ) → (let s = c .before .before .before .before in m ≡ moveFor (s .args .tidy) (c .number .given .0 .0) (c .number .given .0 .1 .0) (c .number .given .0 .1 .1 .0) → (s .args .at + m ≤ s .args .end) × (1 ≤ m))
+within : (t : ℕ) (c : Headed-at t) (m : ℕ) → (let s = c .before .before .before .before in m ≡ moveFor (s .args .tidy) (c .head .given .0 .0) (c .head .given .0 .1 .0) (c .head .given .0 .1 .1 .0) → (s .args .at + m ≤ s .args .end) × (1 ≤ m))
 within t c m e =
     let s = c .before .before .before .before in
-    move-within _ _ (s .pre .1 .1) (s .args .tidy) _ (c .before .before .before .if1 .left) _ (c .before .before .head-in .ensures) _ _ _ (c .number .given .1) m e
+    move-within _ _ (s .pre .1 .1) (s .args .tidy) _ (c .before .before .before .if1 .left) _ (c .before .before .head-in .ensures) _ _ _ (c .head .given .1) m e
 
 read-blocks-returns : (t : ℕ) → read-blocks-lts.Need-returns (read-blocks-claims t) (read-blocks-at t) read-blocks.Post
 read-blocks-returns t c = search (needs, stored-none)
@@ -67,11 +70,17 @@ read-blocks-returns t c = search (needs, stored-none)
 read-blocks-head-in-requires : (t : ℕ) → read-blocks-lts.Need-head-in-requires (read-blocks-claims t) (read-blocks-at t) read-blocks.Post
 read-blocks-head-in-requires t c κs = search needs
 
-read-blocks-enum-known-number : (t : ℕ) → read-blocks-lts.Need-enum-known-number (read-blocks-claims t) (read-blocks-at t) read-blocks.Post
-read-blocks-enum-known-number t c = search needs
+read-blocks-enum-known-head : (t : ℕ) → read-blocks-lts.Need-enum-known-head (read-blocks-claims t) (read-blocks-at t) read-blocks.Post
+read-blocks-enum-known-head t c = search needs
 
 read-blocks-enum-told : (t : ℕ) → read-blocks-lts.Need-enum-told (read-blocks-claims t) (read-blocks-at t) read-blocks.Post
 read-blocks-enum-told t c = search needs
+
+read-blocks-sub-short-of : (t : ℕ) → read-blocks-lts.Need-sub-short-of (read-blocks-claims t) (read-blocks-at t) read-blocks.Post
+read-blocks-sub-short-of t c = search needs
+
+read-blocks-short-of-requires : (t : ℕ) → read-blocks-lts.Need-short-of-requires (read-blocks-claims t) (read-blocks-at t) read-blocks.Post
+read-blocks-short-of-requires t c κs = search needs
 
 read-blocks-returns-2 : (t : ℕ) → read-blocks-lts.Need-returns-2 (read-blocks-claims t) (read-blocks-at t) read-blocks.Post
 read-blocks-returns-2 t c = search (needs, stored-short)
@@ -83,7 +92,7 @@ read-blocks-keep-block-requires : (t : ℕ) → read-blocks-lts.Need-keep-block-
 read-blocks-keep-block-requires t c κs = keeps t (c .before .before .before .before)
 
 read-blocks-moved-requires : (t : ℕ) → read-blocks-lts.Need-moved-requires (read-blocks-claims t) (read-blocks-at t) read-blocks.Post
-read-blocks-moved-requires t c κs = let h = c .before .before .before .before .before in head-room _ _ _ _ _ (h .before .before .head-in .ensures) (h .number .given .1)
+read-blocks-moved-requires t c κs = let h = c .before .before .before .before .before in head-room _ _ _ _ _ (h .before .before .head-in .ensures) (h .head .given .1)
 
 read-blocks-add-read-blocks : (t : ℕ) → read-blocks-lts.Need-add-read-blocks (read-blocks-claims t) (read-blocks-at t) read-blocks.Post
 read-blocks-add-read-blocks t c = omega (arith, within t (c .before .before .before .before .before .before) (c .moved .result) (c .moved .ensures) .0)
@@ -94,14 +103,14 @@ read-blocks-read-blocks-requires t c κs = let m = c .before .before .before in
     let h = k .before .before .before .before .before in
     let s = h .before .before .before .before in
     let w = within t h (m .moved .result) (m .moved .ensures) in
-    (omega (arith, w .0, w .1), (room-next _ _ (s .pre .1 .1) (s .args .tidy) _ (h .before .before .before .if1 .left) _ (h .before .before .head-in .ensures) _ _ _ (h .number .given .1) _ (m .moved .ensures) _ _ (k .keep-block .ensures .0) (s .pre .1 .0), s .pre .1 .1))
+    (omega (arith, w .0, w .1), (room-next _ _ (s .pre .1 .1) (s .args .tidy) _ (h .before .before .before .if1 .left) _ (h .before .before .head-in .ensures) _ _ _ (h .head .given .1) _ (m .moved .ensures) _ _ (k .keep-block .ensures .0) (s .pre .1 .0), s .pre .1 .1))
 
 read-blocks-returns-3 : (t : ℕ) → read-blocks-lts.Need-returns-3 (read-blocks-claims t) (read-blocks-at t) read-blocks.Post
 read-blocks-returns-3 t c = let m = c .before .before .before .before in
     let k = m .before in
     let h = k .before .before .before .before .before in
     let s = h .before .before .before .before in
-    stored-next _ _ (s .pre .1 .1) (s .args .tidy) _ (h .before .before .before .if1 .left) _ (h .before .before .head-in .ensures) _ _ _ (h .number .given .1) _ (m .moved .ensures) _ _ (k .keep-block .ensures .0) _ _ _ _ _ _ _ _ _ _ (k .keep-block .ensures .1) (c .read-blocks .ensures)
+    stored-next _ _ (s .pre .1 .1) (s .args .tidy) _ (h .before .before .before .if1 .left) _ (h .before .before .head-in .ensures) _ _ _ (h .head .given .1) _ (m .moved .ensures) _ _ (k .keep-block .ensures .0) _ _ _ _ _ _ _ _ _ _ (k .keep-block .ensures .1) (c .read-blocks .ensures)
 
 pub +read-blocks-spec : {M : Type 1} → statement M
 +read-blocks-spec = close μ-read-blocks λ t. read-blocks-lts.spec (read-blocks-claims t)
@@ -109,8 +118,10 @@ pub +read-blocks-spec : {M : Type 1} → statement M
     read-blocks.Post
     (read-blocks-returns t)
     (read-blocks-head-in-requires t)
-    (read-blocks-enum-known-number t)
+    (read-blocks-enum-known-head t)
     (read-blocks-enum-told t)
+    (read-blocks-sub-short-of t)
+    (read-blocks-short-of-requires t)
     (read-blocks-returns-2 t)
     (read-blocks-add-keep-block t)
     (read-blocks-keep-block-requires t)

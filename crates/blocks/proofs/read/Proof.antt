@@ -13,11 +13,11 @@ packet-size-requires c κs = search needs
 mismatch-requires : tie.Need-mismatch-requires
 mismatch-requires c κs = search needs
 
-refuse-requires : tie.Need-refuse-requires
-refuse-requires c κs = search needs
+unread-requires : tie.Need-unread-requires
+unread-requires c κs = search needs
 
 returns : tie.Need-returns
-returns c = read-many _ (c .before .before .before .before .before .before .before .if1 .taken) _ _ (c .before .before .before .before .before .packet-size .ensures) _ _ _ _ _ _ _ _ (c .before .before .before .before .mismatch .ensures) (c .refuse .ensures)
+returns c = read-many _ (c .before .before .before .before .if1 .taken) _ _ (c .before .before .packet-size .ensures) _ _ (c .before .mismatch .ensures) (c .unread .ensures)
 
 slice-aggregate-put-bytes : tie.Need-slice-aggregate-put-bytes
 slice-aggregate-put-bytes c = search needs
@@ -29,7 +29,7 @@ read-in-requires : tie.Need-read-in-requires
 read-in-requires c κs = search needs
 
 returns-2 : tie.Need-returns-2
-returns-2 c = copied-read _ _ (c .before .before .before .before .before .before .before .before .if1 .left) (c .before .before .before .before .before .before .put-bytes .ensures) _ _ _ _ _ _ _ _ (c .read-in .ensures)
+returns-2 c = copied-read _ _ (c .before .before .before .before .before .if1 .left) (c .before .before .before .put-bytes .ensures) _ _ (c .read-in .ensures)
 
 pub read-spec : {M : Type 1} → statement M
 read-spec =
@@ -38,7 +38,7 @@ read-spec =
     shared-slice-read-packet-size
     packet-size-requires
     mismatch-requires
-    refuse-requires
+    unread-requires
     returns
     slice-aggregate-put-bytes
     put-bytes-requires

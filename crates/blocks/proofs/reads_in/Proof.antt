@@ -1,4 +1,4 @@
--- The tests of the reader come first, and where the walk over the blocks stops says the rest. Assumes nothing.
+-- The tests of the reader come first, and whether the blocks read says the rest. Assumes nothing.
 use Rattle.blocks.proofs.Readers.{none-reads, long-reads, front-within, blocks-reads}
 use borrow.Author.Needs.{needs}
 use Rattle.blocks.proofs.reads_in.Statement.{statement}
@@ -19,8 +19,8 @@ packet-size-requires c κs = search needs
 returns-2 : tie.Need-returns-2
 returns-2 c = search (needs, long-reads)
 
-stop-at-requires : tie.Need-stop-at-requires
-stop-at-requires c κs = search (needs, front-within)
+reads-from-requires : tie.Need-reads-from-requires
+reads-from-requires c κs = search (needs, front-within)
 
 returns-3 : tie.Need-returns-3
 returns-3 c = search (needs, blocks-reads)
@@ -34,5 +34,5 @@ reads-in-spec =
     element-copy-out-packet-size
     packet-size-requires
     returns-2
-    stop-at-requires
+    reads-from-requires
     returns-3)

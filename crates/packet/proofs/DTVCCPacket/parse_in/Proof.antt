@@ -1,0 +1,19 @@
+-- It is the reader with the plain rules. Assumes nothing.
+use Rattle.blocks.specs.Reading.{readAs}
+use Rattle.packet.proofs.Replies.{read-answer}
+use borrow.Author.Needs.{needs}
+use Rattle.packet.proofs.DTVCCPacket.parse_in.Statement.{statement}
+use Rattle.packet.proofs.DTVCCPacket.parse_in.Tie as tie
+
+read-in-requires : tie.Need-read-in-requires
+read-in-requires c κs = search needs
+
+packet-of-requires : tie.Need-packet-of-requires
+packet-of-requires c κs = search needs
+
+returns : tie.Need-returns
+unfolding readAs
+returns c = read-answer _ _ _ (c .packet-of .ensures) (c .before .read-in .ensures)
+
+pub parse-in-spec : {M : Type 1} → statement M
+parse-in-spec = tie.close (tie.spec read-in-requires packet-of-requires returns)
