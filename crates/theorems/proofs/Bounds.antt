@@ -110,8 +110,8 @@ module _ {w₀ w : CCDataWriter} {fs₀ : List (List ℕ)} {is₀ : Items} (new 
   pub pair-leaves : {w′ : CCDataWriter} {fs : List (List ℕ)} {is : Items} → Calls w fs is w′ → (f : Field) → LeavesInTime f w fs is w′
   pair-leaves {w′} c f i there writes =
       let k = follows c (reached .sound) in
-      rw (← queue-means f w, ← queue-means f w′, ← k .last, ← came f k)
-      (leaves.leaves f (k .calls) (means w) (k .rates) i (rw (queue-means f w) there) (omega (arith, k .writes)))
+      let l = leaves.leaves f (k .calls) (means w) (k .rates) i (rw (queue-means f w) there) (omega (arith, k .writes)) in
+      rw (came f k, k .last, queue-means f w, queue-means f w′) at l
 
   -- so where nothing comes, i places at least come free
   pub places-free : {w′ : CCDataWriter} {fs : List (List ℕ)} → Calls w fs noItems w′ → (f : Field) (i : ℕ) → i ≤ length (queueAt f w) → 2 * i ≤ length fs
