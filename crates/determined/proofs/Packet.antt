@@ -1,6 +1,6 @@
 -- The packet's functions. Assumes nothing.
-use mathlib.Core.Path.{_≡_, refl, sym, ap, _∙_}
-use mathlib.Core.Bool.{Bool, cond}
+use mathlib.Core.Path.{refl, sym, _∙_}
+use mathlib.Core.Bool.{cond}
 use mathlib.Core.List.{List, [], _∷_}
 use mathlib.Mathlib.Logic.Function.Defs.{Injective, LeftInverse, LeftInverse·injective}
 use Prim.Native.Nat.{ℕ}
@@ -13,10 +13,9 @@ use Rattle.model.specs.Block.{Block}
 use Rattle.caption.proofs.Answers.{answerOf, refused-again, saidAnswer-injective, saidCounted-injective, saidTruth-injective}
 use Rattle.caption.specs.declared.Answer.{Answer}
 use Rattle.service.specs.declared.Service.{Service}
-use Rattle.packet.specs.Packet.{Answers, ledBy}
+use Rattle.packet.specs.Packet.{Answers}
 use Rattle.packet.specs.Place.{saidPlace, Placed}
 use Rattle.packet.specs.declared.DTVCCPacket.{DTVCCPacket}
-use Rattle.packet.specs.declared.Lead.{Lead}
 use Rattle.packet.specs.declared.PacketAnswer.{PacketAnswer}
 use Rattle.packet.specs.declared.Place.{Place}
 use Rattle.packet.specs.declared.Place.the-variants.{Here, Nothing, Refused}
@@ -25,7 +24,6 @@ use Rattle.determined.proofs.Service.{writes}
 use Rattle.packet.proofs.packet_size.Reads as packet_size
 use Rattle.packet.proofs.parse_hdr_byte.Reads as parse_hdr_byte
 use Rattle.packet.proofs.reads_in.Reads as ReadsIn
-use Rattle.packet.proofs.read_into.Reads as read_into
 use Rattle.packet.proofs.DTVCCPacket.new.Reads as new
 use Rattle.packet.proofs.DTVCCPacket.sequence_no.Reads as sequence_no
 use Rattle.packet.proofs.DTVCCPacket.free_space.Reads as free_space
@@ -38,6 +36,7 @@ use Rattle.packet.proofs.DTVCCPacket.push_service.Reads as push_service
 use Rattle.packet.proofs.DTVCCPacket.push_code.Reads as push_code
 use Rattle.packet.proofs.DTVCCPacket.push_code_into_single_service.Reads as push_code_into_single_service
 use Rattle.packet.proofs.DTVCCPacket.parse.Reads as parse
+use Rattle.packet.proofs.DTVCCPacket.parse_in.Reads as ParseIn
 use Rattle.packet.proofs.DTVCCPacket.parse_tidy.Reads as parse_tidy
 use Rattle.determined.specs.Determines.{Determines, DeterminesLent}
 use Rattle.determined.proofs.Ways.{equal, said, two}
@@ -73,19 +72,6 @@ module _ {A E : Type 0} where
             (saidPlace-injective (r .place) (q .place) (h .place ∙ sym (k .place))) (h .service ∙ sym (k .service));
       }
 
--- what stands before a packet's arrays, taken back
-abbrev leadIn : Bool → DTVCCPacket → Lead
-leadIn good p = record { good = good; «seq_no» = p .«seq_no»; count = p .count }
-
--- a packet in three lent arrays and what stands before them
-leads : {A E : Type 0} {reads : A → Bool} {given : A → DTVCCPacket} {n s p : E → List ℕ}
-    → DeterminesLent (λ e. n e ∷ s e ∷ p e ∷ []) (λ (a : A) (r : Lead) (e : E). (r .good ≡ reads a) × (ledBy r (n e) (s e) (p e) ≡ given a))
-leads =
-    record {
-      result = λ a r q e f h k. two leadIn (h .0 ∙ sym (k .0)) (h .1 ∙ sym (k .1));
-      contents = λ a r q e f h k. ap (λ (x : DTVCCPacket). x .numbers ∷ x .sizes ∷ x .payload ∷ []) (h .1 ∙ sym (k .1));
-    }
-
 -- `packet_size(h)`
 pub packet-size : Determines (packet_size.Post (tt {0}))
 packet-size = equal
@@ -97,10 +83,6 @@ parse-hdr-byte = equal
 -- `reads_in(bytes, len)`
 pub reads-in : (κs : Lfts 1) → Determines (ReadsIn.Post κs)
 reads-in κs = equal
-
--- `read_into(bytes, len, numbers, sizes, payload)`
-pub read-into : (κs : Lfts 4) → DeterminesLent (λ e. now (e .1 .1 .0) ∷ now (e .1 .1 .1 .0) ∷ now (e .1 .1 .1 .1 .0) ∷ []) (read_into.Post κs)
-read-into κs = leads
 
 -- `DTVCCPacket::new(seq_no)`
 pub DTVCCPacket-new : Determines (new.Post (tt {0}))
@@ -149,6 +131,10 @@ DTVCCPacket-push-code-into-single-service κs = answers
 -- `DTVCCPacket::parse(data)`
 pub DTVCCPacket-parse : (κs : Lfts 1) → Determines (parse.Post κs)
 DTVCCPacket-parse κs = answers
+
+-- `DTVCCPacket::parse_in(bytes, len)`
+pub DTVCCPacket-parse-in : (κs : Lfts 1) → Determines (ParseIn.Post κs)
+DTVCCPacket-parse-in κs = answers
 
 -- `DTVCCPacket::parse_tidy(data)`
 pub DTVCCPacket-parse-tidy : (κs : Lfts 1) → Determines (parse_tidy.Post κs)

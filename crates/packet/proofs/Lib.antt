@@ -3,3 +3,4 @@ pub mod Replies
 pub mod Measures
 pub mod Placed
 pub mod Keeps
+pub mod Refusals

@@ -5,10 +5,9 @@ use mathlib.Core.List.{List, [], _∷_}
 use Prim.Native.Nat.{ℕ}
 use native.Mathlib.Omega.{arith}
 use lib.ListN.{length, getD, replicate}
-use Rattle.caption.specs.declared.Answer.{Answer}
 use Rattle.caption.specs.declared.Counted.{Counted}
 use Rattle.caption.specs.Answers.{saidAnswer}
-use Rattle.model.specs.Said.{Said, Outcome, gave, refused, isGiven, says, after, mapped, accepted}
+use Rattle.model.specs.Said.{Said, Outcome, gave, refused, says, after, mapped, accepted}
 use Rattle.model.specs.Packet.{Packet, sequenceIn}
 use Rattle.service.specs.declared.Service.{Service}
 use Rattle.entries.specs.Fields.{Fields}
@@ -17,9 +16,8 @@ use Rattle.blocks.specs.Reading.{Read}
 use Rattle.pushes.specs.Pushing.{Stores, Pushes}
 use Rattle.pushes.specs.Pushing as pushes
 use Rattle.packet.specs.declared.DTVCCPacket.{DTVCCPacket}
-use Rattle.packet.specs.declared.Lead.{Lead}
 use Rattle.packet.specs.declared.PacketAnswer.{PacketAnswer}
-use Rattle.packet.specs.Packet.{Answers, fieldsOf, packetWith, ledBy, leadOf, answerTo, over, blank, laid, answerOf, pushedRun, pushedBlock}
+use Rattle.packet.specs.Packet.{Answers, fieldsOf, packetWith, filledBy, over, blank, laid, answerOf, pushedRun, pushedBlock}
 use Rattle.packet.proofs.Holds.{Places}
 
 -- an answer that refuses, and one that gives
@@ -29,29 +27,12 @@ refuses o beside why r e a s = record { answer = a ∙ ap says (sym e); packet =
 pub gives : (o : Outcome DTVCCPacket) (beside given : DTVCCPacket) (r : PacketAnswer) → o ≡ gave given → saidAnswer (r .answer) ≡ accepted [] → r .packet ≡ given → Answers o beside r
 gives o beside given r e a s = record { answer = a ∙ ap says (sym e); packet = s ∙ ap (after beside) (sym e) }
 
--- a packet that was read: its blocks are in their places, over zeros; or zeros are left
-module _ (r : Counted) (n s p : List ℕ) (q : ℕ) (l : Lead) (lead : l ≡ leadOf r q) where
-  abbrev Filled : Outcome Packet → Type 0
-  Filled o = Read o r (replicate 63 0) (replicate 63 0) (replicate 127 0) n s p
-
-  pub read-packet : (o : Outcome Packet) → ((x : Packet) → o ≡ gave x → x .sequence ≡ q) → Filled o → ledBy l n s p ≡ after blank (mapped laid o)
-  unfolding Read over places.over
-  read-packet (gave x) first (e, k) = rw (lead, e, k .numbers, k .sizes, k .payload, ← first x refl)
-  read-packet (refused why) first (e, k, m, a, b, c) = rw (lead, k, a, b, c)
-
-  -- whether it was
-  pub read-good : (o : Outcome Packet) → Filled o → l .good ≡ isGiven o
-  unfolding Read
-  read-good (gave x) (e, k) = rw (lead, e)
-  read-good (refused why) (e, k, m, a, b, c) = rw (lead, k)
-
-  pub read-answer : (a : Answer) → a ≡ answerTo r → (o : Outcome Packet) → ((x : Packet) → o ≡ gave x → x .sequence ≡ q) → Filled o → Answers (mapped laid o) blank (record { answer = a; packet = ledBy l n s p })
-  unfolding Read
-  read-answer a is o first k = record { answer = ap saidAnswer is ∙ says-so o k; packet = read-packet o first k }
-    where
-      says-so : (o : Outcome Packet) → Filled o → saidAnswer (answerTo r) ≡ says (mapped laid o)
-      says-so (gave x) (e, k) = rw e
-      says-so (refused why) (e, k, m, a, b, c) = rw k m
+-- a packet that was read: its blocks are in their places, over zeros
+pub read-answer : (r : Counted) (n s p : List ℕ) (q : ℕ) (a : PacketAnswer) → a ≡ filledBy q r n s p → (o : Outcome Packet) → ((x : Packet) → o ≡ gave x → x .sequence ≡ q)
+    → Read o r (replicate 63 0) (replicate 63 0) (replicate 127 0) n s p → Answers (mapped laid o) blank a
+unfolding Read over places.over
+read-answer r n s p q a is (gave x) first (e, k) = rw (is, e, k .numbers, k .sizes, k .payload, ← first x refl) (record { answer = refl; packet = refl })
+read-answer r n s p q a is (refused why) first (e, k, m, u, v, w) = rw (is, k) (record { answer = m; packet = refl })
 
 -- what a push left
 module _ (p : DTVCCPacket) (places : Places p) (r : Counted) (n s d : List ℕ) (a : PacketAnswer) (is : a ≡ answerOf (p .«seq_no») (p .count) r n s d) where

@@ -1,11 +1,12 @@
 -- What a `DTVCCPacket` holds, and what its functions answer. Assumes nothing.
 use mathlib.Core.Path.{_≡_}
-use mathlib.Core.Bool.{Bool, true, false}
+use mathlib.Core.Bool.{Bool}
 use mathlib.Core.List.{List}
 use Prim.Native.Nat.{ℕ}
 use lib.ListN.{replicate}
 use Rattle.caption.specs.declared.Counted.{Counted}
 use Rattle.caption.specs.declared.Counted.the-variants.{Count, Refused}
+use Rattle.caption.specs.declared.Refusal.{Refusal}
 use Rattle.caption.specs.declared.Answer.{Answer}
 use Rattle.caption.specs.declared.Answer.the-variants as answer
 use Rattle.caption.specs.Answers.{saidAnswer}
@@ -18,7 +19,6 @@ use Rattle.entries.specs.Fields as places
 use Rattle.entries.specs.Extent.{extentAs}
 use Rattle.pushes.specs.Pushing as pushes
 use Rattle.packet.specs.declared.DTVCCPacket.{DTVCCPacket}
-use Rattle.packet.specs.declared.Lead.{Lead}
 use Rattle.packet.specs.declared.PacketAnswer.{PacketAnswer}
 
 -- its places, and the packet of places
@@ -28,16 +28,7 @@ fieldsOf p = fields (p .«seq_no») (p .count) (p .numbers) (p .sizes) (p .paylo
 abbrev pub packetWith : Fields → DTVCCPacket
 packetWith f = record { «seq_no» = f .«seq_no»; count = f .count; numbers = f .numbers; sizes = f .sizes; payload = f .payload }
 
--- the packet of what stands before its arrays and of these
-abbrev pub ledBy : Lead → List ℕ → List ℕ → List ℕ → DTVCCPacket
-ledBy l numbers sizes payload = record { «seq_no» = l .«seq_no»; count = l .count; numbers = numbers; sizes = sizes; payload = payload }
-
--- what stands before the arrays by how many blocks were read; zeros where reading is refused
-abbrev pub leadOf : Counted → ℕ → Lead
-leadOf (Count k) sequence = record { good = true; «seq_no» = sequence; count = k }
-leadOf (Refused why) sequence = record { good = false; «seq_no» = 0; count = 0 }
-
--- and what is answered
+-- what is answered by how many blocks there are
 abbrev pub answerTo : Counted → Answer
 answerTo (Count k) = answer.Accepted
 answerTo (Refused why) = answer.Refused why
@@ -73,6 +64,14 @@ extentOf p = extentAs (p .«seq_no») (p .count) (entriesOf p)
 pub record Answers (o : Outcome DTVCCPacket) (beside : DTVCCPacket) (r : PacketAnswer) : Type 0 where
   pub answer : saidAnswer (r .answer) ≡ says o
   pub packet : r .packet ≡ after beside o
+
+-- a reading that is refused, and one by how many blocks were read and the places they are in
+abbrev pub unreadFor : Refusal → PacketAnswer
+unreadFor why = record { answer = answer.Refused why; packet = blank }
+
+abbrev pub filledBy : ℕ → Counted → List ℕ → List ℕ → List ℕ → PacketAnswer
+filledBy sequence (Count k) n s d = record { answer = answer.Accepted; packet = packetWith (fields sequence k n s d) }
+filledBy sequence (Refused why) n s d = unreadFor why
 
 -- a block pushed, and a run: to the latest block of the number only if it has room, or whether or not it has
 unfoldable pub pushedBlock : Service → DTVCCPacket → Outcome DTVCCPacket

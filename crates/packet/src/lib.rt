@@ -3,15 +3,15 @@ ghost use mathlib.Core.Path.{_≡_};
 ghost use mathlib.Core.Bool.{true, false, cond};
 ghost use lib.ListN.{length, getD, take};
 ghost use lib.Dec.{eqb};
-ghost use Rattle.caption.specs.Answers.{saidRefusal, saidAnswer, saidCounted, saidTruth};
-ghost use Rattle.model.specs.Said.{after, mapped, measured};
+ghost use Rattle.caption.specs.Answers.{saidCounted, saidTruth};
+ghost use Rattle.model.specs.Said.{mapped, measured};
 ghost use Rattle.model.specs.Packet.{packetSize, sequenceIn, readPacket, readTidy, newPacket, packetLength, packetRoom, writtenPacket};
 ghost use Rattle.model.specs.Packet as model;
 ghost use Rattle.service.specs.Service.{Writes};
 ghost use Rattle.service.specs.Service as service;
 ghost use Rattle.blocks.specs.Reading.{readAs};
 ghost use Rattle.packet.specs.Header.{headerOf};
-ghost use Rattle.packet.specs.Packet.{Answers, packetOf, ledBy, leadOf, answerTo, laid, blank, validDTVCC, extentOf, pushedBlock, pushedRun, countAfter, answerOf};
+ghost use Rattle.packet.specs.Packet.{Answers, packetOf, unreadFor, filledBy, answerTo, laid, blank, validDTVCC, extentOf, pushedBlock, pushedRun, countAfter, answerOf};
 ghost use Rattle.packet.specs.Place.{Placed, blocksAt};
 use caption::Answer;
 use caption::Counted;
@@ -30,13 +30,6 @@ pub struct DTVCCPacket {
     pub numbers: [u8; 63],
     pub sizes: [u8; 63],
     pub payload: [u8; 127],
-}
-
-// What stands before a packet's arrays, and whether they were read.
-pub struct Lead {
-    pub good: bool,
-    pub seq_no: u8,
-    pub count: usize,
 }
 
 // An answer, and the packet beside it.
@@ -90,7 +83,7 @@ pub fn reads_in(bytes: &[u8; 128], len: usize) -> bool
 
 // A refusal of reading, beside an empty packet.
 fn unread(why: Refusal) -> PacketAnswer
-    ensures { λ r. ⌜ (saidAnswer (r .answer) ≡ saidRefusal why) × (r .packet ≡ blank) ⌝ }
+    ensures { λ r. ⌜ r ≡ unreadFor why ⌝ }
 {
     PacketAnswer {
         answer: Answer::Refused(why),
@@ -114,24 +107,6 @@ fn sequence_in(data: &[u8]) -> u8
     data[0] / 64 % 4
 }
 
-// What stands before the arrays of a packet that was read with this sequence number, or was refused.
-fn lead_of(r: Counted, seq_no: u8) -> Lead
-    ensures { λ l. ⌜ l ≡ leadOf r «seq_no» ⌝ }
-{
-    match r {
-        Counted::Refused(_) => Lead {
-            good: false,
-            seq_no: 0,
-            count: 0,
-        },
-        Counted::Count(count) => Lead {
-            good: true,
-            seq_no,
-            count,
-        },
-    }
-}
-
 // What is answered beside a packet that was read, or was refused.
 fn answer_to(r: Counted) -> Answer
     ensures { λ a. ⌜ a ≡ answerTo r ⌝ }
@@ -142,22 +117,29 @@ fn answer_to(r: Counted) -> Answer
     }
 }
 
-// Reads the packet that the first `len` bytes are into the arrays, all places of them; zeros where they do not read.
-pub fn read_into(
-    bytes: &[u8; 128],
-    len: usize,
-    numbers: &mut [u8; 63],
-    sizes: &mut [u8; 63],
-    payload: &mut [u8; 127],
-) -> Lead
-    ensures { λ r. ⌜ r .good ≡ model.reads (take len (now (bytes .entry))) ⌝ }
-    ensures { λ r. ⌜ ledBy r (now (numbers .exit)) (now (sizes .exit)) (now (payload .exit)) ≡ after blank (mapped laid (readPacket (take len (now (bytes .entry))))) ⌝ }
+// The answer to a reading: the packet of its sequence number, how many blocks were read and the arrays with them; or a refusal.
+fn filled(
+    seq_no: u8,
+    r: Counted,
+    numbers: [u8; 63],
+    sizes: [u8; 63],
+    payload: [u8; 127],
+) -> PacketAnswer
+    ensures { λ a. ⌜ a ≡ filledBy «seq_no» r numbers sizes payload ⌝ }
 {
-    *numbers = [0u8; 63];
-    *sizes = [0u8; 63];
-    *payload = [0u8; 127];
-    let r = blocks::read_in(bytes, len, false, numbers, sizes, payload);
-    lead_of(r, bytes[0] / 64 % 4)
+    match r {
+        Counted::Refused(why) => unread(why),
+        Counted::Count(count) => PacketAnswer {
+            answer: Answer::Accepted,
+            packet: DTVCCPacket {
+                seq_no,
+                count,
+                numbers,
+                sizes,
+                payload,
+            },
+        },
+    }
 }
 
 // Reads a packet, plainly or tidily.
@@ -168,19 +150,7 @@ fn read_packet(data: &[u8], tidy: bool) -> PacketAnswer
     let mut sizes = [0u8; 63];
     let mut payload = [0u8; 127];
     let r = blocks::read(data, tidy, &mut numbers, &mut sizes, &mut payload);
-    let lead = lead_of(r, sequence_in(data));
-    let seq_no = lead.seq_no;
-    let count = lead.count;
-    PacketAnswer {
-        answer: answer_to(r),
-        packet: DTVCCPacket {
-            seq_no,
-            count,
-            numbers,
-            sizes,
-            payload,
-        },
-    }
+    filled(sequence_in(data), r, numbers, sizes, payload)
 }
 
 // How many blocks there are after a push; one that is refused leaves as many as there were.
@@ -397,6 +367,17 @@ impl DTVCCPacket {
         ensures { λ r. ⌜ Answers (mapped laid (readPacket (now («data» .entry)))) blank r ⌝ }
     {
         read_packet(data, false)
+    }
+
+    // Reads the packet that the first `len` bytes are, as `parse` does; at most 128 are there.
+    pub fn parse_in(bytes: &[u8; 128], len: usize) -> PacketAnswer
+        ensures { λ r. ⌜ Answers (mapped laid (readPacket (take len (now (bytes .entry))))) blank r ⌝ }
+    {
+        let mut numbers = [0u8; 63];
+        let mut sizes = [0u8; 63];
+        let mut payload = [0u8; 127];
+        let r = blocks::read_in(bytes, len, false, &mut numbers, &mut sizes, &mut payload);
+        filled(bytes[0] / 64 % 4, r, numbers, sizes, payload)
     }
 
     // Reads a packet whose length is what its header says, and passes each block whole.

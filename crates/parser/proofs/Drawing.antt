@@ -170,8 +170,8 @@ module _ (p : CCDataParser) where
         (λ t. rw t))
 
     -- what was taken gives what drawing answers
-    module _ (t : Took) (l m s y : List ℕ) (q : takenBy t l m s y ≡ takeItem (b && headFine (c .waiting) (o .slot)) c (p .pairs) (o .slot)) where
-      by-taken : drawnBy p (takenBy t l m s y) ≡ drawn p
+    module _ (t : Took) (l : List ℕ) (q : takenBy t l ≡ takeItem (b && headFine (c .waiting) (o .slot)) c (p .pairs) (o .slot)) where
+      by-taken : drawnBy p (takenBy t l) ≡ drawn p
       unfolding drawn
       by-taken = ap (drawnBy p) (q ∙ ap (λ (v : Bool). takeItem v c (p .pairs) (o .slot)) whole ∙ slot-is ∙ rw counted)
 
@@ -179,7 +179,7 @@ module _ (p : CCDataParser) where
           → Draws p
           (record {
             item = t .item;
-            packet = record { «seq_no» = t .«seq_no»; count = t .count; numbers = m; sizes = s; payload = y };
+            packet = t .packet;
             parser = record {
               «cea608_on» = c .on;
               «pair_count» = t .pairs;

@@ -5,24 +5,28 @@ use mathlib.Core.Bool.{Bool, true, false, _&&_}
 use Prim.Native.Nat.{ℕ, suc, _+_, _-_, _*_, _%_, _≤_, _<_}
 use native.Mathlib.Numerals.{add-one}
 use native.Mathlib.Omega.{arith}
-use lib.ListN.{length, getD, take, drop, set, replicate, length-take, length-drop}
+use lib.ListN.{length, getD, take, drop, set, length-take, length-drop}
 use lib.Dec.{eqb}
 use lib.Seq.{drop-cons, take-suc, append-snoc, set-at, getD-drop, getD-append-add}
 use borrow.Author.Tests.{eq-eqb, ne-eqb}
 use Rattle.caption.specs.declared.Cea608.{Cea608}
 use Rattle.caption.specs.declared.Cea608.the-variants.{Field1, Field2}
+use Rattle.caption.specs.declared.Answer.the-variants as answer
+use Rattle.caption.specs.declared.Answer.the-variants.{Accepted}
+use Rattle.caption.specs.declared.Refusal.{Refusal}
 use Rattle.caption.specs.declared.Refusal.the-variants as refusal
-use Rattle.model.specs.Said.{Outcome, gave, refused, isGiven, mapped, after}
-use Rattle.model.specs.Packet.{readPacket, reads}
-use Rattle.model.specs.Packet as model
+use Rattle.model.specs.Said.{mapped}
+use Rattle.model.specs.Packet.{readPacket}
 use Rattle.model.proofs.Cases.{by-test}
-use Rattle.packet.specs.Packet.{laid, blank, ledBy}
+use Rattle.packet.specs.Packet.{laid, blank}
+use Rattle.packet.specs.Packet as packet
 use Rattle.packet.specs.declared.DTVCCPacket.{DTVCCPacket}
-use Rattle.packet.specs.declared.Lead.{Lead}
+use Rattle.packet.specs.declared.PacketAnswer.{PacketAnswer}
+use Rattle.packet.proofs.Refusals.{accepted-reads, refused-reads}
 use Rattle.slots.specs.declared.Slot.{Slot}
 use Rattle.gather.specs.Ring.{headFine}
 use Rattle.gather.proofs.Slots.{slot-long, slot-within}
-use Rattle.parser.specs.Draw.{slid, firstPair, packetAt, placeBehind, Taken, takenBy, Zeros, takePair, takePacket, takeNone, noneTook, takeItem, takeHead, takeBehind}
+use Rattle.parser.specs.Draw.{slid, firstPair, packetAt, placeBehind, Taken, takenBy, takePair, takePacket, takeNone, noneTook, takeItem, takeHead, takeBehind}
 use Rattle.parser.specs.declared.Counts.{Counts}
 use Rattle.parser.specs.declared.Took.{Took}
 use Rattle.parser.specs.declared.Item.{Item}
@@ -94,54 +98,42 @@ slid-none k l = refl
 pub slid-done : {A : Type 0} (k : ℕ) (l a : List A) (i n : ℕ) → a ≡ slid k i l → i ≤ n → n ≤ i → a ≡ slid k n l
 slid-done k l a i n e h j = let q : i ≡ n = omega arith in rw q at e
 
--- what was not read is blank
-not-given : (o : Outcome model.Packet) → isGiven o ≡ false → after blank (mapped laid o) ≡ blank
-not-given (refused why) e = refl
-not-given (gave p) e = let z : _≡_ {A = ℕ} 0 1 = cc in absurd (omega arith)
-
 -- what is taken
 module _ (c : Counts) (l : List ℕ) where
   -- nothing
-  pub none-taken : (item : Item) (t : Took) (n s p : List ℕ) → t ≡ noneTook item c → Zeros n s p → takenBy t l n s p ≡ takeNone item c l
-  none-taken item t n s p e z = rw (e, z .0, z .1, z .2)
+  pub none-taken : (item : Item) (t : Took) → t ≡ noneTook item c → takenBy t l ≡ takeNone item c l
+  none-taken item t e = rw e
 
   -- a pair
-  pub pair-taken : (x : Cea608) (k : List ℕ) → x ≡ firstPair l → k ≡ slid 3 (3 * (c .pairs - 1)) l
-      → takenBy (record { item = Pair x; «seq_no» = 0; count = 0; pairs = c .pairs - 1; first = c .first; waiting = c .waiting }) k (replicate 63 0) (replicate 63 0) (replicate 127 0) ≡ takePair c l
+  pub pair-taken : (x : Cea608) (k : List ℕ) (p : DTVCCPacket) → x ≡ firstPair l → k ≡ slid 3 (3 * (c .pairs - 1)) l → p ≡ blank
+      → takenBy (record { item = Pair x; packet = p; pairs = c .pairs - 1; first = c .first; waiting = c .waiting }) k ≡ takePair c l
   unfolding takePair
-  pair-taken x k e q = rw (e, q)
+  pair-taken x k p e q z = rw (e, q, z)
 
   -- what the slot at the head gives
   module _ (slot : Slot) where
     -- longer than its places
-    pub head-long : 128 < slot .len → (t : Took) (n s p : List ℕ) → t ≡ noneTook (Refused refusal.BadValue) c → Zeros n s p → takenBy t l n s p ≡ takeHead c l slot
+    pub head-long : 128 < slot .len → (t : Took) → t ≡ noneTook (Refused refusal.BadValue) c → takenBy t l ≡ takeHead c l slot
     unfolding takeHead
-    head-long h t n s p e z = rw (← slot-long slot h) (none-taken (Refused refusal.BadValue) t n s p e z)
+    head-long h t e = rw (← slot-long slot h) (none-taken (Refused refusal.BadValue) t e)
 
-    -- within them
-    module _ (h : slot .len ≤ 128) (b : Bool) (read : b ≡ reads (take (slot .len) (slot .bytes))) where
-      module _ (k : Lead) (n s p : List ℕ) (led : ledBy k n s p ≡ after blank (mapped laid (readPacket (take (slot .len) (slot .bytes))))) where
-        -- a packet
-        pub head-packet : b ≡ true → (f : ℕ) → f ≡ placeBehind (c .first) (c .waiting)
-            → takenBy (record { item = Packet; «seq_no» = k .«seq_no»; count = k .count; pairs = c .pairs; first = f; waiting = c .waiting - 1 }) l n s p ≡ takeHead c l slot
-        unfolding takeHead takePacket packetAt
-        head-packet t f q = rw (← slot-within slot b h read, t, ← led, q)
+    -- within them, by what reading it answers
+    module _ (h : slot .len ≤ 128) (r : PacketAnswer) (read : packet.Answers (mapped laid (readPacket (take (slot .len) (slot .bytes)))) blank r) where
+      -- a packet
+      pub head-packet : r .answer ≡ Accepted → (f : ℕ) → f ≡ placeBehind (c .first) (c .waiting)
+          → takenBy (record { item = Packet; packet = r .packet; pairs = c .pairs; first = f; waiting = c .waiting - 1 }) l ≡ takeHead c l slot
+      unfolding takeHead takePacket packetAt
+      head-packet t f q = rw (← slot-within slot true h (sym (accepted-reads _ r read t)), read .packet, q)
 
-        -- none: the arrays have zeros
-        unread : b ≡ false → Zeros n s p
-        unfolding reads
-        unread f =
-            let e = led ∙ not-given (readPacket (take (slot .len) (slot .bytes))) (sym read ∙ f) in
-            (ap (λ (x : DTVCCPacket). x .numbers) e, ap (λ (x : DTVCCPacket). x .sizes) e, ap (λ (x : DTVCCPacket). x .payload) e)
-
-        pub head-unread : b ≡ false → (t : Took) → t ≡ noneTook (Refused refusal.BadValue) c → takenBy t l n s p ≡ takeHead c l slot
-        unfolding takeHead
-        head-unread f t e = rw (← slot-within slot b h read, f) (none-taken (Refused refusal.BadValue) t n s p e (unread f))
+      -- none
+      pub head-unread : (why : Refusal) → r .answer ≡ answer.Refused why → (t : Took) → t ≡ noneTook (Refused refusal.BadValue) c → takenBy t l ≡ takeHead c l slot
+      unfolding takeHead
+      head-unread why f t e = rw (← slot-within slot false h (sym (refused-reads _ r read why f))) (none-taken (Refused refusal.BadValue) t e)
 
     -- what comes once no pair is left: nothing
-    pub behind-nothing : c .waiting ≡ 0 → (t : Took) (n s p : List ℕ) → t ≡ noneTook Nothing c → Zeros n s p → takenBy t l n s p ≡ takeBehind c l slot
+    pub behind-nothing : c .waiting ≡ 0 → (t : Took) → t ≡ noneTook Nothing c → takenBy t l ≡ takeBehind c l slot
     unfolding takeBehind
-    behind-nothing z t n s p e y = rw (eq-eqb _ _ z) (none-taken Nothing t n s p e y)
+    behind-nothing z t e = rw (eq-eqb _ _ z) (none-taken Nothing t e)
 
     -- or what the slot at the head gives
     pub behind-head : (c .waiting ≡ 0 → ⊥) → (t : Taken) → t ≡ takeHead c l slot → t ≡ takeBehind c l slot
@@ -155,27 +147,26 @@ module _ (b : Bool) (c : Counts) (l : List ℕ) (slot : Slot) where
   next = takeItem (b && headFine (c .waiting) slot) c l slot
 
   -- it is not
-  module _ (t : Took) (n s p : List ℕ) (none : t ≡ noneTook (Refused refusal.BadValue) c) (z : Zeros n s p) where
-    pub take-bad : b ≡ false → takenBy t l n s p ≡ next
+  module _ (t : Took) (none : t ≡ noneTook (Refused refusal.BadValue) c) where
+    pub take-bad : b ≡ false → takenBy t l ≡ next
     unfolding takeItem
-    take-bad e = rw e (none-taken c l (Refused refusal.BadValue) t n s p none z)
+    take-bad e = rw e (none-taken c l (Refused refusal.BadValue) t none)
 
     -- or the slot is not
-    pub take-unread : b ≡ true → (h : Bool) → h ≡ headFine (c .waiting) slot → h ≡ false → takenBy t l n s p ≡ next
+    pub take-unread : b ≡ true → (h : Bool) → h ≡ headFine (c .waiting) slot → h ≡ false → takenBy t l ≡ next
     unfolding takeItem
-    take-unread ok h e f = rw (ok, ← e, f) (none-taken c l (Refused refusal.BadValue) t n s p none z)
+    take-unread ok h e f = rw (ok, ← e, f) (none-taken c l (Refused refusal.BadValue) t none)
 
   module _ (ok : b ≡ true) where
     -- pairs wait
-    pub take-first : (c .pairs ≡ 0 → ⊥) → (h : Bool) → h ≡ headFine (c .waiting) slot → h ≡ true → (t : Took) (k n s p : List ℕ) → Zeros n s p
-        → takenBy t k (replicate 63 0) (replicate 63 0) (replicate 127 0) ≡ takePair c l → takenBy t k n s p ≡ next
+    pub take-first : (c .pairs ≡ 0 → ⊥) → (h : Bool) → h ≡ headFine (c .waiting) slot → h ≡ true → (t : Taken) → t ≡ takePair c l → t ≡ next
     unfolding takeItem
-    take-first some h e f t k n s p z q = rw (ok, ← e, f, ne-eqb _ _ some, z .0, z .1, z .2) q
+    take-first some h e f t q = rw (ok, ← e, f, ne-eqb _ _ some) q
 
     -- no pair waits
-    pub take-next : c .pairs ≡ 0 → (t : Took) (n s p : List ℕ) → takenBy t l n s p ≡ takeBehind c l slot → takenBy t l n s p ≡ next
+    pub take-next : c .pairs ≡ 0 → (t : Taken) → t ≡ takeBehind c l slot → t ≡ next
     unfolding takeItem takeBehind takeHead headFine
-    take-next z t n s p q =
+    take-next z t q =
         q ∙ by-test (eqb (c .waiting) 0)
         (λ e. rw (ok, e, eq-eqb _ _ z))
         (λ e. rw (ok, e, eq-eqb _ _ z))

@@ -3,7 +3,7 @@ use mathlib.Core.Path.{_≡_}
 use mathlib.Core.List.{List, _++_}
 use mathlib.Core.Bool.{Bool, cond}
 use Prim.Native.Nat.{ℕ, _+_, _-_, _*_, _%_, _≤_}
-use lib.ListN.{getD, take, drop, replicate}
+use lib.ListN.{getD, take, drop}
 use lib.Dec.{eqb}
 use Rattle.caption.specs.declared.Cea608.{Cea608}
 use Rattle.caption.specs.declared.Cea608.the-variants.{Field1, Field2}
@@ -51,21 +51,9 @@ pub record Taken : Type 0 where
   pub first : ℕ
   pub waiting : ℕ
 
--- by what a taker answers and the arrays that it leaves
-abbrev pub takenBy : Took → List ℕ → List ℕ → List ℕ → List ℕ → Taken
-takenBy t places numbers sizes payload =
-    record {
-      item = t .item;
-      packet = record { «seq_no» = t .«seq_no»; count = t .count; numbers = numbers; sizes = sizes; payload = payload };
-      pairs = t .pairs;
-      places = places;
-      first = t .first;
-      waiting = t .waiting;
-    }
-
--- arrays that no packet was read into
-abbrev pub Zeros : List ℕ → List ℕ → List ℕ → Type 0
-Zeros numbers sizes payload = (numbers ≡ replicate 63 0) × (sizes ≡ replicate 63 0) × (payload ≡ replicate 127 0)
+-- by what a taker answers and the list that it leaves
+abbrev pub takenBy : Took → List ℕ → Taken
+takenBy t places = record { item = t .item; packet = t .packet; pairs = t .pairs; places = places; first = t .first; waiting = t .waiting }
 
 -- "the list's pairs in order .. each removed": the first pair, and the others moved down
 unfoldable pub takePair : Counts → List ℕ → Taken
@@ -97,7 +85,7 @@ takeNone item c l = record { item = item; packet = blank; pairs = c .pairs; plac
 
 -- as a taker answers it
 abbrev pub noneTook : Item → Counts → Took
-noneTook item c = record { item = item; «seq_no» = 0; count = 0; pairs = c .pairs; first = c .first; waiting = c .waiting }
+noneTook item c = record { item = item; packet = blank; pairs = c .pairs; first = c .first; waiting = c .waiting }
 
 -- "first the list's pairs in order, then packets, oldest first"; "with none left it says so"
 unfoldable pub takeItem : Bool → Counts → List ℕ → Slot → Taken

@@ -3,16 +3,17 @@ ghost use mathlib.Core.Path.{_≡_};
 ghost use mathlib.Core.Bool.{true, _&&_};
 ghost use mathlib.Core.List.{List};
 ghost use Prim.Native.Nat.{ℕ, _≤_};
-ghost use lib.ListN.{length, replicate};
+ghost use lib.ListN.{length};
 ghost use Rattle.caption.specs.Answers.{saidCounted};
 ghost use Rattle.model.specs.Said.{measured};
+ghost use Rattle.packet.specs.Packet.{blank};
 ghost use Rattle.gather.specs.Ring.{headFine};
 ghost use Rattle.gather.specs.Gather.{pendingFine};
 ghost use Rattle.parser.specs.Valid.{listFine, frontOf, countsOf, valid};
 ghost use Rattle.parser.specs.Fresh.{fresh};
 ghost use Rattle.parser.specs.Means.{means, Answers, saidPush, saidCall, afterCall, turnedOn};
 ghost use Rattle.parser.specs.Push.{fed, refusedFor, pushed};
-ghost use Rattle.parser.specs.Draw.{firstPair, slid, placeBehind, takenBy, Zeros, takePair, takeNone, takeHead, takeBehind, takeItem, noneTook, Takes};
+ghost use Rattle.parser.specs.Draw.{firstPair, slid, placeBehind, takenBy, takePair, takeNone, takeHead, takeBehind, takeItem, noneTook, Takes};
 ghost use Rattle.parser.specs.Items.{Draws};
 use caption::Answer;
 use caption::Cea608;
@@ -78,11 +79,10 @@ pub struct Counts {
     pub waiting: usize,
 }
 
-// What was taken, the numbers of the packet beside it, and the counts afterwards. The arrays of the packet are lent: no array is copied.
+// What was taken, the packet beside it, and the counts afterwards.
 pub struct Took {
     pub item: Item,
-    pub seq_no: u8,
-    pub count: usize,
+    pub packet: DTVCCPacket,
     pub pairs: usize,
     pub first: usize,
     pub waiting: usize,
@@ -189,14 +189,26 @@ fn place_behind(first: usize, waiting: usize) -> usize
     (first + 1) % 32
 }
 
+// No packet.
+fn no_packet() -> DTVCCPacket
+    ensures { λ r. ⌜ r ≡ blank ⌝ }
+{
+    DTVCCPacket {
+        seq_no: 0,
+        count: 0,
+        numbers: [0u8; 63],
+        sizes: [0u8; 63],
+        payload: [0u8; 127],
+    }
+}
+
 // Takes nothing.
 fn take_none(item: Item, c: Counts) -> Took
     ensures { λ r. ⌜ r ≡ noneTook item c ⌝ }
 {
     Took {
         item,
-        seq_no: 0,
-        count: 0,
+        packet: no_packet(),
         pairs: c.pairs,
         first: c.first,
         waiting: c.waiting,
@@ -207,7 +219,7 @@ fn take_none(item: Item, c: Counts) -> Took
 fn take_pair(c: Counts, pairs: &mut [u8; 93]) -> Took
     requires { ⌜ (c .pairs ≡ 0 → ⊥) ⌝ }
     requires { ⌜ c .pairs ≤ 31 ⌝ }
-    ensures { λ r. ⌜ takenBy r (now (pairs .exit)) (replicate 63 0) (replicate 63 0) (replicate 127 0) ≡ takePair c (now (pairs .entry)) ⌝ }
+    ensures { λ r. ⌜ takenBy r (now (pairs .exit)) ≡ takePair c (now (pairs .entry)) ⌝ }
 {
     let n = c.pairs - 1;
     let pair = first_pair(pairs);
@@ -215,82 +227,59 @@ fn take_pair(c: Counts, pairs: &mut [u8; 93]) -> Took
     *pairs = shift_pairs(all, 3 * n);
     Took {
         item: Item::Pair(pair),
-        seq_no: 0,
-        count: 0,
+        packet: no_packet(),
         pairs: n,
         first: c.first,
         waiting: c.waiting,
     }
 }
 
-// Takes the packet that has waited longest into the arrays, if its slot reads as one.
-fn take_packet(
-    c: Counts,
-    slot: Slot,
-    numbers: &mut [u8; 63],
-    sizes: &mut [u8; 63],
-    payload: &mut [u8; 127],
-) -> Took
+// Takes the packet that has waited longest, if its slot reads as one.
+fn take_packet(c: Counts, slot: Slot) -> Took
     requires { ⌜ (c .waiting ≡ 0 → ⊥) ⌝ }
     requires { ⌜ c .first ≤ 31 ⌝ }
-    requires { ⌜ Zeros (now numbers) (now sizes) (now payload) ⌝ }
-    ensures { λ r. ⌜ ((l : List ℕ) → takenBy r l (now (numbers .exit)) (now (sizes .exit)) (now (payload .exit)) ≡ takeHead c l slot) ⌝ }
+    ensures { λ r. ⌜ ((l : List ℕ) → takenBy r l ≡ takeHead c l slot) ⌝ }
 {
     let len = slot.len;
     let bytes = slot.bytes;
     if MOST_PACKET < len {
         return take_none(Item::Refused(Refusal::BadValue), c);
     }
-    let lead = packet::read_into(&bytes, len, numbers, sizes, payload);
-    if lead.good {
-        return Took {
+    let r = DTVCCPacket::parse_in(&bytes, len);
+    let answer = r.answer;
+    let packet = r.packet;
+    match answer {
+        Answer::Accepted => Took {
             item: Item::Packet,
-            seq_no: lead.seq_no,
-            count: lead.count,
+            packet,
             pairs: c.pairs,
             first: place_behind(c.first, c.waiting),
             waiting: c.waiting - 1,
-        };
+        },
+        Answer::Refused(_) => take_none(Item::Refused(Refusal::BadValue), c),
     }
-    take_none(Item::Refused(Refusal::BadValue), c)
 }
 
 // Takes the packet that has waited longest, if one waits; no pair does.
-fn take_behind(
-    c: Counts,
-    slot: Slot,
-    numbers: &mut [u8; 63],
-    sizes: &mut [u8; 63],
-    payload: &mut [u8; 127],
-) -> Took
+fn take_behind(c: Counts, slot: Slot) -> Took
     requires { ⌜ c .first ≤ 31 ⌝ }
-    requires { ⌜ Zeros (now numbers) (now sizes) (now payload) ⌝ }
-    ensures { λ r. ⌜ ((l : List ℕ) → takenBy r l (now (numbers .exit)) (now (sizes .exit)) (now (payload .exit)) ≡ takeBehind c l slot) ⌝ }
+    ensures { λ r. ⌜ ((l : List ℕ) → takenBy r l ≡ takeBehind c l slot) ⌝ }
 {
     if c.waiting == 0 {
         return take_none(Item::Nothing, c);
     }
-    take_packet(c, slot, numbers, sizes, payload)
+    take_packet(c, slot)
 }
 
 // Takes the next item, if the state is within the limits and there is one, given the slot that has waited longest: `behind` says whether
 // the state but for that slot is.
-fn take_item(
-    behind: bool,
-    c: Counts,
-    pairs: &mut [u8; 93],
-    slot: Slot,
-    numbers: &mut [u8; 63],
-    sizes: &mut [u8; 63],
-    payload: &mut [u8; 127],
-) -> Took
+fn take_item(behind: bool, c: Counts, pairs: &mut [u8; 93], slot: Slot) -> Took
     requires { ⌜ (behind ≡ true → Takes c) ⌝ }
-    requires { ⌜ Zeros (now numbers) (now sizes) (now payload) ⌝ }
-    ensures { λ r. ⌜ takenBy r (now (pairs .exit)) (now (numbers .exit)) (now (sizes .exit)) (now (payload .exit)) ≡ takeItem (behind && headFine (c .waiting) slot) c (now (pairs .entry)) slot ⌝ }
+    ensures { λ r. ⌜ takenBy r (now (pairs .exit)) ≡ takeItem (behind && headFine (c .waiting) slot) c (now (pairs .entry)) slot ⌝ }
 {
     if behind {
         if c.pairs == 0 {
-            return take_behind(c, slot, numbers, sizes, payload);
+            return take_behind(c, slot);
         }
         if head_good(c.waiting, slot) {
             return take_pair(c, pairs);
@@ -414,32 +403,16 @@ impl CCDataParser {
         let mut pairs = self.pairs;
         let pending = self.pending;
         let waiting = self.waiting;
-        let mut numbers = [0u8; 63];
-        let mut sizes = [0u8; 63];
-        let mut payload = [0u8; 127];
         let c = self.counts();
         let o = oldest(c, waiting);
         let behind = good(c, &pairs, &pending, o.good);
         let slot = o.slot;
-        let r = take_item(
-            behind,
-            c,
-            &mut pairs,
-            slot,
-            &mut numbers,
-            &mut sizes,
-            &mut payload,
-        );
+        let r = take_item(behind, c, &mut pairs, slot);
         let item = r.item;
+        let packet = r.packet;
         Drawn {
             item,
-            packet: DTVCCPacket {
-                seq_no: r.seq_no,
-                count: r.count,
-                numbers,
-                sizes,
-                payload,
-            },
+            packet,
             parser: CCDataParser {
                 cea608_on: c.on,
                 pair_count: r.pairs,

@@ -8,29 +8,35 @@ take-none-requires : tie.Need-take-none-requires
 take-none-requires c κs = search needs
 
 returns : tie.Need-returns
-returns c l = head-long _ l _ (c .before .if1 .taken) _ _ _ _ (c .take-none .ensures) (c .before .before .before .pre .1 .1)
+returns c l = head-long _ l _ (c .before .if1 .taken) _ (c .take-none .ensures)
 
-read-into-requires : tie.Need-read-into-requires
-read-into-requires c κs = search needs
+parse-in-requires : tie.Need-parse-in-requires
+parse-in-requires c κs = search needs
+
+enum-told : tie.Need-enum-told
+enum-told c = search needs
 
 place-behind-requires : tie.Need-place-behind-requires
 place-behind-requires c κs = search needs
 
-sub-t18 : tie.Need-sub-t18
-sub-t18 c = search needs
+sub-t15 : tie.Need-sub-t15
+sub-t15 c = search needs
 
-returns-2 : tie.Need-returns-2
-returns-2 c l =
-    let r = c .before .before .before in
-    head-packet _ l _ (r .before .before .before .before .before .if1 .left) _ (r .read-into .ensures .0) (r .read-into .result) _ _ _ (r .read-into .ensures .1) (c .before .before .if2 .taken) _ (c .before .place-behind .ensures)
+enum-told-2 : tie.Need-enum-told-2
+enum-told-2 c = search needs
 
 take-none-requires-2 : tie.Need-take-none-requires-2
 take-none-requires-2 c κs = search needs
 
+returns-2 : tie.Need-returns-2
+returns-2 c l =
+    let r = c .before .before .before .before .before in
+    head-packet _ l _ (r .before .before .if1 .left) (r .parse-in .result) (r .parse-in .ensures) (c .before .before .enum-told .given .1) _ (c .before .place-behind .ensures)
+
 returns-3 : tie.Need-returns-3
 returns-3 c l =
-    let r = c .before .before in
-    head-unread _ l _ (r .before .before .before .before .before .if1 .left) _ (r .read-into .ensures .0) (r .read-into .result) _ _ _ (r .read-into .ensures .1) (c .before .if2 .left) _ (c .take-none2 .ensures)
+    let r = c .before .before .before .before in
+    head-unread _ l _ (r .before .before .if1 .left) (r .parse-in .result) (r .parse-in .ensures) _ (c .before .enum-told2 .given .1) _ (c .take-none2 .ensures)
 
 pub take-packet-spec : {M : Type 1} → statement M
 take-packet-spec =
@@ -38,9 +44,11 @@ take-packet-spec =
     (tie.spec
     take-none-requires
     returns
-    read-into-requires
+    parse-in-requires
+    enum-told
     place-behind-requires
-    sub-t18
-    returns-2
+    sub-t15
+    enum-told-2
     take-none-requires-2
+    returns-2
     returns-3)

@@ -16,9 +16,12 @@ mul-shift-pairs c = search needs
 shift-pairs-requires : tie.Need-shift-pairs-requires
 shift-pairs-requires c κs = search needs
 
+no-packet-requires : tie.Need-no-packet-requires
+no-packet-requires c κs = search needs
+
 returns : tie.Need-returns
 returns c = search (needs, pair-taken)
 
 pub take-pair-spec : {M : Type 1} → statement M
 take-pair-spec =
-    tie.close (tie.spec sub-n first-pair-requires mul-shift-pairs shift-pairs-requires returns)
+    tie.close (tie.spec sub-n first-pair-requires mul-shift-pairs shift-pairs-requires no-packet-requires returns)

@@ -10,7 +10,7 @@ unread-requires : tie.Need-unread-requires
 unread-requires c κs = search needs
 
 returns : tie.Need-returns
-returns c = refuses _ _ _ _ (new-bad _ (c .before .if1 .taken)) (c .unread .ensures .0) (c .unread .ensures .1)
+returns c = rw (c .unread .ensures) (refuses _ _ _ _ (new-bad _ (c .before .if1 .taken)) refl refl)
 
 returns-2 : tie.Need-returns-2
 returns-2 c = gives _ _ _ _ (new-good _ (c .if1 .left)) refl refl

@@ -1,5 +1,4 @@
 -- `parser::CCDataParser::draw` meets its contract: what is taken gives the exact result, and `Drawing` says what it means. Assumes nothing.
-use mathlib.Core.Path.{refl}
 use Rattle.parser.proofs.Drawing.{takes, taken-draws}
 use Rattle.parser.proofs.Calls.{length-mapped}
 use Rattle.parser.specs.Means.{Shaped}
@@ -37,19 +36,19 @@ good-requires c κs = search needs
 
 take-item-requires : tie.Need-take-item-requires
 take-item-requires c κs =
-    let g = c .before .before .before .before .before in
+    let g = c .before .before in
     let o = g .before .before .before in
     let n = o .before in
     let s = n .before .before .before .before in
-    (takes (s .args .self) (n .counts .result) (n .counts .ensures) (o .oldest .result) (o .oldest .ensures) _ (g .good2 .ensures), (refl, refl, refl))
+    takes (s .args .self) (n .counts .result) (n .counts .ensures) (o .oldest .result) (o .oldest .ensures) _ (g .good2 .ensures)
 
 returns : tie.Need-returns
 returns c =
-    let g = c .before .before .before .before .before .before in
+    let g = c .before .before .before .before in
     let o = g .before .before .before in
     let n = o .before in
     let s = n .before .before .before .before in
-    taken-draws (s .args .self) (n .counts .result) (n .counts .ensures) (o .oldest .result) (o .oldest .ensures) _ (g .good2 .ensures) _ _ _ _ _ (c .take-item .ensures) (shaped s)
+    taken-draws (s .args .self) (n .counts .result) (n .counts .ensures) (o .oldest .result) (o .oldest .ensures) _ (g .good2 .ensures) _ _ (c .before .take-item .ensures) (shaped s)
 
 pub draw-spec : {M : Type 1} → statement M
 draw-spec =
