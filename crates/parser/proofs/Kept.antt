@@ -82,32 +82,6 @@ module _ (p : CCDataParser) (s : Sound p) where
   unfolding turnedOn
   means-turned = laid-means p (s .shaped) (p .«waiting_first») (p .waiting) (turn608On (means p)) (on-valid (means p) sound-demux) stands
 
-  -- a frame
-  module _ (f : List ℕ) where
-    abbrev taken : Taken
-    taken = takeFrame f (means p)
-
-    taken-valid : validDemux (taken .next) ≡ true
-    taken-valid = take-valid f (means p) sound-demux
-
-    -- the slots stand with those that it delivers
-    taken-stands : Stands (p .«waiting_first») (setRound (p .«waiting_first» + p .«waiting_count») (p .waiting) (taken .runs)) (taken .next .waiting)
-    taken-stands =
-        let k = frame-delivers (means p) f in
-        rw (k .waiting)
-        (delivered-stands (p .«waiting_first») (p .«waiting_count») (p .waiting) (means p .waiting) (taken .runs) (k .read) (waiting-count p sound-fine) stands
-        (rw (k .waiting) at (demux-facts (taken .next) taken-valid .waiting)))
-
-    -- it keeps the limits,
-    pub pushed-sound : Sound (pushed p f)
-    unfolding pushed
-    pushed-sound = rw (s .valid) (laid-sound p (s .shaped) _ _ (taken .next) taken-valid taken-stands (frame-delivers (means p) f .off unlisted))
-
-    -- and means what the model says
-    pub means-pushed : means (pushed p f) ≡ takeFrame f (means p) .next
-    unfolding pushed
-    means-pushed = rw (s .valid) (laid-means p (s .shaped) _ _ (taken .next) taken-valid taken-stands)
-
   -- drawing keeps the limits,
   pub drawn-sound : Sound (drawn p)
   unfolding drawn
@@ -119,6 +93,32 @@ module _ (p : CCDataParser) (s : Sound p) where
   pub means-drawn : means (drawn p) ≡ model.draw (means p) .next
   unfolding drawn
   means-drawn = rw (s .valid) (laid-means p (s .shaped) _ _ (model.draw (means p) .next) (draw-valid (means p) sound-demux) (drawn-stands p sound-fine (s .shaped)))
+
+-- a frame
+module _ (p : CCDataParser) (f : List ℕ) (s : Sound p) where
+  abbrev taken : Taken
+  taken = takeFrame f (means p)
+
+  taken-valid : validDemux (taken .next) ≡ true
+  taken-valid = take-valid f (means p) (sound-demux p s)
+
+  -- the slots stand with those that it delivers
+  taken-stands : Stands (p .«waiting_first») (setRound (p .«waiting_first» + p .«waiting_count») (p .waiting) (taken .runs)) (taken .next .waiting)
+  taken-stands =
+      let k = frame-delivers (means p) f in
+      rw (k .waiting)
+      (delivered-stands (p .«waiting_first») (p .«waiting_count») (p .waiting) (means p .waiting) (taken .runs) (k .read) (waiting-count p (sound-fine p s)) (stands p s)
+      (rw (k .waiting) at (demux-facts (taken .next) taken-valid .waiting)))
+
+  -- it keeps the limits,
+  pub pushed-sound : Sound (pushed p f)
+  unfolding pushed
+  pushed-sound = rw (s .valid) (laid-sound p (s .shaped) _ _ (taken .next) taken-valid taken-stands (frame-delivers (means p) f .off (unlisted p s)))
+
+  -- and means what the model says
+  pub means-pushed : means (pushed p f) ≡ takeFrame f (means p) .next
+  unfolding pushed
+  means-pushed = rw (s .valid) (laid-means p (s .shaped) _ _ (taken .next) taken-valid taken-stands)
 
 -- "Full exactly if waiting packets plus those this frame would deliver exceed 32": a frame has at most 31 triples, and delivers one packet
 -- a triple and one at its end

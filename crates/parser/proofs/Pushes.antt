@@ -32,7 +32,7 @@ Pushed p f r = Answers p (saidPush p f) (takeFrame f (means p) .next) (pushed p 
 -- by what the model says of a state within the limits
 pub pushed-by : (p : CCDataParser) (f : List ℕ) (r : ParserAnswer) → Shaped p → (v : valid p ≡ true)
     → saidAnswer (r .answer) ≡ takeFrame f (means p) .answer → r .parser ≡ pushed p f → Pushed p f r
-pushed-by p f r s v a e = record { answer = rw v a; means = λ _. rw e (means-pushed p (record { valid = v; shaped = s }) f); places = e }
+pushed-by p f r s v a e = record { answer = rw v a; means = λ _. rw e (means-pushed p f (record { valid = v; shaped = s })); places = e }
 
 -- a frame, by the test of the state and by whether places are left
 module _ (p : CCDataParser) (f : List ℕ) (shaped : Shaped p) (c : Counts) (counted : c ≡ countsOf p) (b : Bool) (tested : b ≡ fine c (p .pairs) (p .pending) (p .waiting)) where
