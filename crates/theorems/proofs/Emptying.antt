@@ -30,7 +30,7 @@ use Rattle.parser.specs.declared.CCDataParser.{CCDataParser}
 use Rattle.parser.specs.declared.Drawn.{Drawn}
 use Rattle.parser.specs.declared.Item.{Item}
 use Rattle.parser.specs.declared.Item.the-variants as item
-use Rattle.theorems.specs.Items.{Items, andThen, onePair}
+use Rattle.theorems.specs.Items.{Items, noItems, andThen, onePair}
 use Rattle.theorems.specs.Allowed.{Draw}
 use Rattle.theorems.specs.Reading.{Empties, nothing-left, draw, drawnItem}
 
@@ -111,6 +111,13 @@ before : {d d′ next : Demux} {told : List Item} {is : Items} {p′ : CCDataPar
     → i ∷ map itemFor (toldOf d) ≡ map itemFor (toldOf d′) → andThen (drawnItem i held) (itemsIn (d .pairs) (d .waiting)) ≡ itemsIn (d′ .pairs) (d′ .waiting)
     → Emptied d next told is p′ → Emptied d′ next (i ∷ told) (andThen (drawnItem i held) is) p′
 before i held z e t = record { tells = rw (t .tells) z; items = rw (t .items) e; sound = t .sound; means = t .means }
+
+-- only a pair or a packet gives anything
+pub drawn-only : (i : Item) (d : DTVCCPacket) → ((x : caption.Cea608) → i ≡ item.Pair x → ⊥) → (i ≡ item.Packet → ⊥) → drawnItem i d ≡ noItems
+drawn-only (item.Pair x) d no-pair no-packet = absurd (no-pair x refl)
+drawn-only item.Packet d no-pair no-packet = absurd (no-packet refl)
+drawn-only item.Nothing d no-pair no-packet = refl
+drawn-only (item.Refused why) d no-pair no-packet = refl
 
 -- a packet that was laid out is the packet held
 laid-holds : (q : Packet) → validPacket q ≡ true → packetOf (laid q) ≡ q
