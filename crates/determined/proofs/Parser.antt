@@ -2,7 +2,7 @@
 use contract.Lifetimes.{Lfts}
 use Rattle.model.specs.Said.{Said}
 use Rattle.caption.proofs.Answers.{saidCounted-injective}
-use Rattle.parser.specs.Means.{Answers}
+use Rattle.parser.specs.Calls.{Answers}
 use Rattle.parser.specs.Items.{Draws}
 use Rattle.parser.proofs.Same.{answers-same, draws-same}
 use Rattle.parser.specs.declared.CCDataParser.{CCDataParser}

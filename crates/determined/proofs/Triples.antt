@@ -4,7 +4,7 @@ use mathlib.Core.List.{List}
 use Prim.Native.Nat.{ℕ}
 use contract.Lifetimes.{Lfts}
 use denote.Ref.{now}
-use Rattle.triples.specs.Pairs.{Listing}
+use Rattle.triples.specs.Listing.{Listing}
 use Rattle.triples.proofs.plan_of.Reads as plan_of
 use Rattle.triples.proofs.list_by.Reads as list_by
 use Rattle.determined.specs.Determines.{Determines, DeterminesLent}

@@ -1,112 +1,178 @@
 -- Laws of gathering, one for each way out of a function. Assumes nothing.
-use mathlib.Core.Path.{_≡_, refl}
-use mathlib.Core.List.{List}
-use mathlib.Core.Bool.{Bool, true, false, cond, _&&_}
-use Prim.Native.Nat.{ℕ, _+_, _-_, _%_, _≤_, _<_}
+use mathlib.Core.Path.{_≡_, refl, sym, ap, _∙_}
+use mathlib.Core.List.{List, [], _∷_, _++_, append-assoc, append-nil}
+use mathlib.Core.Bool.{Bool, true, false, cond, _&&_, true≢false}
+use Prim.Native.Nat.{ℕ, suc, _+_, _-_, _*_, _%_, _≤_, _<_}
 use native.Mathlib.Omega.{arith}
-use lib.ListN.{getD, set, take, drop}
+use lib.ListN.{length, getD, set, take, drop, replicate, length-append, List·getD-append}
+use lib.Seq.{sets, length-sets, take-all, getD-take, length-take-le}
 use lib.Dec.{eqb, ltb}
 use borrow.Author.Tests.{eq-eqb, ne-eqb, eqb-true, eqb-false, ltb-true, ltb-false}
-use Rattle.model.specs.Frame.{tri, Seen, seen}
-use Rattle.model.specs.Packet.{packetSize}
+use Rattle.model.specs.Frame.{tri, Seen, first, second, start, more, void608, void708, seen}
+use Rattle.model.specs.Packet.{packetSize, reads}
+use Rattle.model.specs.Demux.{Gathered, kept, wants, delivered, gather, ended}
 use Rattle.model.proofs.Cases.{by-test, by-cond, both}
 use Rattle.model.proofs.Limits.{size-most}
-use Rattle.model.specs.Packet.{reads}
-use Rattle.gather.specs.Gather.{Sized, Held, heldBy, putTwo, put, closesBy, wanted, pendingHeld, Gathering, gatherTurn, Left, gatherEnd, gathered}
-use Rattle.gather.specs.Gather.{pendingFine}
-use Rattle.triples.specs.Walk.{over, seenFrom}
+use Rattle.model.proofs.DemuxStates.{Gathering, size-even, size-least, gathering-more, gathering-start}
 use Rattle.slots.specs.declared.Slot.{Slot}
+use Rattle.triples.specs.Walk.{seenFrom}
+use Rattle.triples.proofs.Walks.{seen-next, seen-none, sees-void, sees-608, sees-more, sees-start}
+use Rattle.gather.specs.Ring.{slotWith, setRound}
+use Rattle.gather.specs.Tests.{pendingFine}
+use Rattle.gather.specs.Gather.{Left, leftOf, Holds, Sized, put, closesBy}
 use Rattle.gather.specs.declared.Run.{Run}
-use Rattle.triples.proofs.Walks.{sees-void, sees-608, sees-more, sees-start}
+use Rattle.gather.proofs.Places.{sets-append, take-sets, zeros}
+
+-- what bytes want: none before a start,
+wants-none : (g : List ℕ) → length g ≡ 0 → wants g ≡ 0
+unfolding wants
+wants-none g e = simp (eq-eqb _ _ e)
+
+-- else what their size lacks
+wants-some : (g : List ℕ) → 1 ≤ length g → wants g ≡ packetSize (getD g 0 0) - length g
+unfolding wants
+wants-some g h = simp (ne-eqb (length g) 0 (λ e. omega arith))
+
+-- so that two are wanted if any are
+module _ (g : List ℕ) (some : wants g ≡ 0 → ⊥) where
+  wants-filled : 1 ≤ length g
+  wants-filled = by-test (eqb (length g) 0) (λ e. absurd (some (wants-none g (eqb-true _ _ e)))) (λ e. omega (arith, eqb-false (length g) 0 e))
+
+  wants-two : length g % 2 ≡ 0 → 2 ≤ wants g
+  wants-two e = omega (arith, some, wants-some g wants-filled, size-even (getD g 0 0))
+
+-- bytes that are held
+module _ {s : Run} {l g : List ℕ} (h : Holds s l g) where
+  -- they are those of the model
+  gathers : Gathering g
+  gathers = record { even = h .even; most = h .most }
+
+  -- at most 128
+  held-few : length g ≤ 128
+  held-few = omega (arith, h .most, size-most (getD g 0 0))
+
+  -- they stand first
+  pub held-run : take (s .len) l ≡ g
+  held-run = rw (h .size, h .laid) (take-sets (replicate 128 0) g (omega (arith, held-few, zeros)))
+
+  -- among 128 places
+  pub held-places : (s .len ≤ 128) × (length l ≡ 128)
+  held-places = (omega (arith, h .size, held-few), rw (h .laid) (length-sets (replicate 128 0) 0 g ∙ zeros))
+
+  -- a slot of them
+  pub held-slot : record { len = s .len; bytes = l } ≡ slotWith g
+  held-slot = rw (h .size, h .laid)
 
 -- two bytes more
-pub two-none : (x y : ℕ) (s : Run) (l : List ℕ) → s .need ≡ 0 → heldBy s l ≡ putTwo x y (heldBy s l)
-unfolding putTwo
-two-none x y s l e = simp (eq-eqb _ _ e)
+module _ (x y : ℕ) where
+  -- none are wanted
+  pub two-none : (s : Run) (l : List ℕ) → s .need ≡ 0 → (g : List ℕ) → Holds s l g → Holds s l (g ++ take (wants g) (x ∷ y ∷ []))
+  two-none s l e g h = let z : wants g ≡ 0 = sym (h .need) ∙ e in rw (z, append-nil g) h
 
--- some are wanted
-pub two-more : (x y n k : ℕ) (l : List ℕ) → (n ≡ 0 → ⊥)
-    → record { need = n - 2; len = k + 2; bytes = set (set l k x) (k + 1) y } ≡ putTwo x y (record { need = n; len = k; bytes = l })
-unfolding putTwo
-two-more x y n k l e = simp (ne-eqb _ _ e)
+  -- some are
+  pub two-more : (n k : ℕ) (l : List ℕ) → (n ≡ 0 → ⊥) → (g : List ℕ) → Holds (record { need = n; len = k }) l g
+      → Holds (record { need = n - 2; len = k + 2 }) (set (set l k x) (k + 1) y) (g ++ take (wants g) (x ∷ y ∷ []))
+  two-more n k l e g h =
+      let some : wants g ≡ 0 → ⊥ = λ z. e (h .need ∙ z) in
+      let one : 1 ≤ length g = wants-filled g some in
+      let more = gathering-more g x y (gathers h) in
+      let t : take (wants g) (x ∷ y ∷ []) ≡ x ∷ y ∷ [] = take-all (wants g) (x ∷ y ∷ []) (wants-two g some (h .even)) in
+      let w : length (g ++ x ∷ y ∷ []) ≡ length g + 2 = length-append g (x ∷ y ∷ []) in
+      let d : getD (g ++ x ∷ y ∷ []) 0 0 ≡ getD g 0 0 = List·getD-append g (x ∷ y ∷ []) 0 0 one in
+      let v : wants (g ++ x ∷ y ∷ []) ≡ packetSize (getD g 0 0) - (length g + 2) = wants-some (g ++ x ∷ y ∷ []) (omega arith) ∙ rw (d, w) in
+      let a : k ≡ 0 + length g = omega (arith, h .size) in
+      let b : 0 + length g + 1 ≡ suc (0 + length g) = omega arith in
+      let m : Gathering (g ++ x ∷ y ∷ []) = rw t at more in
+      rw t
+      (record {
+        size = omega (arith, h .size);
+        laid = rw (h .laid, a, b) (sym (sets-append (replicate 128 0) 0 g (x ∷ y ∷ [])));
+        need = omega (arith, h .need, wants-some g one);
+        even = m .even;
+        most = m .most;
+      })
 
--- a packet's size is even
-pub size-even : (h : ℕ) → packetSize h % 2 ≡ 0
-unfolding packetSize
-size-even h = by-cond (λ n. n % 2 ≡ 0) (eqb (h % 64) 0) (λ _. refl) (λ _. omega arith)
+  -- the first of a new packet
+  pub begun : (z : ℕ) → z ≡ packetSize x → Holds (record { need = z - 2; len = 2 }) (set (set (replicate 128 0) 0 x) 1 y) (take (packetSize x) (x ∷ y ∷ []))
+  begun z e =
+      let t : take (packetSize x) (x ∷ y ∷ []) ≡ x ∷ y ∷ [] = take-all (packetSize x) (x ∷ y ∷ []) (size-least x) in
+      let m : Gathering (x ∷ y ∷ []) = rw t at (gathering-start x y) in
+      rw t (record { size = refl; laid = refl; need = rw e (sym (wants-some (x ∷ y ∷ []) (omega arith))); even = refl; most = m .most })
 
--- and at least 2
-pub size-least : (h : ℕ) → 2 ≤ packetSize h
-unfolding packetSize
-size-least h = by-cond (λ n. 2 ≤ n) (eqb (h % 64) 0) (λ _. omega arith) (λ e. omega (arith, eqb-false (h % 64) 0 e))
+  -- it has room
+  pub begun-fits : (z : ℕ) → z ≡ packetSize x → 2 ≤ z
+  begun-fits z e = omega (arith, size-least x)
 
--- a new packet has room
-pub sized-start : (z x : ℕ) → z ≡ packetSize x → Sized (record { need = z; len = 0 })
-sized-start z x e = record { even = omega (arith, size-even x); room = omega (arith, size-most x) }
+  pub begun-sized : (z : ℕ) → z ≡ packetSize x → Sized (record { need = z - 2; len = 2 })
+  begun-sized z e = record { even = omega (arith, size-even x, size-least x); room = omega (arith, size-least x, size-most x) }
 
--- one triple
-module _ (c x y : ℕ) (h : Held) where
-  -- a triple that is not of a packet, or not valid
-  pub put-none : c % 8 < 6 → h ≡ put (seen (tri c x y)) h
-  put-none k =
-      by-test (ltb (c % 8) 4)
-      (λ e. sees-void c x y (λ t. h ≡ put t h) (ltb-true _ _ e) refl refl)
-      (λ e. sees-608 c x y (λ t. h ≡ put t h) (ltb-false _ _ e) k refl refl)
+  -- one triple
+  module _ (c : ℕ) where
+    -- a triple that is not of a packet, or not valid
+    pub put-none : (s : Run) (l : List ℕ) → c % 8 < 6 → (g : List ℕ) → Holds s l g → Holds s l (put (seen (tri c x y)) g)
+    put-none s l k g h =
+        by-test (ltb (c % 8) 4)
+        (λ e. sees-void c x y (λ t. Holds s l (put t g)) (ltb-true _ _ e) h h)
+        (λ e. sees-608 c x y (λ t. Holds s l (put t g)) (ltb-false _ _ e) k h h)
 
-  -- more of the packet
-  pub put-more : (r : Held) → c % 8 ≡ 6 → r ≡ putTwo x y h → r ≡ put (seen (tri c x y)) h
-  put-more r e q = sees-more c x y (λ t. r ≡ put t h) e q
+    -- more of the packet
+    pub put-more : (s r : Run) (l k : List ℕ) → c % 8 ≡ 6 → ((g : List ℕ) → Holds s l g → Holds r k (g ++ take (wants g) (x ∷ y ∷ [])))
+        → (g : List ℕ) → Holds s l g → Holds r k (put (seen (tri c x y)) g)
+    put-more s r l k e f g h = sees-more c x y (λ t. Holds r k (put t g)) e (f g h)
 
-  -- the first of a new one
-  pub put-start : (r : Held) (z : ℕ) → 6 ≤ c % 8 → (c % 8 ≡ 6 → ⊥) → z ≡ packetSize x
-      → r ≡ putTwo x y (record { need = z; len = 0; bytes = h .bytes }) → r ≡ put (seen (tri c x y)) h
-  put-start r z k n e q = sees-start c x y (λ t. r ≡ put t h) (omega arith) (rw e at q)
+    -- the first of a new one
+    pub put-start : (s r : Run) (l k : List ℕ) → 6 ≤ c % 8 → (c % 8 ≡ 6 → ⊥) → Holds r k (take (packetSize x) (x ∷ y ∷ []))
+        → (g : List ℕ) → Holds s l g → Holds r k (put (seen (tri c x y)) g)
+    put-start s r l k u v f g h = sees-start c x y (λ t. Holds r k (put t g)) (omega arith) f
 
 -- the pending bytes
-module _ (n : ℕ) (l : List ℕ) where
-  -- there are none
-  pub pending-none : n ≡ 0 → record { need = 0; len = n; bytes = l } ≡ pendingHeld n l
-  unfolding pendingHeld wanted
-  pending-none e = simp (eq-eqb _ _ e)
+module _ (n : ℕ) (l : List ℕ) (fine : pendingFine n l ≡ true) where
+  -- none
+  pub pending-none : (k : List ℕ) → k ≡ replicate 128 0 → n ≡ 0 → Holds (record { need = 0; len = n }) k (take n l)
+  pending-none k e z = rw z (record { size = refl; laid = e; need = sym (wants-none [] refl); even = refl; most = omega arith })
 
-  -- there are some
-  pub pending-some : (z : ℕ) → (n ≡ 0 → ⊥) → z ≡ packetSize (getD l 0 0) → record { need = z - n; len = n; bytes = l } ≡ pendingHeld n l
-  unfolding pendingHeld wanted
-  pending-some z e q = simp (ne-eqb _ _ e, q)
-
-  module _ (fine : pendingFine n l ≡ true) (some : n ≡ 0 → ⊥) where
+  -- some
+  module _ (some : n ≡ 0 → ⊥) where
     -- the test, taken apart
-    pending-facts : (eqb (n % 2) 0 ≡ true) × (ltb n (packetSize (getD l 0 0)) ≡ true)
+    tested : (eqb (n % 2) 0 ≡ true) × (ltb n (packetSize (getD l 0 0)) ≡ true)
     unfolding pendingFine
-    pending-facts = both _ _ (rw (ne-eqb n 0 some) at fine)
+    tested = both _ _ (rw (ne-eqb n 0 some) at fine)
 
-    -- their number is even
-    pub pending-even : n % 2 ≡ 0
-    pending-even = eqb-true _ _ (pending-facts .0)
+    even : n % 2 ≡ 0
+    even = eqb-true _ _ (tested .0)
 
-    -- and below their packet's size
-    pub pending-below : n < packetSize (getD l 0 0)
-    pending-below = ltb-true _ _ (pending-facts .1)
+    below : n < packetSize (getD l 0 0)
+    below = ltb-true _ _ (tested .1)
 
-    -- so some are wanted
-    pub pending-fits : (z : ℕ) → z ≡ packetSize (getD l 0 0) → n ≤ z
-    pending-fits z e = omega (arith, pending-below)
+    -- they are among 128
+    pub pending-few : n ≤ 128
+    pending-few = omega (arith, below, size-most (getD l 0 0))
 
-    -- and they have room
-    pub pending-sized : (z : ℕ) → z ≡ packetSize (getD l 0 0) → Sized (record { need = z - n; len = n })
-    pending-sized z e =
-        record {
-          even = omega (arith, pending-even, pending-below, size-even (getD l 0 0));
-          room = omega (arith, pending-below, size-most (getD l 0 0));
-        }
+    -- more than there are are wanted
+    module _ (z : ℕ) (sized : z ≡ packetSize (getD l 0 0)) where
+      pub pending-fits : n ≤ z
+      pending-fits = omega (arith, below)
+
+      pub pending-some : length l ≡ 128 → (m k : List ℕ) → k ≡ replicate 128 0 → m ≡ sets k 0 (take (n - 0) (drop 0 l)) → Holds (record { need = z - n; len = n }) m (take n l)
+      pending-some long m k e q =
+          let o : n - 0 ≡ n = omega arith in
+          let many : length (take n l) ≡ n = length-take-le n l (omega (arith, pending-few)) in
+          let d : getD (take n l) 0 0 ≡ getD l 0 0 = getD-take n l 0 0 (omega (arith, some)) in
+          let s : packetSize (getD (take n l) 0 0) ≡ packetSize (getD l 0 0) = ap packetSize d in
+          record {
+            size = sym many;
+            laid = rw (e, o) at q;
+            need = sym (wants-some (take n l) (omega (arith, many, some)) ∙ rw (d, many, sized));
+            even = rw many even;
+            most = omega (arith, many, s, below);
+          }
+
+      pub pending-sized : Sized (record { need = z - n; len = n })
+      pending-sized = record { even = omega (arith, even, below, size-even (getD l 0 0)); room = omega (arith, below, size-most (getD l 0 0)) }
 
 -- none have room
 pub sized-none : (n : ℕ) → n ≡ 0 → Sized (record { need = 0; len = n })
 sized-none n e = record { even = refl; room = omega arith }
-
--- the first n bytes
-pub reads-front : (r : Bool) (n : ℕ) (l : List ℕ) → r ≡ reads (take (n - 0) (drop 0 l)) → r ≡ reads (take n l)
-reads-front r n l e = let z : n - 0 ≡ n = omega arith in rw z at e
 
 -- closing
 module _ (c : ℕ) (g : List ℕ) where
@@ -147,43 +213,128 @@ module _ (n k : ℕ) where
   pub left-some : (n ≡ 0 → ⊥) → k ≡ cond (eqb n 0) 0 k
   left-some e = simp (ne-eqb _ _ e)
 
--- a turn of the walk, by whether it delivers
-module _ (f i c x y n m : ℕ) (s r : Run) (l k : List ℕ) (t u : List Slot) (b : Bool)
-    (asked : (x y : ℕ) → b ≡ closesBy (seen (tri c x y)) (take (s .len) l)) (laid : heldBy r k ≡ put (seen (tri c x y)) (heldBy s l)) where
-  -- it does
-  pub turn-delivers : b ≡ true → u ≡ set t ((f + n) % 32) (record { len = s .len; bytes = l }) → m ≡ n + 1
-      → record { held = heldBy r k; ring = record { count = m; slots = u } }
-      ≡ gatherTurn f (record { held = heldBy s l; ring = record { count = n; slots = t } }) i (seen (tri c x y))
-  unfolding gatherTurn
-  turn-delivers h e q = rw (← asked x y, h, laid, e, q)
+  -- no more than are gathered
+  pub left-most : (p : ℕ) → p ≡ cond (eqb n 0) 0 k → p ≤ k
+  left-most p e = rw e (by-cond (λ m. m ≤ k) (eqb n 0) (λ _. omega arith) (λ _. omega arith))
 
-  -- it does not
-  pub turn-keeps : b ≡ false → u ≡ t → m ≡ n
-      → record { held = heldBy r k; ring = record { count = m; slots = u } }
-      ≡ gatherTurn f (record { held = heldBy s l; ring = record { count = n; slots = t } }) i (seen (tri c x y))
-  unfolding gatherTurn
-  turn-keeps h e q = rw (← asked x y, h, laid, e, q)
+-- one triple: what it closes is kept, and then its bytes are taken
+gather-turn : (g : List ℕ) (t : Seen) (ts : List Seen) → gather g (t ∷ ts) ≡ delivered (cond (closesBy t g) (g ∷ []) []) (gather (put t g) ts)
+unfolding gather closesBy kept
+gather-turn g (start x y) ts = refl
+gather-turn g (more x y) ts = refl
+gather-turn g (first x y) ts = refl
+gather-turn g (second x y) ts = refl
+gather-turn g void608 ts = refl
+gather-turn g void708 ts = refl
 
--- the frame's end, by whether it delivers
-module _ (f p n m : ℕ) (s : Run) (l : List ℕ) (t u : List Slot) (b : Bool)
-    (asked : b ≡ (eqb (s .need) 0 && reads (take (s .len) l))) (left : p ≡ cond (eqb (s .need) 0) 0 (s .len)) where
-  -- it does
-  pub end-delivers : b ≡ true → u ≡ set t ((f + n) % 32) (record { len = s .len; bytes = l }) → m ≡ n + 1
-      → record { pending = p; bytes = l; ring = record { count = m; slots = u } }
-      ≡ gatherEnd f (record { held = heldBy s l; ring = record { count = n; slots = t } })
-  unfolding gatherEnd
-  end-delivers h e q = rw (← asked, h, left, e, q)
+-- runs before those of a frame that ends
+ended-delivered : (gs : List (List ℕ)) (o : Gathered) → ended (delivered gs o) ≡ delivered gs (ended o)
+unfolding ended
+ended-delivered gs o = by-test (eqb (wants (o .bytes)) 0) (λ e. rw (e, append-assoc gs (o .runs) (kept (o .bytes)))) (λ e. rw e)
 
-  -- it does not
-  pub end-keeps : b ≡ false → u ≡ t → m ≡ n
-      → record { pending = p; bytes = l; ring = record { count = m; slots = u } }
-      ≡ gatherEnd f (record { held = heldBy s l; ring = record { count = n; slots = t } })
-  unfolding gatherEnd
-  end-keeps h e q = rw (← asked, h, left, e, q)
+-- For the loop: what is held, and that `a`, which the whole frame leaves, is what is left of it leaves behind the slots that are there
+pub record Going (a : Left) (f : ℕ) (l : List ℕ) (n : ℕ) (t : List Slot) (s : Run) (k : List ℕ) (ts : List Seen) : Type 0 where
+  pub held : List ℕ
+  pub holds : Holds s k held
+  pub rest : a ≡ leftOf f n t l (ended (gather held ts))
 
--- from the walk to the whole
-pub gathered-is : (f n : ℕ) (t : List Slot) (d : List ℕ) (h₀ h : Held) (o : Gathering) (r : Left) → h ≡ h₀
-    → over (gatherTurn f) (record { held = h; ring = record { count = n; slots = t } }) 0 (seenFrom 0 d) ≡ o → r ≡ gatherEnd f o
-    → r ≡ gathered f (record { count = n; slots = t }) h₀ (seenFrom 0 d)
-unfolding gathered
-gathered-is f n t d h₀ h o r e w q = rw (← e, w) q
+-- `a` is what the whole frame leaves
+module _ (f : ℕ) (l : List ℕ) (a : Left) (n : ℕ) (t : List Slot) where
+  -- one run is a slot
+  left-one : (g : List ℕ) (o : Gathered) → leftOf f n t l (delivered (g ∷ []) o) ≡ leftOf f (n + 1) (set t ((f + n) % 32) (slotWith g)) l o
+  unfolding setRound
+  left-one g o =
+      let z : n + suc (length (o .runs)) ≡ n + 1 + length (o .runs) = omega arith in
+      let w : f + n + 1 ≡ f + (n + 1) = omega arith in
+      rw (z, ← w)
+
+  module _ (g : List ℕ) (s : Run) (k : List ℕ) (h : Holds s k g) where
+    -- a turn
+    module _ (d : List ℕ) (i : ℕ) (more : 3 * i + 4 < length d) where
+      abbrev here : Seen
+      here = seen (tri (getD d (3 * i + 2) 0) (getD d (3 * i + 3) 0) (getD d (3 * i + 4) 0))
+
+      module _ (e : a ≡ leftOf f n t l (ended (gather g (seenFrom i d)))) where
+        turned : a ≡ leftOf f n t l (delivered (cond (closesBy here g) (g ∷ []) []) (ended (gather (put here g) (seenFrom (i + 1) d))))
+        turned =
+            e ∙ rw (seen-next d i more, gather-turn g here (seenFrom (i + 1) d), ended-delivered (cond (closesBy here g) (g ∷ []) []) (gather (put here g) (seenFrom (i + 1) d)))
+
+        module _ (b : Bool) (asked : (x y : ℕ) → b ≡ closesBy (seen (tri (getD d (3 * i + 2) 0) x y)) (take (s .len) k)) (u : List Slot) (m : ℕ) where
+          closing : b ≡ closesBy here g
+          closing = rw (held-run h) at (asked (getD d (3 * i + 3) 0) (getD d (3 * i + 4) 0))
+
+          -- it delivers
+          pub turn-delivers : b ≡ true → u ≡ set t ((f + n) % 32) (record { len = s .len; bytes = k }) → m ≡ n + 1
+              → a ≡ leftOf f m u l (ended (gather (put here g) (seenFrom (i + 1) d)))
+          turn-delivers y p q = rw (p, q, held-slot h) ((rw (← closing, y) at turned) ∙ left-one g (ended (gather (put here g) (seenFrom (i + 1) d))))
+
+          -- it does not
+          pub turn-keeps : b ≡ false → u ≡ t → m ≡ n → a ≡ leftOf f m u l (ended (gather (put here g) (seenFrom (i + 1) d)))
+          turn-keeps y p q = rw (p, q) (rw (← closing, y) at turned)
+
+    -- the frame's end
+    module _ (d : List ℕ) (i : ℕ) (done : length d ≤ 3 * i + 4) (e : a ≡ leftOf f n t l (ended (gather g (seenFrom i d)))) where
+      at-end : a ≡ leftOf f n t l (ended (record { runs = []; bytes = g }))
+      unfolding gather
+      at-end = rw (seen-none d i done) at e
+
+      module _ (b : Bool) (asked : b ≡ (eqb (s .need) 0 && reads (take (s .len) k))) (p : ℕ) (left : p ≡ cond (eqb (s .need) 0) 0 (s .len))
+          (m : List ℕ) (laid : m ≡ sets l 0 (take (p - 0) (drop 0 k))) where
+        -- the bytes that are left, laid over the places
+        over-places : m ≡ sets l 0 (take p k)
+        over-places = let z : p - 0 ≡ p = omega arith in rw z at laid
+
+        -- they are complete
+        module _ (z : wants g ≡ 0) where
+          need-none : eqb (s .need) 0 ≡ true
+          need-none = eq-eqb _ _ (h .need ∙ z)
+
+          none-left : (p ≡ 0) × (m ≡ l)
+          none-left = let o : p ≡ 0 = rw need-none at left in (o, rw o at over-places)
+
+          whole : a ≡ leftOf f n t l (record { runs = kept g; bytes = [] })
+          unfolding ended
+          whole = rw z at at-end
+
+          test : b ≡ reads g
+          test = rw (need-none, held-run h) at asked
+
+        -- they are not
+        module _ (z : wants g ≡ 0 → ⊥) where
+          need-some : eqb (s .need) 0 ≡ false
+          need-some = ne-eqb _ _ (λ o. z (sym (h .need) ∙ o))
+
+          all-left : (p ≡ length g) × (m ≡ sets l 0 g)
+          all-left = let o : p ≡ s .len = rw need-some at left in (o ∙ h .size, rw (o, held-run h) at over-places)
+
+          part : a ≡ leftOf f n t l (record { runs = []; bytes = g })
+          unfolding ended
+          part = rw (ne-eqb _ _ z) at at-end
+
+        module _ (u : List Slot) (c : ℕ) where
+          -- a slot behind the others, and no run more
+          none-more : leftOf f (n + 1) (set t ((f + n) % 32) (slotWith g)) l (record { runs = []; bytes = [] }) ≡ record { pending = 0; bytes = l; count = n + 1; slots = set t ((f + n) % 32) (slotWith g) }
+          unfolding setRound
+          none-more = let w : n + 1 + 0 ≡ n + 1 = omega arith in rw w
+
+          -- it delivers
+          pub end-delivers : b ≡ true → u ≡ set t ((f + n) % 32) (record { len = s .len; bytes = k }) → c ≡ n + 1 → record { pending = p; bytes = m; count = c; slots = u } ≡ a
+          unfolding kept
+          end-delivers y q v =
+              by-test (eqb (wants g) 0)
+              (λ o. let z : wants g ≡ 0 = eqb-true _ _ o in
+              let r : reads g ≡ true = sym (test z) ∙ y in
+              rw (none-left z .0, none-left z .1, q, v, held-slot h) (sym ((rw r at (whole z)) ∙ left-one g (record { runs = []; bytes = [] }) ∙ none-more)))
+              (λ o. let w : b ≡ false = rw (need-some (eqb-false _ _ o)) at asked in absurd (true≢false (sym y ∙ w)))
+
+          -- it does not
+          pub end-keeps : b ≡ false → u ≡ t → c ≡ n → record { pending = p; bytes = m; count = c; slots = u } ≡ a
+          unfolding kept setRound
+          end-keeps y q v =
+              let w : n + 0 ≡ n = omega arith in
+              by-test (eqb (wants g) 0)
+              (λ o. let z : wants g ≡ 0 = eqb-true _ _ o in
+              let r : reads g ≡ false = sym (test z) ∙ y in
+              rw (none-left z .0, none-left z .1, q, v) (sym (rw (r, w) at (whole z))))
+              (λ o. let z : wants g ≡ 0 → ⊥ = eqb-false _ _ o in
+              rw (all-left z .0, all-left z .1, q, v) (sym (rw w at (part z))))

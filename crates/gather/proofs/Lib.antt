@@ -1,5 +1,4 @@
+pub mod Places
 pub mod Gathers
 pub mod Rings
-pub mod Helds
-pub mod Queues
 pub mod Slots

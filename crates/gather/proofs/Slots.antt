@@ -1,18 +1,22 @@
 -- Laws of slots and pending bytes within the limits, and of gathering if asked, one for each way out of a function. Assumes nothing.
 use mathlib.Core.Path.{_≡_, refl, sym, _∙_}
 use mathlib.Core.List.{List}
-use mathlib.Core.Bool.{and-true, Bool, true, false, _&&_}
+use mathlib.Core.Bool.{and-true, and-false, Bool, true, false, _&&_}
 use Prim.Native.Nat.{ℕ, zero, suc, _+_, _-_, _%_, _≤_, _<_}
 use native.Mathlib.Omega.{arith}
-use lib.ListN.{getD, take}
-use lib.Dec.{leb, ltb}
-use borrow.Author.Tests.{eq-eqb, ne-eqb, lt-leb, le-leb, leb-true}
+use lib.ListN.{length, getD, take}
+use lib.Seq.{getD-take, length-take-le}
+use lib.Dec.{eqb, leb, ltb}
+use borrow.Author.Tests.{eq-eqb, ne-eqb, eqb-true, eqb-false, le-ltb, lt-leb, le-leb, leb-true, leb-false}
 use Rattle.model.specs.Packet.{packetSize, reads}
-use Rattle.model.proofs.Cases.{both}
+use Rattle.model.specs.Demux.{validPending, gather, ended}
+use Rattle.model.proofs.Cases.{by-test, both}
+use Rattle.model.proofs.Limits.{size-most}
 use Rattle.slots.specs.declared.Slot.{Slot}
 use Rattle.triples.specs.Walk.{seenFrom}
-use Rattle.gather.specs.Ring.{slotFine, slotsFine, ringFrom, noSlot, ringFine, headFine, behindFine, oldestOf}
-use Rattle.gather.specs.Gather.{pendingFine, Ring, Left, gathered, pendingHeld, readyFor, gatheredBy}
+use Rattle.gather.specs.Ring.{slotFine, slotsFine, ringFrom, noSlot, ringFine}
+use Rattle.gather.specs.Tests.{pendingFine, headFine, behindFine, oldestOf, readyFor}
+use Rattle.gather.specs.Gather.{Left, leftOf, gatheredBy}
 
 module _ (s : Slot) where
   -- longer than its places
@@ -65,6 +69,18 @@ module _ (n : ℕ) (l : List ℕ) where
     pub fine-even : (z : ℕ) → n % 2 ≡ 0 → z ≡ packetSize (getD l 0 0) → ltb n z ≡ pendingFine n l
     unfolding pendingFine
     fine-even z o e = simp (ne-eqb _ _ some, eq-eqb _ _ o, e)
+
+  -- of 128 places it is the model's test, and that there are so many bytes
+  pub fine-pending : length l ≡ 128 → pendingFine n l ≡ leb n 128 && validPending (take n l)
+  unfolding pendingFine validPending
+  fine-pending long =
+      by-test (eqb n 0)
+      (λ z. let o : n ≡ 0 = eqb-true _ _ z in rw o)
+      (λ z. let some : n ≡ 0 → ⊥ = eqb-false _ _ z in
+      by-test (leb n 128)
+      (λ t. let many : length (take n l) ≡ n = length-take-le n l (omega (arith, leb-true n 128 t)) in
+      rw (t, many, z, getD-take n l 0 0 (omega (arith, some))))
+      (λ t. rw (t, z, le-ltb n (packetSize (getD l 0 0)) (omega (arith, leb-false n 128 t, size-most (getD l 0 0)))) (and-false (eqb (n % 2) 0))))
 
 -- the ring behind its head
 module _ (f n : ℕ) (l : List Slot) where
@@ -195,19 +211,19 @@ module _ (f count n : ℕ) (l : List ℕ) where
     ready-fine = both (leb count 32) (pendingFine n l) (ready-facts .1) .1
 
 -- gathering, if asked
-module _ (gathers : Bool) (f : ℕ) (r : Ring) (n : ℕ) (l frame : List ℕ) where
+module _ (gathers : Bool) (f count : ℕ) (slots : List Slot) (n : ℕ) (l frame : List ℕ) where
   -- not asked
-  pub gather-not : gathers ≡ false → record { pending = n; bytes = l; ring = r } ≡ gatheredBy gathers f r n l frame
+  pub gather-not : gathers ≡ false → record { pending = n; bytes = l; count = count; slots = slots } ≡ gatheredBy gathers f count slots n l frame
   unfolding gatheredBy
   gather-not e = rw e
 
-  module _ (asked : gathers ≡ true) (b : Bool) (tested : b ≡ readyFor f (r .count) n l) where
+  module _ (asked : gathers ≡ true) (b : Bool) (tested : b ≡ readyFor f count n l) where
     -- outside the limits
-    pub gather-unready : b ≡ false → record { pending = n; bytes = l; ring = r } ≡ gatheredBy gathers f r n l frame
+    pub gather-unready : b ≡ false → record { pending = n; bytes = l; count = count; slots = slots } ≡ gatheredBy gathers f count slots n l frame
     unfolding gatheredBy
     gather-unready e = rw (asked, ← tested, e)
 
     -- packets are gathered
-    pub gather-asked : (g : Left) → b ≡ true → g ≡ gathered f r (pendingHeld n l) (seenFrom 0 frame) → g ≡ gatheredBy gathers f r n l frame
+    pub gather-asked : (g : Left) → b ≡ true → g ≡ leftOf f count slots l (ended (gather (take n l) (seenFrom 0 frame))) → g ≡ gatheredBy gathers f count slots n l frame
     unfolding gatheredBy
     gather-asked g e q = rw (asked, ← tested, e) q

@@ -1,2 +1,3 @@
 pub mod Ring
+pub mod Tests
 pub mod Gather

@@ -1,13 +1,12 @@
 -- The ring of waiting slots: 32 places, going round. Assumes nothing.
-use mathlib.Core.List.{List, [], _∷_, _++_}
-use mathlib.Core.Bool.{Bool, true, cond, _&&_}
-use Prim.Native.Nat.{ℕ, zero, suc, _+_, _-_, _%_}
-use lib.ListN.{getD, take}
-use lib.Dec.{eqb, leb}
-use Rattle.model.specs.Packet.{Packet, reads}
-use Rattle.model.specs.Demux.{closed}
+use mathlib.Core.List.{List, [], _∷_}
+use mathlib.Core.Bool.{Bool, true, _&&_}
+use Prim.Native.Nat.{ℕ, zero, suc, _+_, _%_}
+use lib.ListN.{length, getD, set, take, replicate}
+use lib.Seq.{sets}
+use lib.Dec.{leb}
+use Rattle.model.specs.Packet.{reads}
 use Rattle.slots.specs.declared.Slot.{Slot}
-use Rattle.gather.specs.declared.Front.{Front}
 
 -- what stands past the end of an array of slots
 abbrev pub noSlot : Slot
@@ -18,11 +17,14 @@ unfoldable pub ringFrom : ℕ → ℕ → List Slot → List Slot
 ringFrom at zero l = []
 ringFrom at (suc n) l = getD l (at % 32) noSlot ∷ ringFrom (at + 1) n l
 
--- "which become a packet if they read as one": a slot reads as a packet
-unfoldable pub slotFine : Slot → Bool
-slotFine s = leb (s .len) 128 && reads (take (s .len) (s .bytes))
+-- the bytes of a slot
+abbrev pub slotRun : Slot → List ℕ
+slotRun s = take (s .len) (s .bytes)
 
--- each slot does
+-- whether each slot has no more bytes than places, and reads as a packet
+unfoldable pub slotFine : Slot → Bool
+slotFine s = leb (s .len) 128 && reads (slotRun s)
+
 unfoldable pub slotsFine : List Slot → Bool
 slotsFine [] = true
 slotsFine (s ∷ l) = slotFine s && slotsFine l
@@ -31,19 +33,11 @@ slotsFine (s ∷ l) = slotFine s && slotsFine l
 unfoldable pub ringFine : ℕ → ℕ → List Slot → Bool
 ringFine f n l = leb f 31 && (leb n 32 && slotsFine (ringFrom f n l))
 
--- the slot at the ring's head, if there is one, is read by whoever takes it
-unfoldable pub headFine : ℕ → Slot → Bool
-headFine n s = cond (eqb n 0) true (slotFine s)
+-- the slot of a run of bytes: zeros stand behind them
+abbrev pub slotWith : List ℕ → Slot
+slotWith g = record { len = length g; bytes = sets (replicate 128 0) 0 g }
 
--- the ring but for its head
-unfoldable pub behindFine : ℕ → ℕ → List Slot → Bool
-behindFine f n l = leb f 31 && (leb n 32 && slotsFine (ringFrom (f + 1) (n - 1) l))
-
--- the slot at the head, and whether the ring behind it is within its limits
-unfoldable pub oldestOf : ℕ → ℕ → List Slot → Front
-oldestOf f n l = record { good = behindFine f n l; slot = getD l (f % 32) noSlot }
-
--- the packets that slots hold
-unfoldable pub packetsIn : List Slot → List Packet
-packetsIn [] = []
-packetsIn (s ∷ l) = closed (take (s .len) (s .bytes)) ++ packetsIn l
+-- the slots of runs laid one behind the other from a place on, going round
+unfoldable pub setRound : ℕ → List Slot → List (List ℕ) → List Slot
+setRound at l [] = l
+setRound at l (g ∷ gs) = setRound (at + 1) (set l (at % 32) (slotWith g)) gs

@@ -1,14 +1,17 @@
 // Packets gathered from the triples of a frame: the bytes of one that is not complete, and the ring of slots that wait.
 ghost use mathlib.Core.Path.{_≡_};
 ghost use mathlib.Core.Bool.{true, cond, _&&_};
+ghost use mathlib.Core.List.{List, [], _∷_, _++_};
 ghost use Prim.Native.Nat.{ℕ, _≤_, _<_};
-ghost use lib.ListN.{take};
+ghost use lib.ListN.{take, replicate};
 ghost use lib.Dec.{eqb};
 ghost use Rattle.model.specs.Frame.{seen, tri};
-ghost use Rattle.model.specs.Packet.{reads};
+ghost use Rattle.model.specs.Packet.{packetSize, reads};
+ghost use Rattle.model.specs.Demux.{wants, gather, ended};
 ghost use Rattle.triples.specs.Walk.{seenFrom};
-ghost use Rattle.gather.specs.Ring.{slotFine, oldestOf};
-ghost use Rattle.gather.specs.Gather.{pendingFine, Sized, heldBy, putTwo, put, pendingHeld, closesBy, takenBy, gathered, readyFor, gatheredBy};
+ghost use Rattle.gather.specs.Ring.{slotFine};
+ghost use Rattle.gather.specs.Tests.{pendingFine, oldestOf, readyFor};
+ghost use Rattle.gather.specs.Gather.{Sized, Holds, put, closesBy, takenBy, leftOf, gatheredBy};
 use slots::Slot;
 
 // The most bytes of a packet, and the most slots.
@@ -38,7 +41,7 @@ pub struct Front {
 // Two bytes more of a packet, while any are wanted.
 fn put_two(s: Run, bytes: &mut [u8; 128], x: u8, y: u8) -> Run
     requires { ⌜ Sized s ⌝ }
-    ensures { λ r. ⌜ heldBy r (now (bytes .exit)) ≡ putTwo x y (heldBy s (now (bytes .entry))) ⌝ }
+    ensures { λ r. ⌜ ((g : List ℕ) → Holds s (now (bytes .entry)) g → Holds r (now (bytes .exit)) (g ++ take (wants g) (x ∷ y ∷ []))) ⌝ }
     ensures { λ r. ⌜ Sized r ⌝ }
 {
     let at = s.len;
@@ -54,10 +57,25 @@ fn put_two(s: Run, bytes: &mut [u8; 128], x: u8, y: u8) -> Run
     }
 }
 
+// The first two bytes of a new packet, in places that are cleared.
+fn begin(bytes: &mut [u8; 128], x: u8, y: u8) -> Run
+    ensures { λ r. ⌜ Holds r (now (bytes .exit)) (take (packetSize x) (x ∷ y ∷ [])) ⌝ }
+    ensures { λ r. ⌜ Sized r ⌝ }
+{
+    *bytes = [0u8; 128];
+    bytes[0] = x;
+    bytes[1] = y;
+    let size = packet::packet_size(x);
+    Run {
+        need: size - 2,
+        len: 2,
+    }
+}
+
 // The two bytes of a triple: more of the packet, the first of a new one, or none of a packet.
 fn put_triple(s: Run, bytes: &mut [u8; 128], c: u8, x: u8, y: u8) -> Run
     requires { ⌜ Sized s ⌝ }
-    ensures { λ r. ⌜ heldBy r (now (bytes .exit)) ≡ put (seen (tri c x y)) (heldBy s (now (bytes .entry))) ⌝ }
+    ensures { λ r. ⌜ ((g : List ℕ) → Holds s (now (bytes .entry)) g → Holds r (now (bytes .exit)) (put (seen (tri c x y)) g)) ⌝ }
     ensures { λ r. ⌜ Sized r ⌝ }
 {
     let v = c % 8;
@@ -67,21 +85,22 @@ fn put_triple(s: Run, bytes: &mut [u8; 128], c: u8, x: u8, y: u8) -> Run
     if v == 6 {
         return put_two(s, bytes, x, y);
     }
-    let need = packet::packet_size(x);
-    put_two(Run { need, len: 0 }, bytes, x, y)
+    begin(bytes, x, y)
 }
 
-// The pending bytes as a packet being gathered.
-fn run_of(bytes: &[u8; 128], len: usize) -> Run
-    requires { ⌜ pendingFine len (now bytes) ≡ true ⌝ }
-    ensures { λ r. ⌜ heldBy r (now (bytes .entry)) ≡ pendingHeld len (now (bytes .entry)) ⌝ }
+// The pending bytes as a packet being gathered, laid into cleared places.
+fn run_of(pending: [u8; 128], len: usize, bytes: &mut [u8; 128]) -> Run
+    requires { ⌜ pendingFine len pending ≡ true ⌝ }
+    requires { ⌜ now bytes ≡ replicate 128 0 ⌝ }
+    ensures { λ r. ⌜ Holds r (now (bytes .exit)) (take len pending) ⌝ }
     ensures { λ r. ⌜ Sized r ⌝ }
 {
     if len == 0 {
         return Run { need: 0, len };
     }
+    service::put_bytes(bytes, 0, &pending[0..len]);
     Run {
-        need: packet::packet_size(bytes[0]) - len,
+        need: packet::packet_size(pending[0]) - len,
         len,
     }
 }
@@ -119,7 +138,8 @@ fn left_of(s: Run) -> usize
     s.len
 }
 
-// Gathers packets from a frame: bytes that are closed and read as a packet go into the slot behind the last waiting one.
+// Gathers packets from a frame: bytes that are closed and read as a packet go into the slot behind the last waiting one, and those that are
+// left over the pending ones.
 fn gather_frame(
     first: usize,
     count: usize,
@@ -131,28 +151,29 @@ fn gather_frame(
     requires { ⌜ first < 32 ⌝ }
     requires { ⌜ count ≤ 32 ⌝ }
     requires { ⌜ pendingFine len (now pending) ≡ true ⌝ }
-    ensures { λ r. ⌜ takenBy r (now (pending .exit)) ≡ gathered first (record { count = count; slots = slots }) (pendingHeld len (now (pending .entry))) (seenFrom 0 (now (frame .entry))) ⌝ }
+    ensures { λ r. ⌜ takenBy r (now (pending .exit)) ≡ leftOf first count slots (now (pending .entry)) (ended (gather (take len (now (pending .entry))) (seenFrom 0 (now (frame .entry))))) ⌝ }
 {
     let mut t = slots;
     let mut n = count;
-    let mut s = run_of(pending, len);
+    let mut bytes = [0u8; 128];
+    let old = *pending;
+    let mut s = run_of(old, len, &mut bytes);
     let mut i = 0;
     while 3 * i + 4 < frame.len() {
         let c = frame[3 * i + 2];
-        if closes(c, pending, s.len) {
-            let bytes = *pending;
+        if closes(c, &bytes, s.len) {
             t[(first + n) % 32] = Slot { len: s.len, bytes };
             n += 1;
         }
-        s = put_triple(s, pending, c, frame[3 * i + 3], frame[3 * i + 4]);
+        s = put_triple(s, &mut bytes, c, frame[3 * i + 3], frame[3 * i + 4]);
         i += 1;
     }
-    if completes(s, pending) {
-        let bytes = *pending;
+    if completes(s, &bytes) {
         t[(first + n) % 32] = Slot { len: s.len, bytes };
         n += 1;
     }
     let left = left_of(s);
+    service::put_bytes(pending, 0, &bytes[0..left]);
     Gathered {
         pending: left,
         waiting: n,
@@ -256,7 +277,7 @@ pub fn gather_by(
     pending: &mut [u8; 128],
     frame: &[u8],
 ) -> Gathered
-    ensures { λ r. ⌜ takenBy r (now (pending .exit)) ≡ gatheredBy gathers first (record { count = count; slots = slots }) len (now (pending .entry)) (now (frame .entry)) ⌝ }
+    ensures { λ r. ⌜ takenBy r (now (pending .exit)) ≡ gatheredBy gathers first count slots len (now (pending .entry)) (now (frame .entry)) ⌝ }
 {
     if gathers {
         if ready(first, count, len, pending) {

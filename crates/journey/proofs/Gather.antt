@@ -8,9 +8,10 @@ use lib.Seq.{take-all}
 use borrow.Author.Tests.{ne-eqb}
 use Rattle.model.specs.Packet.{Packet, packetSize, packetHeader, readPacket, readBy}
 use Rattle.model.specs.Frame.{Triple, tri, Seen, seen, seenAll}
-use Rattle.model.specs.Demux.{Gathered, closed, wants, delivered, gather}
+use Rattle.model.specs.Demux.{Gathered, closed, packetsOf, kept, wants, delivered, gather}
 use Rattle.model.specs.Mux.{Sent, behind, send}
 use Rattle.model.proofs.Packets.{shape}
+use Rattle.model.proofs.Frames.{packets-append, packets-kept}
 use Rattle.model.proofs.Sends.{send-none, send-one, send-all}
 use Rattle.journey.proofs.Triples.{Follow, stop, more, opens, bytesOf, Stored, bytes-written, closed-written, send-open}
 
@@ -52,7 +53,7 @@ underway-one (part {x} {g} stop e k) rest = let z = ap length (rest (wants-part 
 underway-one (part (more f) e k) rest = omega (arith, k)
 
 -- one triple gathered: a start
-gather-start : (g : List ℕ) (a b : ℕ) (ts : List Seen) → 2 ≤ packetSize a → gather g (seen (tri 0xFF a b) ∷ ts) ≡ delivered (closed g) (gather (a ∷ b ∷ []) ts)
+gather-start : (g : List ℕ) (a b : ℕ) (ts : List Seen) → 2 ≤ packetSize a → gather g (seen (tri 0xFF a b) ∷ ts) ≡ delivered (kept g) (gather (a ∷ b ∷ []) ts)
 unfolding gather seen
 gather-start g a b ts h = rw (take-all (packetSize a) (a ∷ b ∷ []) h)
 
@@ -64,7 +65,7 @@ gather-more g a b ts h = rw (take-all (wants g) (a ∷ b ∷ []) h)
 -- What a write sends, and what the reader makes of it: it is linked to what is left as before, and has given the packets in order.
 pub record Passed (ts : List Triple) (g : List ℕ) (q : List Packet) (o : Sent) (r : Gathered) : Type 0 where
   pub linked : Link (o .sending) (r .bytes)
-  pub same : underway g ts ++ q ≡ r .packets ++ (underway (r .bytes) (o .sending) ++ o .packets)
+  pub same : underway g ts ++ q ≡ packetsOf (r .runs) ++ (underway (r .bytes) (o .sending) ++ o .packets)
   pub stored : AllStored (o .packets)
 
 -- the bytes of a packet's first triple
@@ -77,22 +78,22 @@ opened {p} k = part (opens p .follow) (shape p (k .valid) (k .some) .header ∙ 
 
 -- a start closes what was gathered, and the packet that leaves the queue is on its way
 started : {p : Packet} → Stored p → {g : List ℕ} {q : List Packet} {o : Sent} {r : Gathered} → underway g [] ≡ closed g → Passed (opens p .rest) (firstOf p) q o r
-    → Passed [] g (p ∷ q) (behind (tri 0xFF (packetHeader p) (opens p .second) ∷ []) o) (delivered (closed g) r)
+    → Passed [] g (p ∷ q) (behind (tri 0xFF (packetHeader p) (opens p .second) ∷ []) o) (delivered (kept g) r)
 started {p} k {g} {q} {o} {r} e d =
     record {
       linked = d .linked;
-      same = rw (e, append-assoc) (ap (λ (l : List Packet). closed g ++ l) (ap (λ (l : List Packet). l ++ q) (sym (closed-written k)) ∙ d .same));
+      same = rw (e, packets-append (kept g) (r .runs), packets-kept g, append-assoc) (ap (λ (l : List Packet). closed g ++ l) (ap (λ (l : List Packet). l ++ q) (sym (closed-written k)) ∙ d .same));
       stored = d .stored;
     }
 
-module _ (tail : List Seen) (inert : (g : List ℕ) → gather g tail ≡ record { packets = []; bytes = g }) where
+module _ (tail : List Seen) (inert : (g : List ℕ) → gather g tail ≡ record { runs = []; bytes = g }) where
   -- what the reader makes of triples sent, with what follows them
   abbrev pub got : List ℕ → Sent → Gathered
   got g o = gather g (seenAll (o .out) ++ tail)
 
   -- nothing is there to send
   idle : {g : List ℕ} → Link [] g → (m : ℕ) → Passed [] g [] (send m [] []) (got g (send m [] []))
-  unfolding seenAll
+  unfolding seenAll packetsOf
   idle {g} l m = rw (send-all m, inert g) (record { linked = l; same = refl; stored = none })
 
   -- a packet of the queue is begun
@@ -105,7 +106,7 @@ module _ (tail : List Seen) (inert : (g : List ℕ) → gather g tail ≡ record
 
   -- m packet triples are sent and gathered
   pub carry : (m : ℕ) {ts : List Triple} {q : List Packet} {g : List ℕ} → Link ts g → AllStored q → Passed ts g q (send m ts q) (got g (send m ts q))
-  unfolding seenAll
+  unfolding seenAll packetsOf
   carry zero {ts} {q} {g} l h = rw (send-none ts q, inert g) (record { linked = l; same = refl; stored = h })
   carry (suc m) still none = idle still (suc m)
   carry (suc m) (part stop e c) none = idle (part stop e c) (suc m)

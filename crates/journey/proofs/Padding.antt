@@ -24,7 +24,7 @@ padding-seen true zero = end7
 padding-seen true (suc n) = void7 (padding-seen true n)
 
 -- of which nothing is gathered
-pub padding-inert : (on : Bool) (n : ℕ) (g : List ℕ) → gather g (seenAll (padding on n)) ≡ record { packets = []; bytes = g }
+pub padding-inert : (on : Bool) (n : ℕ) (g : List ℕ) → gather g (seenAll (padding on n)) ≡ record { runs = []; bytes = g }
 unfolding padding seenAll seen gather
 padding-inert false n g = refl
 padding-inert true zero g = refl

@@ -93,7 +93,7 @@ gather-608 g (two6 h) ys = gather-608 g h ys
 gather-608 g (void6 h) ys = gather-608 g h ys
 
 -- without a valid 708 triple nothing is gathered
-pub gather-none : (g : List ℕ) {ys : List Seen} → In708 ys → carries708 ys ≡ false → gather g ys ≡ record { packets = []; bytes = g }
+pub gather-none : (g : List ℕ) {ys : List Seen} → In708 ys → carries708 ys ≡ false → gather g ys ≡ record { runs = []; bytes = g }
 unfolding gather carries708
 gather-none g end7 e = refl
 gather-none g (start7 h) e = absurd (true≢false e)

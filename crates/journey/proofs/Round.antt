@@ -9,11 +9,12 @@ use borrow.Author.Tests.{ne-eqb}
 use Rattle.model.specs.Said.{accepted}
 use Rattle.model.specs.Packet.{Packet}
 use Rattle.model.specs.Frame.{Triple, tri, Seen, seenAll, frameBytes}
-use Rattle.model.specs.Demux.{Gathered, Taken, carries708, wants, gather, ended, gathered, takeFrame}
+use Rattle.model.specs.Demux.{Gathered, Taken, carries708, packetsOf, kept, wants, gather, ended, gathered, takeFrame}
 use Rattle.model.specs.Rate.{Budgets}
 use Rattle.model.specs.Mux.{Mux, freshMux, Framed, Sent, Turned, turnsDue, turned, countDue, padding, framed, writeFrame}
 use Rattle.model.specs.Run.{others}
 use Rattle.model.proofs.Cases.{by-cond}
+use Rattle.model.proofs.Frames.{packets-append, packets-kept}
 use Rattle.journey.specs.Bounds.{Field, queueOf}
 use Rattle.journey.proofs.Parts.{In708, seen-append, join-708, gather-none}
 use Rattle.journey.proofs.Padding.{padding-seen, padding-inert}
@@ -25,17 +26,17 @@ use Rattle.journey.proofs.Count.{Fits, count-most}
 use Rattle.journey.proofs.Taking.{holding, taken}
 
 -- At a frame's end: the bytes gathered and the triples left are linked as before, what is complete is given and nothing complete is kept.
-record Closed (ts : List Triple) (g : List ℕ) (ps : List Packet) (o : Gathered) : Type 0 where
+record Closed (ts : List Triple) (g : List ℕ) (gs : List (List ℕ)) (o : Gathered) : Type 0 where
   linked : Link ts (o .bytes)
   rested : wants (o .bytes) ≡ 0 → o .bytes ≡ []
-  same : ps ++ underway g ts ≡ o .packets ++ underway (o .bytes) ts
+  same : packetsOf gs ++ underway g ts ≡ packetsOf (o .runs) ++ underway (o .bytes) ts
 
 -- so it is whatever was gathered
-closing : (ps : List Packet) {ts : List Triple} {g : List ℕ} → Link ts g → Closed ts g ps (ended (record { packets = ps; bytes = g }))
+closing : (gs : List (List ℕ)) {ts : List Triple} {g : List ℕ} → Link ts g → Closed ts g gs (ended (record { runs = gs; bytes = g }))
 unfolding ended
-closing ps still = rw (wants-none, closed-none) (record { linked = still; rested = λ e. refl; same = simp append-nil })
-closing ps (part {x} {g} stop e k) = rw (wants-part [] x g e) (record { linked = still; rested = λ z. refl; same = simp append-nil })
-closing ps (part {x} {g} (more {a} {b} {ts} f) e k) =
+closing gs still = rw wants-none (record { linked = still; rested = λ e. refl; same = rw (packets-append gs (kept []), packets-kept [], closed-none) (simp append-nil) })
+closing gs (part {x} {g} stop e k) = rw (wants-part [] x g e) (record { linked = still; rested = λ z. refl; same = rw (packets-append gs (kept (x ∷ g)), packets-kept (x ∷ g)) (simp append-nil) })
+closing gs (part {x} {g} (more {a} {b} {ts} f) e k) =
     let w = wants-part (tri 0xFE a b ∷ ts) x g e in
     rw (w, ne-eqb (suc (suc (length (bytesOf ts)))) 0 (λ z. omega arith)) (record { linked = part (more f) e k; rested = λ z. let n : wants (x ∷ g) ≡ 0 = z in absurd (omega arith); same = refl })
 
@@ -53,7 +54,7 @@ ready-fresh = record { linked = still; rested = λ e. refl; stored = none }
 record Settled (ts : List Triple) (g : List ℕ) (q : List Packet) (o : Sent) (r : Gathered) : Type 0 where
   linked : Link (o .sending) (r .bytes)
   rested : wants (r .bytes) ≡ 0 → r .bytes ≡ []
-  same : underway g ts ++ q ≡ r .packets ++ (underway (r .bytes) (o .sending) ++ o .packets)
+  same : underway g ts ++ q ≡ packetsOf (r .runs) ++ (underway (r .bytes) (o .sending) ++ o .packets)
 
 -- the queue stands behind what is on its way
 regroup : (a b c d e q : List Packet) → a ≡ b ++ (c ++ q) → b ++ c ≡ d ++ e → a ≡ d ++ (e ++ q)
@@ -66,9 +67,9 @@ settled {ts} {g} {q} {o} {ys} j rest d =
     by-cond (Settled ts g q o) (carries708 ys)
     (λ e.
     let r = gather g ys in
-    let c = closing (r .packets) (d .linked) in
+    let c = closing (r .runs) (d .linked) in
     let k = ended r in
-    record { linked = c .linked; rested = c .rested; same = regroup _ (r .packets) (underway (r .bytes) (o .sending)) (k .packets) (underway (k .bytes) (o .sending)) (o .packets) (d .same) (c .same) })
+    record { linked = c .linked; rested = c .rested; same = regroup _ (packetsOf (r .runs)) (underway (r .bytes) (o .sending)) (packetsOf (k .runs)) (underway (k .bytes) (o .sending)) (o .packets) (d .same) (c .same) })
     (λ e.
     let n = gather-none g j e in
     record { linked = rw n at (d .linked); rested = rest; same = rw n at (d .same) })

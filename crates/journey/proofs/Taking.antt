@@ -8,7 +8,7 @@ use lib.ListN.{length, length-append}
 use borrow.Author.Tests.{eq-eqb}
 use Rattle.model.specs.Said.{accepted}
 use Rattle.model.specs.Frame.{Triple, Frame, Seen, seenAll, flat, flagged, frameBytes}
-use Rattle.model.specs.Demux.{Demux, Taken, pairsIn, lateFrom, carries708, gathered, takeGathered, takeTriples, unread, takeFrame}
+use Rattle.model.specs.Demux.{Demux, Taken, pairsIn, lateFrom, carries708, packetsOf, gathered, takeGathered, takeTriples, unread, takeFrame}
 use Rattle.model.proofs.Frames.{Announces, take-whole, take-room, few-packets, unflat, frame-length}
 use Rattle.journey.proofs.Parts.{In608, In708, seen-length, pairs-608, none-late, carries-608, gather-608}
 
@@ -22,7 +22,7 @@ read ts g = takeTriples ts (lateFrom 0 ts) (holding g)
 
 -- a frame without a triple is accepted with nothing done, as no triples would be
 taken-none : (n : ℕ) (g : List ℕ) → takeFrame (frameBytes (record { count = n; triples = [] })) (holding g) ≡ read (seenAll []) g
-unfolding takeFrame frameBytes unread flat seenAll lateFrom takeTriples pairsIn gathered carries708 takeGathered
+unfolding takeFrame frameBytes unread flat seenAll lateFrom takeTriples pairsIn gathered carries708 packetsOf takeGathered
 taken-none n g = refl
 
 -- a frame with triples announces as many as it has
@@ -47,13 +47,18 @@ gathered-608 g i ys = rw (carries-608 i ys, gather-608 g i ys)
 
 -- how a frame of a 608 part and a 708 part is taken
 abbrev pub takenAs : List Seen → List Seen → List ℕ → Taken
-takenAs xs ys g = record { answer = accepted []; next = record { on608 = true; pairs = pairsIn xs; pending = gathered g ys .bytes; waiting = gathered g ys .packets } }
+takenAs xs ys g =
+    record {
+      answer = accepted [];
+      runs = gathered g ys .runs;
+      next = record { on608 = true; pairs = pairsIn xs; pending = gathered g ys .bytes; waiting = packetsOf (gathered g ys .runs) };
+    }
 
 -- so it is, where it has no more than 31 triples
 taken-parts : (g : List ℕ) {xs ys : List Seen} → In608 xs → In708 ys → length (xs ++ ys) ≤ 31 → read (xs ++ ys) g ≡ takenAs xs ys g
 unfolding takeTriples
 taken-parts g {xs} {ys} i j h =
-    let few : 0 + length (gathered g ys .packets) ≤ 32 = omega (arith, few-packets g ys, length-append xs ys) in
+    let few : 0 + length (packetsOf (gathered g ys .runs)) ≤ 32 = omega (arith, few-packets g ys, length-append xs ys) in
     rw (none-late 0 i j, gathered-608 g i ys, pairs-608 i j) (take-room (pairsIn xs) (gathered g ys) (holding g) few)
 
 -- a frame's bytes, where its count is true and its triples are a 608 part xs and a 708 part ys

@@ -23,7 +23,7 @@ use Rattle.machines.specs.Counts.{draws, wrote}
 -- an item drawn
 pub did-draw : {out now : List ℕ} {at laid : ℕ} (r : CCDataParser) (d : Drawn) → Draws r d → Laid (itemLine (saidItem (d .item)) (d .packet)) out at laid now
     → Did (draws r) out at laid (d .parser) now
-did-draw r d w l = record { told = rw (← w .item, ← w .packet) l; left = w .parser }
+did-draw r d w l = record { told = rw (← w .item, ← w .packet) l; left = w .places }
 
 -- a frame written
 pub did-write : {out now lent′ : List ℕ} {at laid : ℕ} (lent : List ℕ) (rate : Framerate) (w next : CCDataWriter) (c : Counted)

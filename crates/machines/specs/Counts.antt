@@ -4,7 +4,7 @@ use Prim.Native.Nat.{ℕ}
 use Rattle.model.specs.Said.{saysWith, mapped, after}
 use Rattle.caption.specs.declared.Framerate.{Framerate}
 use Rattle.parser.specs.declared.CCDataParser.{CCDataParser}
-use Rattle.parser.specs.Draw.{drawn}
+use Rattle.parser.specs.Calls.{drawn}
 use Rattle.parser.specs.Items.{itemFrom, itemValues, packetBeside}
 use Rattle.turns.specs.declared.PairQueue.{PairQueue}
 use Rattle.writer.specs.declared.CCDataWriter.{CCDataWriter}
@@ -44,7 +44,7 @@ withQueued packets sent count1 count2 w =
 
 -- "one item drawn from r"
 abbrev pub draws : CCDataParser → Effect CCDataParser
-draws r = record { line = itemLine (saysWith itemValues (itemFrom r)) (packetBeside (itemFrom r)); next = drawn r .parser }
+draws r = record { line = itemLine (saysWith itemValues (itemFrom r)) (packetBeside (itemFrom r)); next = drawn r }
 
 -- "one frame written to out L"
 abbrev pub wrote : Framerate → List ℕ → CCDataWriter → Effect CCDataWriter

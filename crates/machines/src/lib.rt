@@ -8,8 +8,7 @@ ghost use Rattle.caption.specs.Answers.{saidAnswer};
 ghost use Rattle.caption.specs.Pairs.{cea608Of};
 ghost use Rattle.packet.specs.Packet.{packetOf, validDTVCC};
 ghost use Rattle.parser.specs.Fresh.{fresh as freshParser};
-ghost use Rattle.parser.specs.Means.{saidPush, saidCall, afterCall, turnedOn};
-ghost use Rattle.parser.specs.Push.{pushed as pushedFrame};
+ghost use Rattle.parser.specs.Calls.{saidPush, saidCall, afterCall, turnedOn, pushed as pushedFrame};
 ghost use Rattle.writer.specs.Calls.{fresh as freshWriter, withPadding, flushed, pushedPacket, pushedTo, written};
 ghost use Rattle.writer.specs.Writer.{means, validWriter};
 ghost use Rattle.answers.specs.Steps.{Did, tells, changes, becomes};
@@ -46,7 +45,7 @@ fn told_parser(out: &mut [u8], at: usize, done: ParserAnswer) -> OnParser
 
 // A frame pushed.
 pub fn push_frame(out: &mut [u8], at: usize, before: CCDataParser, frame: &[u8]) -> OnParser
-    ensures { λ r. ⌜ Did (tells (saidPush before (now (frame .entry))) (pushedFrame before (now (frame .entry)) .parser)) (now (out .entry)) at (r .laid) (r .parser) (now (out .exit)) ⌝ }
+    ensures { λ r. ⌜ Did (tells (saidPush before (now (frame .entry))) (pushedFrame before (now (frame .entry)))) (now (out .entry)) at (r .laid) (r .parser) (now (out .exit)) ⌝ }
 {
     told_parser(out, at, before.push(frame))
 }

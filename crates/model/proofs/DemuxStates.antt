@@ -12,7 +12,7 @@ use borrow.Author.Tests.{eq-eqb, le-leb, lt-ltb, eqb-true, eqb-false, leb-true, 
 use Rattle.model.specs.Said.{Outcome, gave, refused}
 use Rattle.model.specs.Packet.{Packet, packetSize, readPacket, validPacket, allPackets}
 use Rattle.model.specs.Frame.{Cea608, Seen, first, second, start, more, void608, void708, seenAll, triplesIn, countIn}
-use Rattle.model.specs.Demux.{Demux, Gathered, Taken, validPending, validDemux, freshDemux, turn608On, flushDemux, pairsIn, lateFrom, carries708, givenIn, closed, wants, gather, ended, gathered, takeGathered, takeTriples, unread, takeFrame, withPairs, draw}
+use Rattle.model.specs.Demux.{Demux, Gathered, Taken, validPending, validDemux, freshDemux, turn608On, flushDemux, pairsIn, lateFrom, carries708, givenIn, closed, packetsOf, wants, gather, ended, gathered, takeGathered, takeTriples, unread, takeFrame, withPairs, draw}
 use Rattle.model.proofs.Cases.{by-test, by-cond, both, and-both}
 use Rattle.model.proofs.Packets.{facts-valid, all-append}
 use Rattle.model.proofs.Limits.{plain-valid}
@@ -68,12 +68,12 @@ draw-valid d e = let f = demux-facts d e in by-items (d .on608) (d .pairs) (d .p
     by-items on [] pending [] f = facts-demux _ (record { pairs = omega arith; waiting = omega arith; packets = refl; pending = f .pending })
 
 -- a size is even,
-size-even : (h : ℕ) → packetSize h % 2 ≡ 0
+pub size-even : (h : ℕ) → packetSize h % 2 ≡ 0
 unfolding packetSize
 size-even h = by-cond (λ n. n % 2 ≡ 0) (eqb (h % 64) 0) (λ _. omega arith) (λ _. omega arith)
 
 -- and has at least two bytes
-size-least : (h : ℕ) → 2 ≤ packetSize h
+pub size-least : (h : ℕ) → 2 ≤ packetSize h
 unfolding packetSize
 size-least h = by-cond (λ n. 2 ≤ n) (eqb (h % 64) 0) (λ _. omega arith) (λ e. omega (arith, eqb-false (h % 64) 0 e))
 
@@ -87,7 +87,7 @@ gathering-none : (g : List ℕ) → length g ≡ 0 → Gathering g
 gathering-none g z = record { even = omega arith; most = omega arith }
 
 -- pending bytes are
-pending-gathering : (g : List ℕ) → validPending g ≡ true → Gathering g
+pub pending-gathering : (g : List ℕ) → validPending g ≡ true → Gathering g
 unfolding validPending
 pending-gathering g e =
     by-test (eqb (length g) 0)
@@ -104,7 +104,7 @@ gathering-pending g k w =
     simp (z, eq-eqb (length g % 2) 0 (k .even), lt-ltb (length g) (packetSize (getD g 0 0)) (omega arith)))
 
 -- one more triple's bytes, as many as are wanted, are gathered behind those that were
-gathering-more : (g : List ℕ) (a b : ℕ) → Gathering g → Gathering (g ++ take (wants g) (a ∷ b ∷ []))
+pub gathering-more : (g : List ℕ) (a b : ℕ) → Gathering g → Gathering (g ++ take (wants g) (a ∷ b ∷ []))
 unfolding wants
 gathering-more g a b k =
     by-test (eqb (length g) 0)
@@ -119,7 +119,7 @@ gathering-more g a b k =
     (record { even = rw length-append (omega (arith, k .even)); most = rw (length-append, head) (omega arith) })))
 
 -- a start's two bytes are gathered
-gathering-start : (a b : ℕ) → Gathering (take (packetSize a) (a ∷ b ∷ []))
+pub gathering-start : (a b : ℕ) → Gathering (take (packetSize a) (a ∷ b ∷ []))
 gathering-start a b = rw (take-all (packetSize a) (a ∷ b ∷ []) (size-least a)) (record { even = refl; most = size-least a })
 
 -- closed bytes become a packet within its limits, or none
@@ -131,44 +131,36 @@ closed-valid g = by-reading (readPacket g) refl
     by-reading (gave p) e = and-both _ _ (facts-valid p (plain-valid g e)) refl
     by-reading (refused why) e = refl
 
--- what is gathered on the way: packets within their limits, and bytes as above
-record Right (o : Gathered) : Type 0 where
-  packets : allPackets validPacket (o .packets) ≡ true
-  bytes : Gathering (o .bytes)
+-- and so do runs of bytes
+pub packets-valid : (gs : List (List ℕ)) → allPackets validPacket (packetsOf gs) ≡ true
+unfolding packetsOf allPackets
+packets-valid [] = refl
+packets-valid (g ∷ gs) = all-append validPacket (closed g) (packetsOf gs) (closed-valid g) (packets-valid gs)
 
 -- triples are gathered so
-gather-right : (g : List ℕ) (ts : List Seen) → Gathering g → Right (gather g ts)
-unfolding gather allPackets
-gather-right g [] k = record { packets = refl; bytes = k }
-gather-right g (start a b ∷ ts) k =
-    let r = gather-right (take (packetSize a) (a ∷ b ∷ [])) ts (gathering-start a b) in
-    record { packets = all-append validPacket (closed g) _ (closed-valid g) (r .packets); bytes = r .bytes }
+gather-right : (g : List ℕ) (ts : List Seen) → Gathering g → Gathering (gather g ts .bytes)
+unfolding gather
+gather-right g [] k = k
+gather-right g (start a b ∷ ts) k = gather-right (take (packetSize a) (a ∷ b ∷ [])) ts (gathering-start a b)
 gather-right g (more a b ∷ ts) k = gather-right (g ++ take (wants g) (a ∷ b ∷ [])) ts (gathering-more g a b k)
 gather-right g (first a b ∷ ts) k = gather-right g ts k
 gather-right g (second a b ∷ ts) k = gather-right g ts k
 gather-right g (void608 ∷ ts) k = gather-right g ts k
 gather-right g (void708 ∷ ts) k = gather-right g ts k
 
--- what a frame delivers, and the bytes that it leaves pending
-pub record Delivers (o : Gathered) : Type 0 where
-  pub packets : allPackets validPacket (o .packets) ≡ true
-  pub pending : validPending (o .bytes) ≡ true
-
--- at the frame's end
-ended-delivers : (o : Gathered) → Right o → Delivers (ended o)
+-- at the frame's end those that want more are pending
+ended-pending : (o : Gathered) → Gathering (o .bytes) → validPending (ended o .bytes) ≡ true
 unfolding ended validPending
-ended-delivers o r =
-    by-cond Delivers (eqb (wants (o .bytes)) 0)
-    (λ _. record { packets = all-append validPacket (o .packets) _ (r .packets) (closed-valid (o .bytes)); pending = refl })
-    (λ e. record { packets = r .packets; pending = gathering-pending (o .bytes) (r .bytes) (eqb-false _ _ e) })
+ended-pending o r =
+    by-cond (λ (x : Gathered). validPending (x .bytes) ≡ true) (eqb (wants (o .bytes)) 0) (λ _. refl) (λ e. gathering-pending (o .bytes) r (eqb-false _ _ e))
 
 -- pending bytes that are kept or gathered to
-pub gathered-delivers : (pending : List ℕ) (ts : List Seen) → validPending pending ≡ true → Delivers (gathered pending ts)
-unfolding gathered allPackets
-gathered-delivers pending ts v =
-    by-cond Delivers (carries708 ts)
-    (λ _. ended-delivers (gather pending ts) (gather-right pending ts (pending-gathering pending v)))
-    (λ _. record { packets = refl; pending = v })
+pub gathered-pending : (pending : List ℕ) (ts : List Seen) → validPending pending ≡ true → validPending (gathered pending ts .bytes) ≡ true
+unfolding gathered
+gathered-pending pending ts v =
+    by-cond (λ (x : Gathered). validPending (x .bytes) ≡ true) (carries708 ts)
+    (λ _. ended-pending (gather pending ts) (gather-right pending ts (pending-gathering pending v)))
+    (λ _. v)
 
 -- no more triples than there are bytes for
 triples-few : (d : List ℕ) → 3 * length (seenAll (triplesIn d)) ≤ length d
@@ -189,23 +181,23 @@ module _ (d : Demux) (f : DemuxLimits d) where
   relisted ps h = facts-demux (withPairs ps d) (record { pairs = kept-pairs (d .on608) ps h; waiting = f .waiting; packets = f .packets; pending = f .pending })
 
   -- what is gathered is taken, or 10
-  taken-gathered : (ps : List Cea608) (o : Gathered) → length ps ≤ 31 → Delivers o → validDemux (takeGathered ps o d .next) ≡ true
+  taken-gathered : (ps : List Cea608) (o : Gathered) → length ps ≤ 31 → validPending (o .bytes) ≡ true → validDemux (takeGathered ps o d .next) ≡ true
   unfolding takeGathered
   taken-gathered ps o h k =
-      by-cond (λ (t : Taken). validDemux (t .next) ≡ true) (ltb 32 (length (d .waiting) + length (o .packets)))
+      by-cond (λ (t : Taken). validDemux (t .next) ≡ true) (ltb 32 (length (d .waiting) + length (packetsOf (o .runs))))
       (λ _. facts-demux d f)
       (λ e. facts-demux _ (record {
         pairs = kept-pairs (d .on608) ps h;
-        waiting = rw length-append (ltb-false 32 (length (d .waiting) + length (o .packets)) e);
-        packets = all-append validPacket (d .waiting) (o .packets) (f .packets) (k .packets);
-        pending = k .pending;
+        waiting = rw length-append (ltb-false 32 (length (d .waiting) + length (packetsOf (o .runs))) e);
+        packets = all-append validPacket (d .waiting) (packetsOf (o .runs)) (f .packets) (packets-valid (o .runs));
+        pending = k;
       }))
 
   -- the triples of a frame
   taken-triples : (ts : List Seen) (late : Option ℕ) → length ts ≤ 31 → validDemux (takeTriples ts late d .next) ≡ true
   unfolding takeTriples
   taken-triples ts (some at) h = relisted (pairsIn ts) (omega (arith, few-pairs ts))
-  taken-triples ts none h = taken-gathered (pairsIn ts) (gathered (d .pending) ts) (omega (arith, few-pairs ts)) (gathered-delivers (d .pending) ts (f .pending))
+  taken-triples ts none h = taken-gathered (pairsIn ts) (gathered (d .pending) ts) (omega (arith, few-pairs ts)) (gathered-pending (d .pending) ts (f .pending))
 
 -- any bytes fed as a frame
 pub take-valid : (f : List ℕ) (d : Demux) → validDemux d ≡ true → validDemux (takeFrame f d .next) ≡ true

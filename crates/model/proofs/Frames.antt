@@ -1,21 +1,21 @@
 -- What reading a frame does in each of document 01's cases. Assumes nothing.
-use mathlib.Core.Path.{_≡_, refl, ap}
-use mathlib.Core.Bool.{true, false, cond}
-use mathlib.Core.List.{List, [], _∷_, _++_}
+use mathlib.Core.Path.{_≡_, refl, sym, ap}
+use mathlib.Core.Bool.{true, false, cond, true≢false, false≢true}
+use mathlib.Core.List.{List, [], _∷_, _++_, append-assoc, append-nil}
 use mathlib.Core.Option.{some}
 use Prim.Native.Nat.{ℕ, _+_, _*_, _≤_, _<_}
 use native.Mathlib.Omega.{arith}
 use lib.Dec.{eqb}
 use lib.ListN.{length, getD, take, drop, length-append}
 use borrow.Author.Tests.{eq-eqb, ne-eqb, lt-ltb, le-ltb}
-use Rattle.model.specs.Said.{Outcome, gave, refused, accepted, lengthMismatch, full}
-use Rattle.model.specs.Packet.{Packet, packetSize, readPacket}
+use Rattle.model.specs.Said.{Outcome, gave, refused, isGiven, accepted, lengthMismatch, full}
+use Rattle.model.specs.Packet.{Packet, packetSize, readPacket, reads}
 use Rattle.model.specs.Frame.{Triple, tri, Cea608, Seen, first, second, start, more, void608, void708, seenAll, triplesIn, flat, flagged, countIn, Frame, frameBytes, mostFrame}
-use Rattle.model.specs.Demux.{Demux, Gathered, withPairs, pairsIn, lateFrom, carries708, givenIn, closed, wants, gather, ended, gathered, takeGathered, takeTriples, unread, takeFrame}
-use Rattle.model.proofs.Cases.{by-cond}
+use Rattle.model.specs.Demux.{Demux, Gathered, withPairs, pairsIn, lateFrom, carries708, givenIn, closed, packetsOf, kept, wants, gather, ended, gathered, takeGathered, takeTriples, unread, takeFrame}
+use Rattle.model.proofs.Cases.{by-test, by-cond}
 
 -- "accepted with nothing further done"
-pub take-unread : (f : List ℕ) (d : Demux) → unread f ≡ true → takeFrame f d ≡ record { answer = accepted []; next = withPairs [] d }
+pub take-unread : (f : List ℕ) (d : Demux) → unread f ≡ true → takeFrame f d ≡ record { answer = accepted []; runs = []; next = withPairs [] d }
 unfolding takeFrame
 take-unread f d e = simp e
 
@@ -42,7 +42,7 @@ module _ (n : ℕ) (f : List ℕ) (d : Demux) (a : Announces n f) where
   read-it = simp (le-ltb _ _ (a .bytes), a .flag, a .count, ne-eqb n 0 (λ e. omega (arith, a .some)))
 
   -- "length other than 3n+2 is refused with 1, *expected 3n+1*"
-  pub take-mismatch : (length f ≡ 3 * n + 2 → ⊥) → takeFrame f d ≡ record { answer = lengthMismatch (3 * n + 1) (length f); next = withPairs [] d }
+  pub take-mismatch : (length f ≡ 3 * n + 2 → ⊥) → takeFrame f d ≡ record { answer = lengthMismatch (3 * n + 1) (length f); runs = []; next = withPairs [] d }
   unfolding takeFrame
   take-mismatch ne = simp (read-it, a .count, ne-eqb _ _ ne)
 
@@ -54,15 +54,16 @@ module _ (n : ℕ) (f : List ℕ) (d : Demux) (a : Announces n f) where
 -- "Full exactly if waiting packets plus those this frame would deliver exceed 32"
 module _ (ps : List Cea608) (o : Gathered) (d : Demux) where
   -- it is full
-  pub take-full : 32 < length (d .waiting) + length (o .packets) → takeGathered ps o d ≡ record { answer = full; next = d }
+  pub take-full : 32 < length (d .waiting) + length (packetsOf (o .runs)) → takeGathered ps o d ≡ record { answer = full; runs = []; next = d }
   unfolding takeGathered
   take-full h = simp (lt-ltb _ _ h)
 
   -- it is not
-  pub take-room : length (d .waiting) + length (o .packets) ≤ 32
+  pub take-room : length (d .waiting) + length (packetsOf (o .runs)) ≤ 32
       → takeGathered ps o d ≡ record {
         answer = accepted [];
-        next = record { on608 = d .on608; pairs = cond (d .on608) ps []; pending = o .bytes; waiting = d .waiting ++ o .packets };
+        runs = o .runs;
+        next = record { on608 = d .on608; pairs = cond (d .on608) ps []; pending = o .bytes; waiting = d .waiting ++ packetsOf (o .runs) };
       }
   unfolding takeGathered
   take-room h = simp (le-ltb _ _ h)
@@ -78,22 +79,87 @@ few-pairs (start a b ∷ ts) = omega arith
 few-pairs (more a b ∷ ts) = omega arith
 few-pairs (void708 ∷ ts) = omega arith
 
--- at most one packet is closed at a time
-closed-one : (g : List ℕ) → length (closed g) ≤ 1
-unfolding closed
-closed-one g = at-most (readPacket g)
+-- one run more
+pub packets-append : (gs hs : List (List ℕ)) → packetsOf (gs ++ hs) ≡ packetsOf gs ++ packetsOf hs
+unfolding packetsOf
+packets-append [] hs = refl
+packets-append (g ∷ gs) hs = rw (packets-append gs hs) (sym (append-assoc (closed g) (packetsOf gs) (packetsOf hs)))
+
+-- bytes that read are one packet,
+pub closed-one : (g : List ℕ) → reads g ≡ true → length (closed g) ≡ 1
+unfolding closed reads
+closed-one g = by (readPacket g)
   where
-    at-most : (o : Outcome Packet) → length (givenIn o) ≤ 1
-    at-most (gave p) = omega arith
-    at-most (refused why) = omega arith
+    by : (o : Outcome Packet) → isGiven o ≡ true → length (givenIn o) ≡ 1
+    by (gave p) e = refl
+    by (refused why) e = absurd (false≢true e)
+
+-- and others none
+closed-none : (g : List ℕ) → reads g ≡ false → closed g ≡ []
+unfolding closed reads
+closed-none g = by (readPacket g)
+  where
+    by : (o : Outcome Packet) → isGiven o ≡ false → givenIn o ≡ []
+    by (gave p) e = absurd (true≢false e)
+    by (refused why) e = refl
+
+-- what is kept of bytes is their packet
+pub packets-kept : (g : List ℕ) → packetsOf (kept g) ≡ closed g
+unfolding packetsOf kept
+packets-kept g = by-test (reads g) (λ e. rw (e, append-nil (closed g))) (λ e. rw (e, closed-none g e))
+
+-- each of these runs is a packet
+pub data Read : List (List ℕ) → Type 0 where
+  none : Read []
+  also : {g : List ℕ} {gs : List (List ℕ)} → reads g ≡ true → Read gs → Read (g ∷ gs)
+
+-- so that there are as many
+pub packets-many : {gs : List (List ℕ)} → Read gs → length (packetsOf gs) ≡ length gs
+unfolding packetsOf
+packets-many none = refl
+packets-many (also {g} {gs} e r) = omega (arith, length-append (closed g) (packetsOf gs), closed-one g e, packets-many r)
+
+-- runs before others
+read-append : {gs hs : List (List ℕ)} → Read gs → Read hs → Read (gs ++ hs)
+read-append none k = k
+read-append (also e r) k = also e (read-append r k)
+
+-- what is kept of bytes reads
+read-kept : (g : List ℕ) → Read (kept g)
+unfolding kept
+read-kept g = by-test (reads g) (λ e. rw e (also e none)) (λ e. rw e none)
+
+-- so do all runs that are gathered
+gather-read : (g : List ℕ) (ts : List Seen) → Read (gather g ts .runs)
+unfolding gather
+gather-read g [] = none
+gather-read g (start a b ∷ ts) = read-append (read-kept g) (gather-read (take (packetSize a) (a ∷ b ∷ [])) ts)
+gather-read g (more a b ∷ ts) = gather-read (g ++ take (wants g) (a ∷ b ∷ [])) ts
+gather-read g (first a b ∷ ts) = gather-read g ts
+gather-read g (second a b ∷ ts) = gather-read g ts
+gather-read g (void608 ∷ ts) = gather-read g ts
+gather-read g (void708 ∷ ts) = gather-read g ts
+
+-- and those of a whole frame
+pub gathered-read : (pending : List ℕ) (ts : List Seen) → Read (gathered pending ts .runs)
+unfolding gathered ended
+gathered-read pending ts =
+    by-cond (λ (o : Gathered). Read (o .runs)) (carries708 ts)
+    (λ _. let o = gather pending ts in by-cond (λ (x : Gathered). Read (x .runs)) (eqb (wants (o .bytes)) 0) (λ _. read-append (gather-read pending ts) (read-kept (o .bytes))) (λ _. gather-read pending ts))
+    (λ _. none)
+
+-- at most one run is kept at a time
+kept-one : (g : List ℕ) → length (kept g) ≤ 1
+unfolding kept
+kept-one g = by-cond (λ (l : List (List ℕ)). length l ≤ 1) (reads g) (λ _. omega arith) (λ _. omega arith)
 
 -- at most one a triple
-gather-few : (g : List ℕ) (ts : List Seen) → length (gather g ts .packets) ≤ length ts
+gather-few : (g : List ℕ) (ts : List Seen) → length (gather g ts .runs) ≤ length ts
 unfolding gather
 gather-few g [] = omega arith
 gather-few g (start a b ∷ ts) =
     let g′ : List ℕ = take (packetSize a) (a ∷ b ∷ []) in
-    omega (arith, gather-few g′ ts, closed-one g, length-append (closed g) (gather g′ ts .packets))
+    omega (arith, gather-few g′ ts, kept-one g, length-append (kept g) (gather g′ ts .runs))
 gather-few g (more a b ∷ ts) = omega (arith, gather-few (g ++ take (wants g) (a ∷ b ∷ [])) ts)
 gather-few g (first a b ∷ ts) = omega (arith, gather-few g ts)
 gather-few g (second a b ∷ ts) = omega (arith, gather-few g ts)
@@ -101,18 +167,22 @@ gather-few g (void608 ∷ ts) = omega (arith, gather-few g ts)
 gather-few g (void708 ∷ ts) = omega (arith, gather-few g ts)
 
 -- one more at the frame's end
-ended-few : (o : Gathered) → length (ended o .packets) ≤ length (o .packets) + 1
+ended-few : (o : Gathered) → length (ended o .runs) ≤ length (o .runs) + 1
 unfolding ended
 ended-few o =
-    by-cond (λ (g : Gathered). length (g .packets) ≤ length (o .packets) + 1) (eqb (wants (o .bytes)) 0)
-    (λ _. omega (arith, closed-one (o .bytes), length-append (o .packets) (closed (o .bytes)))) (λ _. omega arith)
+    by-cond (λ (g : Gathered). length (g .runs) ≤ length (o .runs) + 1) (eqb (wants (o .bytes)) 0)
+    (λ _. omega (arith, kept-one (o .bytes), length-append (o .runs) (kept (o .bytes)))) (λ _. omega arith)
 
--- a frame delivers at most one packet a triple and one at its end
-pub few-packets : (pending : List ℕ) (ts : List Seen) → length (gathered pending ts .packets) ≤ length ts + 1
+-- a frame delivers at most one run a triple and one at its end
+few-runs : (pending : List ℕ) (ts : List Seen) → length (gathered pending ts .runs) ≤ length ts + 1
 unfolding gathered
-few-packets pending ts =
-    by-cond (λ (g : Gathered). length (g .packets) ≤ length ts + 1) (carries708 ts)
+few-runs pending ts =
+    by-cond (λ (g : Gathered). length (g .runs) ≤ length ts + 1) (carries708 ts)
     (λ _. omega (arith, ended-few (gather pending ts), gather-few pending ts)) (λ _. omega arith)
+
+-- and so many packets
+pub few-packets : (pending : List ℕ) (ts : List Seen) → length (packetsOf (gathered pending ts .runs)) ≤ length ts + 1
+few-packets pending ts = omega (arith, few-runs pending ts, packets-many (gathered-read pending ts))
 
 -- triples and their bytes
 pub unflat : (ts : List Triple) → triplesIn (flat ts) ≡ ts

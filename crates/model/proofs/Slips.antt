@@ -8,9 +8,9 @@ use lib.ListN.{replicate}
 use Rattle.model.specs.Said.{Said, Outcome, gave, checked, putInto}
 use Rattle.model.specs.Said as said
 use Rattle.model.specs.Block.{Block, headerLength, numberIn, needed, isShort, blockIn, readBlock, newBlock, pushToBlock, writtenHeader, writtenBlock, blockLength}
-use Rattle.model.specs.Packet.{Packet, packetSize, plainMove, blocksFrom, readBy, readPacket, blocksLength, packetLength, pushBlock, latestOf, pushNew, pushAt, pushRunAt, pushRunBy, pushRun, pushRunSingle}
+use Rattle.model.specs.Packet.{Packet, packetSize, plainMove, blocksFrom, readBy, readPacket, reads, blocksLength, packetLength, pushBlock, latestOf, pushNew, pushAt, pushRunAt, pushRunBy, pushRun, pushRunSingle}
 use Rattle.model.specs.Frame.{Pair, pair, Cea608, field1, field2, seen, seenAll, triplesIn, flagged}
-use Rattle.model.specs.Demux.{turn608On, freshDemux, pairsIn, lateAfter, lateFrom, carries708, closed, wants, gather, ended, gathered, takeGathered, takeTriples, unread, takeFrame}
+use Rattle.model.specs.Demux.{turn608On, freshDemux, pairsIn, lateAfter, lateFrom, carries708, closed, packetsOf, kept, wants, gather, ended, gathered, takeGathered, takeTriples, unread, takeFrame}
 use Rattle.model.specs.Rate.{rounded, budgets}
 use Rattle.model.specs.Mux.{Mux, freshMux, withPackets, queued, isNull, pushPair}
 use Rattle.model.specs.Duration.{ceil, pairsDuration, lengthsOf, bytesLeft, bytesDuration, packetDuration}
@@ -28,8 +28,8 @@ halves = (0xC1 ∷ 0xFF ∷ 0xFF ∷ 0x02 ∷ 0x21 ∷ []) ∷ (0xC1 ∷ 0xFF �
 -- a frame of 608 data keeps the bytes that are pending: the packet comes whole, and so does the pair
 pub pending-kept : given halves .packets ≡ one 0 1 (0x41 ∷ []) ∷ []
 unfolding
-    headerLength numberIn needed isShort blockIn readBlock packetSize plainMove blocksFrom readBy readPacket writtenHeader writtenBlock blockLength
-    seen seenAll triplesIn flagged pairsIn lateAfter lateFrom carries708 closed wants gather ended gathered takeGathered takeTriples unread takeFrame readFrames
+    headerLength numberIn needed isShort blockIn readBlock packetSize plainMove blocksFrom readBy readPacket reads writtenHeader writtenBlock blockLength
+    seen seenAll triplesIn flagged pairsIn lateAfter lateFrom carries708 closed packetsOf kept wants gather ended gathered takeGathered takeTriples unread takeFrame readFrames
 pending-kept = refl
 
 -- a triple that is not valid ends the 608 part, so that a pair before it is listed and one behind it is not

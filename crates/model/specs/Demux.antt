@@ -6,7 +6,7 @@ use Prim.Native.Nat.{ℕ, suc, _+_, _-_, _*_, _%_}
 use lib.Dec.{eqb, leb, ltb}
 use lib.ListN.{length, getD, take, drop}
 use Rattle.model.specs.Said.{Said, Outcome, gave, refused, accepted, lengthMismatch, cea608AfterCea708, full}
-use Rattle.model.specs.Packet.{Packet, packetSize, readPacket, validPacket, allPackets}
+use Rattle.model.specs.Packet.{Packet, packetSize, readPacket, reads, validPacket, allPackets}
 use Rattle.model.specs.Frame.{pair, Cea608, field1, field2, Seen, first, second, start, more, void608, void708, seenAll, triplesIn, flagged, countIn}
 
 -- whether 608 is on, the pairs of the last frame, the bytes of a packet that is not complete, the packets not yet drawn
@@ -89,9 +89,9 @@ carries708 (start a b ∷ ts) = true
 carries708 (more a b ∷ ts) = true
 carries708 (void708 ∷ ts) = carries708 ts
 
--- the packets that a frame delivers, and the bytes gathered of the next
+-- the runs of bytes that become the packets that a frame delivers, and the bytes gathered of the next
 pub record Gathered : Type 0 where
-  pub packets : List Packet
+  pub runs : List (List ℕ)
   pub bytes : List ℕ
 
 -- the packet that a reading gives, or none
@@ -99,23 +99,32 @@ abbrev pub givenIn : Outcome Packet → List Packet
 givenIn (gave p) = p ∷ []
 givenIn (refused why) = []
 
--- the bytes gathered, "which become a packet if they read as one and vanish otherwise"
+-- the packet of a run of bytes, "if they read as one"
 unfoldable pub closed : List ℕ → List Packet
 closed g = givenIn (readPacket g)
+
+-- the packets of runs, one after the other
+unfoldable pub packetsOf : List (List ℕ) → List Packet
+packetsOf [] = []
+packetsOf (g ∷ gs) = closed g ++ packetsOf gs
+
+-- the bytes gathered, "which become a packet if they read as one and vanish otherwise"
+unfoldable pub kept : List ℕ → List (List ℕ)
+kept g = cond (reads g) (g ∷ []) []
 
 -- how many bytes are still wanted where g is gathered: up to the size that the first byte gives, and none before any start
 unfoldable pub wants : List ℕ → ℕ
 wants g = cond (eqb (length g) 0) 0 (packetSize (getD g 0 0) - length g)
 
--- packets delivered before those that are gathered next
-abbrev pub delivered : List Packet → Gathered → Gathered
-delivered ps o = record { packets = ps ++ o .packets; bytes = o .bytes }
+-- runs before those that are gathered next
+abbrev pub delivered : List (List ℕ) → Gathered → Gathered
+delivered gs o = record { runs = gs ++ o .runs; bytes = o .bytes }
 
 -- "A valid type 3 triple closes the bytes gathered so far .. and starts a new packet of its header's size; bytes beyond that size, or before any
 -- start, are ignored."
 unfoldable pub gather : List ℕ → List Seen → Gathered
-gather g [] = record { packets = []; bytes = g }
-gather g (start a b ∷ ts) = delivered (closed g) (gather (take (packetSize a) (a ∷ b ∷ [])) ts)
+gather g [] = record { runs = []; bytes = g }
+gather g (start a b ∷ ts) = delivered (kept g) (gather (take (packetSize a) (a ∷ b ∷ [])) ts)
 gather g (more a b ∷ ts) = gather (g ++ take (wants g) (a ∷ b ∷ [])) ts
 gather g (first a b ∷ ts) = gather g ts
 gather g (second a b ∷ ts) = gather g ts
@@ -124,15 +133,16 @@ gather g (void708 ∷ ts) = gather g ts
 
 -- "At the frame's end a complete packet is read likewise; an incomplete one waits."
 unfoldable pub ended : Gathered → Gathered
-ended o = cond (eqb (wants (o .bytes)) 0) (record { packets = o .packets ++ closed (o .bytes); bytes = [] }) o
+ended o = cond (eqb (wants (o .bytes)) 0) (record { runs = o .runs ++ kept (o .bytes); bytes = [] }) o
 
 -- "With no valid type 2 or 3 triple, pending bytes are kept."
 unfoldable pub gathered : List ℕ → List Seen → Gathered
-gathered pending ts = cond (carries708 ts) (ended (gather pending ts)) (record { packets = []; bytes = pending })
+gathered pending ts = cond (carries708 ts) (ended (gather pending ts)) (record { runs = []; bytes = pending })
 
--- what a frame answers, and the demultiplexer afterwards
+-- what a frame answers, the runs of bytes of the packets that it delivers, and the demultiplexer afterwards
 pub record Taken : Type 0 where
   pub answer : Said
+  pub runs : List (List ℕ)
   pub next : Demux
 
 -- the demultiplexer with another list of pairs; without 608 there is none
@@ -142,15 +152,16 @@ withPairs ps d = record { on608 = d .on608; pairs = cond (d .on608) ps []; pendi
 -- "Full exactly if waiting packets plus those this frame would deliver exceed 32": it "changes nothing, the list included".
 unfoldable pub takeGathered : List Cea608 → Gathered → Demux → Taken
 takeGathered ps o d =
-    cond (ltb mostWaiting (length (d .waiting) + length (o .packets))) (record { answer = full; next = d })
+    cond (ltb mostWaiting (length (d .waiting) + length (packetsOf (o .runs)))) (record { answer = full; runs = []; next = d })
     (record {
       answer = accepted [];
-      next = record { on608 = d .on608; pairs = cond (d .on608) ps []; pending = o .bytes; waiting = d .waiting ++ o .packets };
+      runs = o .runs;
+      next = record { on608 = d .on608; pairs = cond (d .on608) ps []; pending = o .bytes; waiting = d .waiting ++ packetsOf (o .runs) };
     })
 
 -- "one refused with 2 leaves in it the pairs before the offending triple (when 608 is on)"
 unfoldable pub takeTriples : List Seen → Option ℕ → Demux → Taken
-takeTriples ts (some at) d = record { answer = cea608AfterCea708 at; next = withPairs (pairsIn ts) d }
+takeTriples ts (some at) d = record { answer = cea608AfterCea708 at; runs = []; next = withPairs (pairsIn ts) d }
 takeTriples ts none d = takeGathered (pairsIn ts) (gathered (d .pending) ts) d
 
 -- "under 5 bytes, flag 0x40 clear, or count (low five bits) 0 is accepted with nothing further done"
@@ -163,9 +174,9 @@ unfoldable pub takeFrame : List ℕ → Demux → Taken
 takeFrame f d =
     let n = countIn (getD f 0 0) in
     let ts = seenAll (triplesIn (drop 2 f)) in
-    cond (unread f) (record { answer = accepted []; next = withPairs [] d })
+    cond (unread f) (record { answer = accepted []; runs = []; next = withPairs [] d })
     (cond (eqb (length f) (3 * n + 2)) (takeTriples ts (lateFrom 0 ts) d)
-    (record { answer = lengthMismatch (3 * n + 1) (length f); next = withPairs [] d }))
+    (record { answer = lengthMismatch (3 * n + 1) (length f); runs = []; next = withPairs [] d }))
 
 -- "An item drawn out is a packet or a pair"; "with none left it says so"
 pub data Item : Type 0 where

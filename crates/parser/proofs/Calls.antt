@@ -1,46 +1,58 @@
 -- What the public calls answer, and what they keep. Assumes nothing.
 use mathlib.Core.Path.{_≡_, refl, sym, ap, _∙_}
 use mathlib.Core.List.{List, map}
-use mathlib.Core.Bool.{Bool, true, false}
-use Prim.Native.Nat.{ℕ, zero, suc}
+use mathlib.Core.Bool.{Bool, true, false, true≢false}
+use Prim.Native.Nat.{ℕ}
 use lib.ListN.{length, length-map}
 use Rattle.caption.specs.declared.Answer.the-variants.{Accepted}
 use Rattle.caption.specs.declared.Counted.the-variants as counted
 use Rattle.caption.specs.declared.Refusal.the-variants.{BadValue}
 use Rattle.caption.specs.Answers.{saidAnswer, saidCounted}
 use Rattle.model.specs.Said.{measured}
-use Rattle.triples.specs.Pairs.{pairsOf}
-use Rattle.parser.specs.Valid.{countsOf, valid}
-use Rattle.parser.specs.Means.{means, Shaped, Answers, saidPush, saidCall, afterCall}
-use Rattle.parser.specs.Push.{fed, refusedFor, pushed}
+use Rattle.model.specs.Demux.{Demux}
+use Rattle.triples.specs.Pairs.{placedAll}
+use Rattle.parser.specs.Means.{means, Shaped}
+use Rattle.parser.specs.Valid.{valid}
+use Rattle.parser.specs.Calls.{Answers, saidCall, afterCall, laidIn, turnedOn}
+use Rattle.parser.specs.Push.{fed, refusedFor}
 use Rattle.parser.specs.declared.CCDataParser.{CCDataParser}
 use Rattle.parser.specs.declared.ParserAnswer.{ParserAnswer}
-use Rattle.parser.proofs.Valids.{fine-facts}
-use Rattle.parser.proofs.Told.{said-pushed, waiting-count}
+use Rattle.parser.proofs.Valids.{valid-fine, pairs-length, waiting-count}
+use Rattle.parser.proofs.Laid.{pending-many, pending-same}
 
 -- the length of an array of slots
 pub length-mapped : {A B : Type 0} (f : A → B) (l : List A) (n : ℕ) → length (map f l) ≡ n → length l ≡ n
 length-mapped f l n e = sym (length-map l f) ∙ e
 
--- a frame
-pub pushed-answers : (p : CCDataParser) (f : List ℕ) (r : ParserAnswer) → Shaped p → r ≡ pushed p f → Answers (saidPush p f) (pushed p f .parser) r
-pushed-answers p f r s e = record { answer = ap (λ (x : ParserAnswer). saidAnswer (x .answer)) e ∙ said-pushed p f s; parser = ap (λ (x : ParserAnswer). x .parser) e }
-
 -- a call that is accepted, or refused with 11
-module _ (p q : CCDataParser) (b : Bool) (tested : b ≡ valid p) where
+module _ (p : CCDataParser) (b : Bool) (tested : b ≡ valid p) (q : CCDataParser) (d : Demux) where
   -- accepted
-  pub call-accepted : (n : CCDataParser) → b ≡ true → n ≡ q → Answers (saidCall p) (afterCall p q) (record { answer = Accepted; parser = n })
-  call-accepted n e w = rw (← tested, e) (record { answer = refl; parser = w })
+  pub call-accepted : (n : CCDataParser) → b ≡ true → n ≡ q → means q ≡ d → Answers p (saidCall p) d (afterCall p q) (record { answer = Accepted; parser = n })
+  call-accepted n e w m =
+      let v : valid p ≡ true = sym tested ∙ e in
+      record { answer = rw v; means = λ _. rw w m; places = rw v w }
 
   -- refused
-  pub call-refused : (r : ParserAnswer) → b ≡ false → r ≡ fed (refusedFor BadValue) p → Answers (saidCall p) (afterCall p q) r
-  call-refused r e w = rw (← tested, e, w) (record { answer = refl; parser = refl })
+  pub call-refused : (r : ParserAnswer) → b ≡ false → r ≡ fed (refusedFor BadValue) p → Answers p (saidCall p) d (afterCall p q) r
+  call-refused r e w =
+      let v : valid p ≡ false = sym tested ∙ e in
+      rw w (record { answer = rw v; means = λ t. absurd (true≢false (sym t ∙ v)); places = rw v })
 
--- how many wait
-pub pairs-length : (n : ℕ) (l : List ℕ) → length (pairsOf n l) ≡ n
-unfolding pairsOf
-pairs-length zero l = refl
-pairs-length (suc n) l = ap suc (pairs-length n _)
+-- 608 turned on: one flag and one count
+pub turned-is : (p : CCDataParser) → Shaped p → valid p ≡ true
+    → record {
+      «cea608_on» = true;
+      «pair_count» = 0;
+      pairs = p .pairs;
+      «pending_len» = p .«pending_len»;
+      pending = p .pending;
+      «waiting_first» = p .«waiting_first»;
+      «waiting_count» = p .«waiting_count»;
+      waiting = p .waiting;
+    }
+    ≡ turnedOn p
+unfolding turnedOn laidIn means placedAll
+turned-is p s e = let v = valid-fine p e in rw (pending-many p v s, pending-same p v s, waiting-count p v)
 
 module _ (p : CCDataParser) (b : Bool) (tested : b ≡ valid p) where
   -- the pairs
@@ -50,8 +62,7 @@ module _ (p : CCDataParser) (b : Bool) (tested : b ≡ valid p) where
 
   -- the packets
   pub counts-packets : b ≡ true → saidCounted (counted.Count (p .«waiting_count»)) ≡ measured (valid p) (length (means p .waiting))
-  unfolding means
-  counts-packets e = rw (waiting-count p (fine-facts (countsOf p) (p .pairs) (p .pending) (p .waiting) (sym tested ∙ e))) (rw (← tested, e))
+  counts-packets e = rw (waiting-count p (valid-fine p (sym tested ∙ e))) (rw (← tested, e))
 
   -- of a state outside the limits
   pub counts-refused : (n : ℕ) → b ≡ false → saidCounted (counted.Refused BadValue) ≡ measured (valid p) n

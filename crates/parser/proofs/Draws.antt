@@ -24,9 +24,10 @@ use Rattle.packet.specs.declared.DTVCCPacket.{DTVCCPacket}
 use Rattle.packet.specs.declared.PacketAnswer.{PacketAnswer}
 use Rattle.packet.proofs.Refusals.{accepted-reads, refused-reads}
 use Rattle.slots.specs.declared.Slot.{Slot}
-use Rattle.gather.specs.Ring.{headFine}
+use Rattle.gather.specs.Tests.{headFine}
 use Rattle.gather.proofs.Slots.{slot-long, slot-within}
-use Rattle.parser.specs.Draw.{slid, firstPair, packetAt, placeBehind, Taken, takenBy, takePair, takePacket, takeNone, noneTook, takeItem, takeHead, takeBehind}
+use Rattle.parser.specs.Calls.{placeBehind}
+use Rattle.parser.specs.Take.{slid, firstPair, packetAt, Taken, takenBy, takePair, takePacket, takeNone, noneTook, takeItem, takeHead, takeBehind}
 use Rattle.parser.specs.declared.Counts.{Counts}
 use Rattle.parser.specs.declared.Took.{Took}
 use Rattle.parser.specs.declared.Item.{Item}

@@ -1,87 +1,124 @@
 -- What a caller may rely on: a fresh state is within the limits and every call keeps it there; each call means what the model's does; and
 -- a frame finds a place where nothing waits. Assumes nothing.
-use mathlib.Core.Path.{_≡_, refl, ap, _∙_}
-use mathlib.Core.List.{List}
-use mathlib.Core.Bool.{true, false}
+use mathlib.Core.Path.{_≡_, refl, sym, ap, _∙_}
+use mathlib.Core.List.{List, [], _∷_, map}
+use mathlib.Core.Bool.{Bool, true, false}
 use mathlib.Core.Option.{Option, none, some}
-use Prim.Native.Nat.{ℕ, _+_, _*_, _≤_}
+use Prim.Native.Nat.{ℕ, zero, suc, _+_, _-_, _*_, _%_, _≤_}
 use native.Mathlib.Omega.{arith}
-use lib.ListN.{length, getD}
+use lib.ListN.{length, getD, drop}
 use lib.Dec.{eqb, ltb}
 use borrow.Author.Tests.{eqb-true, le-ltb}
 use Rattle.model.specs.Said.{Said, full}
-use Rattle.model.specs.Frame.{countIn}
+use Rattle.model.specs.Packet.{Packet, allPackets}
+use Rattle.model.specs.Frame.{Cea608, seenAll, triplesIn, countIn}
 use Rattle.model.specs.Demux as model
-use Rattle.model.specs.Demux.{Demux, Taken, freshDemux, turn608On, lateFrom, gathered, takeGathered, takeTriples, unread, takeFrame}
+use Rattle.model.specs.Demux.{Demux, Taken, freshDemux, turn608On, packetsOf, validPending, validDemux, lateFrom, gathered, takeGathered, takeTriples, unread, takeFrame}
 use Rattle.model.proofs.Cases.{by-cond}
 use Rattle.model.proofs.Frames.{few-packets}
+use Rattle.model.proofs.DemuxStates.{demux-facts, on-valid, take-valid, draw-valid}
 use Rattle.triples.specs.Walk.{seenFrom}
 use Rattle.triples.specs.Pairs.{pairsOf}
-use Rattle.gather.specs.Ring.{ringFrom, slotsFine, ringFine}
-use Rattle.gather.specs.Gather.{pendingFine}
-use Rattle.parser.specs.Valid.{fieldsFine, listFine, countsOf, fine, valid}
-use Rattle.gather.specs.Ring.{packetsIn}
-use Rattle.parser.specs.Means.{means, Shaped, saidPush, turnedOn}
-use Rattle.parser.specs.Fresh.{fresh}
-use Rattle.parser.specs.Push.{pushed}
-use Rattle.parser.specs.Draw.{drawn}
-use Rattle.parser.specs.declared.CCDataParser.{CCDataParser}
-use Rattle.parser.proofs.Valids.{fine-facts, facts-fine}
 use Rattle.triples.proofs.Found.{few-triples}
-use Rattle.parser.proofs.Told.{pushed-tells, waiting-count}
-use Rattle.parser.proofs.Drawing.{drawn-tells}
-
--- a state within the limits, its arrays of their lengths
-pub record Sound (p : CCDataParser) : Type 0 where
-  pub valid : valid p ≡ true
-  pub shaped : Shaped p
+use Rattle.slots.specs.declared.Slot.{Slot}
+use Rattle.gather.specs.Ring.{ringFrom, slotRun, slotsFine, ringFine, setRound}
+use Rattle.parser.specs.Means.{means, Shaped}
+use Rattle.parser.specs.Valid.{fieldsFine, listFine, inOrder, valid}
+use Rattle.parser.specs.Fresh.{fresh}
+use Rattle.parser.specs.Calls.{laidIn, turnedOn, pushed, headAfter, drawn, saidPush}
+use Rattle.parser.specs.declared.CCDataParser.{CCDataParser}
+use Rattle.parser.proofs.Valids.{Fine, valid-fine, fine-demux, waiting-count}
+use Rattle.parser.proofs.Laid.{Sound, Stands, own-stands, laid-means, laid-sound}
+use Rattle.parser.proofs.Delivered.{frame-delivers, delivered-stands}
+use Rattle.parser.proofs.Firsts.{drawn-stands}
 
 -- a fresh state
 pub fresh-sound : Sound fresh
-unfolding fresh fine listFine fieldsFine pendingFine ringFine slotsFine ringFrom
+unfolding fresh valid inOrder listFine fieldsFine validDemux validPending allPackets ringFine slotsFine ringFrom means pairsOf packetsOf
 fresh-sound = record { valid = refl; shaped = record { pairs = refl; pending = refl; waiting = refl } }
 
 -- it is the model's
 pub means-fresh : means fresh ≡ freshDemux
-unfolding means fresh pairsOf packetsIn ringFrom
+unfolding means fresh pairsOf packetsOf ringFrom
 means-fresh = refl
 
--- 608 turned on
-module _ (p : CCDataParser) where
-  -- it keeps the limits
-  pub turned-sound : Sound p → Sound (turnedOn p)
-  unfolding turnedOn fieldsFine
-  turned-sound s =
-      let v = fine-facts (countsOf p) (p .pairs) (p .pending) (p .waiting) (s .valid) in
-      record {
-        valid = facts-fine _ _ _ _ (record { few = omega arith; fields = refl; waits = v .waits; ring = v .ring });
-        shaped = record { pairs = s .shaped .pairs; pending = s .shaped .pending; waiting = s .shaped .waiting };
-      }
+-- drawing lists no pairs
+draw-off : (d : Demux) → (d .on608 ≡ false → d .pairs ≡ []) → model.draw d .next .on608 ≡ false → model.draw d .next .pairs ≡ []
+unfolding model.draw
+draw-off d off e = by-items (d .on608) (d .pairs) (d .pending) (d .waiting) off e
+  where
+    by-items : (on : Bool) (pairs : List Cea608) (pending : List ℕ) (waiting : List Packet)
+        → (let s : Demux = record { on608 = on; pairs = pairs; pending = pending; waiting = waiting } in (on ≡ false → pairs ≡ []) → model.draw s .next .on608 ≡ false → model.draw s .next .pairs ≡ [])
+    by-items on (x ∷ pairs) pending waiting off e = let z : suc (length pairs) ≡ 0 = ap length (off e) in absurd (omega arith)
+    by-items on [] pending (p ∷ waiting) off e = refl
+    by-items on [] pending [] off e = refl
 
-  -- it means what the model says
+-- a state within the limits
+module _ (p : CCDataParser) (s : Sound p) where
+  -- its facts
+  pub sound-fine : Fine p
+  sound-fine = valid-fine p (s .valid)
+
+  -- it means a demultiplexer within the model's limits
+  pub sound-demux : validDemux (means p) ≡ true
+  sound-demux = fine-demux p sound-fine
+
+  -- no pairs are there while 608 is off
+  unlisted : means p .on608 ≡ false → means p .pairs ≡ []
+  unfolding means pairsOf
+  unlisted e = let z : p .«pair_count» ≡ 0 = sound-fine .off e in rw z
+
+  -- its slots stand
+  stands : Stands (p .«waiting_first») (p .waiting) (means p .waiting)
+  stands = own-stands p sound-fine (s .shaped)
+
+  -- 608 turned on keeps the limits,
+  pub turned-sound : Sound (turnedOn p)
+  unfolding turnedOn
+  turned-sound = laid-sound p (s .shaped) (p .«waiting_first») (p .waiting) (turn608On (means p)) (on-valid (means p) sound-demux) stands (λ _. refl)
+
+  -- and means what the model says
   pub means-turned : means (turnedOn p) ≡ turn608On (means p)
-  unfolding turnedOn means pairsOf
-  means-turned = refl
+  unfolding turnedOn
+  means-turned = laid-means p (s .shaped) (p .«waiting_first») (p .waiting) (turn608On (means p)) (on-valid (means p) sound-demux) stands
+
+  -- drawing keeps the limits,
+  pub drawn-sound : Sound (drawn p)
+  unfolding drawn
+  drawn-sound =
+      rw (s .valid)
+      (laid-sound p (s .shaped) _ _ (model.draw (means p) .next) (draw-valid (means p) sound-demux) (drawn-stands p sound-fine (s .shaped)) (λ e. draw-off (means p) unlisted e))
+
+  -- and means what the model says
+  pub means-drawn : means (drawn p) ≡ model.draw (means p) .next
+  unfolding drawn
+  means-drawn = rw (s .valid) (laid-means p (s .shaped) _ _ (model.draw (means p) .next) (draw-valid (means p) sound-demux) (drawn-stands p sound-fine (s .shaped)))
 
 -- a frame
 module _ (p : CCDataParser) (f : List ℕ) (s : Sound p) where
-  -- it keeps the limits
-  pub pushed-sound : Sound (pushed p f .parser)
-  pushed-sound = let t = pushed-tells p f (s .valid) (s .shaped) in record { valid = t .valid; shaped = t .shaped }
+  abbrev taken : Taken
+  taken = takeFrame f (means p)
 
-  -- it means what the model says
-  pub means-pushed : means (pushed p f .parser) ≡ takeFrame f (means p) .next
-  means-pushed = pushed-tells p f (s .valid) (s .shaped) .means
+  taken-valid : validDemux (taken .next) ≡ true
+  taken-valid = take-valid f (means p) (sound-demux p s)
 
--- an item
-module _ (p : CCDataParser) (s : Sound p) where
-  -- drawing keeps the limits
-  pub drawn-sound : Sound (drawn p .parser)
-  drawn-sound = let t = drawn-tells p (s .valid) (s .shaped) in record { valid = t .valid; shaped = t .shaped }
+  -- the slots stand with those that it delivers
+  taken-stands : Stands (p .«waiting_first») (setRound (p .«waiting_first» + p .«waiting_count») (p .waiting) (taken .runs)) (taken .next .waiting)
+  taken-stands =
+      let k = frame-delivers (means p) f in
+      rw (k .waiting)
+      (delivered-stands (p .«waiting_first») (p .«waiting_count») (p .waiting) (means p .waiting) (taken .runs) (k .read) (waiting-count p (sound-fine p s)) (stands p s)
+      (rw (k .waiting) at (demux-facts (taken .next) taken-valid .waiting)))
 
-  -- it means what the model says
-  pub means-drawn : means (drawn p .parser) ≡ model.draw (means p) .next
-  means-drawn = drawn-tells p (s .valid) (s .shaped) .means
+  -- it keeps the limits,
+  pub pushed-sound : Sound (pushed p f)
+  unfolding pushed
+  pushed-sound = rw (s .valid) (laid-sound p (s .shaped) _ _ (taken .next) taken-valid taken-stands (frame-delivers (means p) f .off (unlisted p s)))
+
+  -- and means what the model says
+  pub means-pushed : means (pushed p f) ≡ takeFrame f (means p) .next
+  unfolding pushed
+  means-pushed = rw (s .valid) (laid-means p (s .shaped) _ _ (taken .next) taken-valid taken-stands)
 
 -- "Full exactly if waiting packets plus those this frame would deliver exceed 32": a frame has at most 31 triples, and delivers one packet
 -- a triple and one at its end
@@ -98,7 +135,7 @@ module _ (f : List ℕ) (d : Demux) (nothing : length (d .waiting) ≡ 0) where
   unfolding takeGathered
   gathers-room h =
       let few = few-packets (d .pending) (seenFrom 0 f) in
-      let n : ltb 32 (length (d .waiting) + length (gathered (d .pending) (seenFrom 0 f) .packets)) ≡ false = le-ltb 32 (length (d .waiting) + length (gathered (d .pending) (seenFrom 0 f) .packets)) (omega (arith, few, few-triples f h)) in
+      let n : ltb 32 (length (d .waiting) + length (packetsOf (gathered (d .pending) (seenFrom 0 f) .runs))) ≡ false = le-ltb 32 (length (d .waiting) + length (packetsOf (gathered (d .pending) (seenFrom 0 f) .runs))) (omega (arith, few, few-triples f h)) in
       rw n (other _ (λ z. omega arith))
 
   -- a frame with triples
@@ -118,7 +155,4 @@ module _ (f : List ℕ) (d : Demux) (nothing : length (d .waiting) ≡ 0) where
 
 -- from a state within the limits with nothing waiting no frame is refused for want of a place
 pub never-full : (p : CCDataParser) (f : List ℕ) → Sound p → p .«waiting_count» ≡ 0 → saidPush p f ≡ full → ⊥
-unfolding means
-never-full p f s z =
-    let v = fine-facts (countsOf p) (p .pairs) (p .pending) (p .waiting) (s .valid) in
-    rw (s .valid) (frame-room f (means p) (waiting-count p v ∙ z))
+never-full p f s z = rw (s .valid) (frame-room f (means p) (waiting-count p (sound-fine p s) ∙ z))

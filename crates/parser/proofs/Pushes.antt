@@ -1,53 +1,80 @@
 -- Laws of reading a frame, one for each way out of the function. Assumes nothing.
-use mathlib.Core.Path.{_≡_, _∙_}
+use mathlib.Core.Path.{_≡_, refl, sym, ap, _∙_, subst}
 use mathlib.Core.List.{List}
-use mathlib.Core.Bool.{Bool, true, false, _&&_}
+use mathlib.Core.Bool.{Bool, true, false, _&&_, true≢false}
 use Prim.Native.Nat.{ℕ, _≤_, _<_}
-use borrow.Author.Tests.{lt-ltb, le-ltb}
+use Rattle.caption.specs.declared.Answer.{Answer}
+use Rattle.caption.specs.declared.Answer.the-variants.{Refused}
 use Rattle.caption.specs.declared.Refusal.the-variants.{Full, BadValue}
-use Rattle.triples.specs.Pairs.{listedBy}
+use Rattle.caption.specs.Answers.{saidAnswer}
+use Rattle.model.specs.Demux.{takeFrame}
+use Rattle.triples.specs.Listing.{Listing, listedBy}
 use Rattle.triples.specs.Plan.{planOf}
 use Rattle.triples.specs.declared.Plan.{Plan}
-use Rattle.gather.specs.Gather.{takenBy, gatheredBy}
+use Rattle.gather.specs.Gather.{Left, takenBy, gatheredBy}
 use Rattle.gather.specs.declared.Gathered.{Gathered}
-use Rattle.parser.specs.Valid.{countsOf, fine, valid}
-use Rattle.parser.specs.Push.{fed, refusedFor, pushedBy, pushedPlan, pushed}
+use Rattle.parser.specs.Means.{means, Shaped}
+use Rattle.parser.specs.Valid.{valid}
+use Rattle.parser.specs.Calls.{Answers, saidPush, pushed}
+use Rattle.parser.specs.Tests.{countsOf, fine}
+use Rattle.parser.specs.Push.{fed, refusedFor, joined}
 use Rattle.parser.specs.declared.Counts.{Counts}
 use Rattle.parser.specs.declared.CCDataParser.{CCDataParser}
 use Rattle.parser.specs.declared.ParserAnswer.{ParserAnswer}
+use Rattle.parser.proofs.Valids.{tested-valid, valid-fine}
+use Rattle.parser.proofs.Kept.{means-pushed}
+use Rattle.parser.proofs.Told.{after, Told, told}
 
--- a state that is tested by its numbers
-pub tested-valid : (p : CCDataParser) (c : Counts) (b : Bool) → c ≡ countsOf p → b ≡ fine c (p .pairs) (p .pending) (p .waiting) → b ≡ valid p
-tested-valid p c b counted tested = rw counted at tested
+-- what is promised of a frame
+abbrev pub Pushed : CCDataParser → List ℕ → ParserAnswer → Type 0
+Pushed p f r = Answers p (saidPush p f) (takeFrame f (means p) .next) (pushed p f) r
+
+-- by what the model says of a state within the limits
+pub pushed-by : (p : CCDataParser) (f : List ℕ) (r : ParserAnswer) → Shaped p → (v : valid p ≡ true)
+    → saidAnswer (r .answer) ≡ takeFrame f (means p) .answer → r .parser ≡ pushed p f → Pushed p f r
+pushed-by p f r s v a e = record { answer = rw v a; means = λ _. rw e (means-pushed p f (record { valid = v; shaped = s })); places = e }
 
 -- a frame, by the test of the state and by whether places are left
-module _ (p : CCDataParser) (f : List ℕ) (c : Counts) (counted : c ≡ countsOf p) (b : Bool) (tested : b ≡ fine c (p .pairs) (p .pending) (p .waiting)) where
+module _ (p : CCDataParser) (f : List ℕ) (shaped : Shaped p) (c : Counts) (counted : c ≡ countsOf p) (b : Bool) (tested : b ≡ fine c (p .pairs) (p .pending) (p .waiting)) where
   -- a state outside the limits
-  pub push-bad : (r : ParserAnswer) → b ≡ false → r ≡ fed (refusedFor BadValue) p → r ≡ pushed p f
+  pub push-bad : (r : ParserAnswer) → b ≡ false → r ≡ fed (refusedFor BadValue) p → Pushed p f r
   unfolding pushed
-  push-bad r e q = q ∙ rw (← tested-valid p c b counted tested, e)
+  push-bad r e q =
+      let v : valid p ≡ false = sym (tested-valid p c b shaped counted tested) ∙ e in
+      rw q (record { answer = rw v; means = λ t. absurd (true≢false (sym t ∙ v)); places = rw v })
 
   module _ (good : b ≡ true) (q : Plan) (planned : q ≡ planOf f) where
-    -- else the frame is read by its plan
-    pushed-plan : pushedPlan p q f ≡ pushed p f
+    within : valid p ≡ true
+    within = sym (tested-valid p c b shaped counted tested) ∙ good
+
+    here : Told p q f (takeFrame f (means p))
+    here = subst (λ (x : Plan). Told p x f (takeFrame f (means p))) (sym planned) (told p (valid-fine p within) shaped f)
+
+    -- what is laid is the state afterwards
+    laid : after p (takeFrame f (means p)) ≡ pushed p f
     unfolding pushed
-    pushed-plan = rw (← tested-valid p c b counted tested, good, planned)
+    laid = rw within
 
     module _ (n : ℕ) (k : List ℕ) (lists : record { count = n; places = k } ≡ listedBy (q .lists && c .on) (p .pairs) f)
-        (g : Gathered) (l : List ℕ) (gathers : takenBy g l ≡ gatheredBy (q .gathers) (c .first) (record { count = c .waiting; slots = p .waiting }) (c .pending) (p .pending) f) where
-      -- with the list and the packets that were made
-      pushed-by : pushedBy p q (record { count = n; places = k }) (takenBy g l) ≡ pushed p f
-      unfolding pushedPlan
-      pushed-by = rw (lists, gathers, counted) pushed-plan
+        (g : Gathered) (l : List ℕ) (gathers : takenBy g l ≡ gatheredBy (q .gathers) (c .first) (c .waiting) (p .waiting) (c .pending) (p .pending) f) where
+      -- the list and the ring are those of the plan
+      lists-here : record { count = n; places = k } ≡ listedBy (q .lists && p .«cea608_on») (p .pairs) f
+      lists-here = rw counted at lists
+
+      gathers-here : takenBy g l ≡ gatheredBy (q .gathers) (p .«waiting_first») (p .«waiting_count») (p .waiting) (p .«pending_len») (p .pending) f
+      gathers-here = rw counted at gathers
+
+      counted-here : g .waiting ≡ gatheredBy (q .gathers) (p .«waiting_first») (p .«waiting_count») (p .waiting) (p .«pending_len») (p .pending) f .count
+      counted-here = ap (λ (x : Left). x .count) gathers-here
 
       -- no place is left
-      pub push-full : (r : ParserAnswer) → 32 < g .waiting → r ≡ fed (refusedFor Full) p → r ≡ pushed p f
-      unfolding pushedBy
-      push-full r h e = e ∙ (rw (lt-ltb 32 (g .waiting) h) at pushed-by)
+      pub push-full : (r : ParserAnswer) → 32 < g .waiting → r ≡ fed (refusedFor Full) p → Pushed p f r
+      push-full r h e = let t = here .none (rw counted-here at h) in rw e (pushed-by p f _ shaped within (t .0) (t .1 ∙ laid))
 
       -- a place is left
       pub push-done : g .waiting ≤ 32
-          → record {
+          → Pushed p f
+          (record {
             answer = q .answer;
             parser = record {
               «cea608_on» = c .on;
@@ -59,7 +86,9 @@ module _ (p : CCDataParser) (f : List ℕ) (c : Counts) (counted : c ≡ countsO
               «waiting_count» = g .waiting;
               waiting = g .slots;
             };
-          }
-          ≡ pushed p f
-      unfolding pushedBy
-      push-done h = rw counted (rw (le-ltb 32 (g .waiting) h) at pushed-by)
+          })
+      push-done h =
+          let t = here .room (rw counted-here at h) in
+          let e : joined p (record { count = n; places = k }) (takenBy g l) ≡ pushed p f =
+          ap (λ (x : Listing). joined p x (takenBy g l)) lists-here ∙ ap (λ (x : Left). joined p (listedBy (q .lists && p .«cea608_on») (p .pairs) f) x) gathers-here ∙ t .1 ∙ laid in
+          rw counted (pushed-by p f (record { answer = q .answer; parser = joined p (record { count = n; places = k }) (takenBy g l) }) shaped within (t .0) e)

@@ -3,8 +3,9 @@ use mathlib.Core.Path.{_≡_, sym, _∙_}
 use Rattle.caption.specs.declared.Answer.{Answer}
 use Rattle.caption.proofs.Answers.{saidAnswer-injective}
 use Rattle.model.specs.Said.{Said}
+use Rattle.model.specs.Demux.{Demux}
 use Rattle.packet.specs.declared.DTVCCPacket.{DTVCCPacket}
-use Rattle.parser.specs.Means.{Answers}
+use Rattle.parser.specs.Calls.{Answers}
 use Rattle.parser.specs.Items.{Draws}
 use Rattle.parser.specs.declared.CCDataParser.{CCDataParser}
 use Rattle.parser.specs.declared.ParserAnswer.{ParserAnswer}
@@ -13,8 +14,8 @@ use Rattle.parser.specs.declared.Drawn.{Drawn}
 use Rattle.parser.proofs.Items.{saidItem-injective}
 
 -- an answer and a state: of a frame, of 608 turned on and of a flush
-pub answers-same : (said : Said) (next : CCDataParser) (r q : ParserAnswer) → Answers said next r → Answers said next q → r ≡ q
-answers-same said next r q a b = by (r .answer) (q .answer) (r .parser) (q .parser) (saidAnswer-injective (r .answer) (q .answer) (a .answer ∙ sym (b .answer))) (a .parser ∙ sym (b .parser))
+pub answers-same : (p : CCDataParser) (said : Said) (next : Demux) (after : CCDataParser) (r q : ParserAnswer) → Answers p said next after r → Answers p said next after q → r ≡ q
+answers-same p said next after r q a b = by (r .answer) (q .answer) (r .parser) (q .parser) (saidAnswer-injective (r .answer) (q .answer) (a .answer ∙ sym (b .answer))) (a .places ∙ sym (b .places))
   where
     by : (x y : Answer) (m n : CCDataParser) → x ≡ y → m ≡ n → _≡_ {A = ParserAnswer} (record { answer = x; parser = m }) (record { answer = y; parser = n })
     by x y m n e f = rw (e, f)
@@ -23,7 +24,7 @@ answers-same said next r q a b = by (r .answer) (q .answer) (r .parser) (q .pars
 pub draws-same : (p : CCDataParser) (r q : Drawn) → Draws p r → Draws p q → r ≡ q
 draws-same p r q a b =
     by (r .item) (q .item) (r .packet) (q .packet) (r .parser) (q .parser) (saidItem-injective (r .item) (q .item) (a .item ∙ sym (b .item))) (a .packet ∙ sym (b .packet))
-    (a .parser ∙ sym (b .parser))
+    (a .places ∙ sym (b .places))
   where
     by : (x y : Item) (u v : DTVCCPacket) (m n : CCDataParser) → x ≡ y → u ≡ v → m ≡ n
         → _≡_ {A = Drawn} (record { item = x; packet = u; parser = m }) (record { item = y; packet = v; parser = n })

@@ -1,33 +1,52 @@
 -- Laws of the limits, one for each way out of a function, and the facts of a state within them. Assumes nothing.
 use mathlib.Core.Path.{_≡_, refl, sym, ap, _∙_}
-use mathlib.Core.List.{List}
-use mathlib.Core.Bool.{Bool, true, false, _&&_}
-use Prim.Native.Nat.{ℕ, suc, _+_, _-_, _*_, _%_, _≤_, _<_}
+use mathlib.Core.List.{List, [], _∷_, map}
+use mathlib.Core.Bool.{Bool, true, false, cond, _&&_, true≢false}
+use Prim.Native.Nat.{ℕ, zero, suc, _+_, _-_, _*_, _%_, _≤_, _<_}
 use native.Mathlib.Omega.{arith}
-use lib.ListN.{getD, drop, replicate}
+use lib.ListN.{length, getD, take, drop, replicate, length-append}
 use lib.Seq.{getD-drop, drop-drop}
 use lib.Dec.{eqb, leb}
 use borrow.Author.Tests.{eq-eqb, ne-eqb, eqb-true, eqb-false, lt-leb, le-leb, leb-true}
+use Rattle.model.specs.Packet.{reads}
+use Rattle.model.specs.Demux.{closed, packetsOf, validPending, validDemux}
 use Rattle.model.proofs.Cases.{by-test, both}
+use Rattle.model.proofs.Frames.{closed-one}
+use Rattle.model.proofs.DemuxStates.{demux-facts, facts-demux, packets-valid}
 use Rattle.slots.specs.declared.Slot.{Slot}
-use Rattle.gather.specs.Gather.{pendingFine}
-use Rattle.gather.specs.Ring.{noSlot, slotFine, ringFine, headFine, behindFine, oldestOf}
+use Rattle.triples.specs.Pairs.{pairsOf}
+use Rattle.gather.specs.Ring.{noSlot, ringFrom, slotRun, slotFine, slotsFine, ringFine}
+use Rattle.gather.specs.Tests.{pendingFine, headFine, behindFine, oldestOf}
 use Rattle.gather.specs.declared.Front.{Front}
-use Rattle.gather.proofs.Slots.{RingFine, ring-facts, facts-ring, behind-empty, ring-parts}
-use Rattle.parser.specs.Valid.{fieldsFine, listFine, frontOf, fine}
+use Rattle.gather.proofs.Slots.{RingFine, ring-facts, facts-ring, behind-empty, ring-parts, fine-pending}
+use Rattle.gather.proofs.Rings.{ring-length}
+use Rattle.parser.specs.Means.{means, Shaped}
+use Rattle.parser.specs.Valid.{fieldsFine, listFine, inOrder, valid}
+use Rattle.parser.specs.Tests.{countsOf, frontOf, fine}
+use Rattle.parser.specs.declared.CCDataParser.{CCDataParser}
 use Rattle.parser.specs.declared.Counts.{Counts}
 
 -- the list of pairs
-module _ (n : ℕ) (l : List ℕ) where
+module _ (on : Bool) (n : ℕ) (l : List ℕ) where
   -- too many pairs
-  pub list-long : 31 < n → false ≡ listFine n l
+  pub list-long : 31 < n → false ≡ listFine on n l
   unfolding listFine
   list-long h = rw (lt-leb n 31 h)
 
-  -- all are left
-  pub list-start : n ≤ 31 → listFine n l ≡ fieldsFine (n - 0) l
-  unfolding listFine
-  list-start h = let z : n - 0 ≡ n = omega arith in rw (z, le-leb n 31 h)
+  module _ (few : n ≤ 31) where
+    -- 608 is on
+    pub list-on : (b : Bool) → on ≡ true → b ≡ fieldsFine n l → b ≡ listFine on n l
+    unfolding listFine
+    list-on b e q = rw (le-leb n 31 few, e) q
+
+    -- 608 is off
+    pub list-off : on ≡ false → eqb n 0 ≡ listFine on n l
+    unfolding listFine
+    list-off e = rw (le-leb n 31 few, e)
+
+-- all are left
+pub fields-start : (n : ℕ) (l : List ℕ) → fieldsFine n l ≡ fieldsFine (n - 0) l
+fields-start n l = let z : n - 0 ≡ n = omega arith in rw z
 
 -- For the loop over the fields.
 module _ (a : Bool) (l : List ℕ) (n i : ℕ) (e : a ≡ fieldsFine (n - i) (drop (3 * i) l)) where
@@ -96,7 +115,7 @@ module _ (c : Counts) (pairs pending : List ℕ) (slots : List Slot) (o : Front)
   ring-whole = rw (front-found c slots o front .0, head-is) (sym (ring-parts (c .first) slots (c .waiting)))
 
   -- the whole ring is tested, and then the rest
-  pub tested-fine : (ring b : Bool) → ring ≡ (o .good && headFine (c .waiting) (o .slot)) → b ≡ (listFine (c .pairs) pairs && (pendingFine (c .pending) pending && ring)) → b ≡ fine c pairs pending slots
+  pub tested-fine : (ring b : Bool) → ring ≡ (o .good && headFine (c .waiting) (o .slot)) → b ≡ (listFine (c .on) (c .pairs) pairs && (pendingFine (c .pending) pending && ring)) → b ≡ fine c pairs pending slots
   unfolding fine
   tested-fine ring b e q = q ∙ rw (e, ring-whole)
 
@@ -106,28 +125,107 @@ module _ (c : Counts) (pairs pending : List ℕ) (slots : List Slot) (o : Front)
   apart true true z h = refl
 
   -- all but the slot at the head is tested, and then that slot
-  pub behind-fine : (b : Bool) → b ≡ (listFine (c .pairs) pairs && (pendingFine (c .pending) pending && o .good)) → b && headFine (c .waiting) (o .slot) ≡ fine c pairs pending slots
+  pub behind-fine : (b : Bool) → b ≡ (listFine (c .on) (c .pairs) pairs && (pendingFine (c .pending) pending && o .good)) → b && headFine (c .waiting) (o .slot) ≡ fine c pairs pending slots
   unfolding fine
-  behind-fine b q = rw (q, apart (listFine (c .pairs) pairs) (pendingFine (c .pending) pending) (o .good) (headFine (c .waiting) (o .slot)), ring-whole)
+  behind-fine b q = rw (q, apart (listFine (c .on) (c .pairs) pairs) (pendingFine (c .pending) pending) (o .good) (headFine (c .waiting) (o .slot)), ring-whole)
 
 -- the facts of a state within the limits
-pub record Fine (c : Counts) (pairs pending : List ℕ) (slots : List Slot) : Type 0 where
-  pub few : c .pairs ≤ 31
-  pub fields : fieldsFine (c .pairs) pairs ≡ true
-  pub waits : pendingFine (c .pending) pending ≡ true
-  pub ring : RingFine (c .first) (c .waiting) slots
+pub record Fine (p : CCDataParser) : Type 0 where
+  pub few : p .«pair_count» ≤ 31
+  pub fields : fieldsFine (p .«pair_count») (p .pairs) ≡ true
+  pub off : p .«cea608_on» ≡ false → p .«pair_count» ≡ 0
+  pub short : p .«pending_len» ≤ 128
+  pub waits : validPending (take (p .«pending_len») (p .pending)) ≡ true
+  pub ring : RingFine (p .«waiting_first») (p .«waiting_count») (p .waiting)
 
-module _ (c : Counts) (pairs pending : List ℕ) (slots : List Slot) where
+-- the list's
+module _ (on : Bool) (n : ℕ) (l : List ℕ) where
   -- from the test
-  pub fine-facts : fine c pairs pending slots ≡ true → Fine c pairs pending slots
-  unfolding fine listFine
-  fine-facts e =
-      let f = both _ _ e in
-      let g = both _ _ (f .1) in
-      let h = both _ _ (f .0) in
-      record { few = leb-true _ _ (h .0); fields = h .1; waits = g .0; ring = ring-facts _ _ _ (g .1) }
+  list-facts : listFine on n l ≡ true → (n ≤ 31) × (fieldsFine n l ≡ true) × (on ≡ false → n ≡ 0)
+  unfolding listFine fieldsFine
+  list-facts e =
+      let f = both (leb n 31) (cond on (fieldsFine n l) (eqb n 0)) e in
+      by-test on
+      (λ t. (leb-true _ _ (f .0), rw t at (f .1), λ o. absurd (true≢false (sym t ∙ o))))
+      (λ t. let z : n ≡ 0 = eqb-true _ _ (rw t at (f .1)) in (leb-true _ _ (f .0), rw z, λ _. z))
 
   -- to the test
-  pub facts-fine : Fine c pairs pending slots → fine c pairs pending slots ≡ true
-  unfolding fine listFine
-  facts-fine v = rw (le-leb _ _ (v .few), v .fields, v .waits, facts-ring _ _ _ (v .ring))
+  facts-list : n ≤ 31 → fieldsFine n l ≡ true → (on ≡ false → n ≡ 0) → listFine on n l ≡ true
+  unfolding listFine
+  facts-list few fields off = by-test on (λ t. rw (le-leb n 31 few, t) fields) (λ t. rw (le-leb n 31 few, t, off t))
+
+-- how many pairs there are
+pub pairs-length : (n : ℕ) (l : List ℕ) → length (pairsOf n l) ≡ n
+unfolding pairsOf
+pairs-length zero l = refl
+pairs-length (suc n) l = ap suc (pairs-length n _)
+
+-- slots that read hold a packet each
+pub packets-length : (l : List Slot) → slotsFine l ≡ true → length (packetsOf (map slotRun l)) ≡ length l
+unfolding packetsOf slotsFine slotFine
+packets-length [] e = refl
+packets-length (s ∷ l) e =
+    let f = both (slotFine s) (slotsFine l) e in
+    let g = both (leb (s .len) 128) (reads (slotRun s)) (f .0) in
+    omega (arith, length-append (closed (slotRun s)) (packetsOf (map slotRun l)), closed-one (slotRun s) (g .1), packets-length l (f .1))
+
+module _ (p : CCDataParser) where
+  -- as many packets wait as the count says
+  pub waiting-count : Fine p → length (means p .waiting) ≡ p .«waiting_count»
+  unfolding means
+  waiting-count v = packets-length _ (v .ring .reading) ∙ ring-length (p .«waiting_count») (p .«waiting_first») (p .waiting)
+
+  -- from the test
+  pub valid-fine : valid p ≡ true → Fine p
+  unfolding valid inOrder means
+  valid-fine e =
+      let u = both (inOrder p) (validDemux (means p)) e in
+      let l = both (listFine (p .«cea608_on») (p .«pair_count») (p .pairs)) _ (u .0) in
+      let r = both (leb (p .«pending_len») 128) _ (l .1) in
+      let f = list-facts (p .«cea608_on») (p .«pair_count») (p .pairs) (l .0) in
+      record { few = f .0; fields = f .1; off = f .2; short = leb-true _ _ (r .0); waits = demux-facts (means p) (u .1) .pending; ring = ring-facts _ _ _ (r .1) }
+
+  -- the model's limits hold then
+  pub fine-demux : Fine p → validDemux (means p) ≡ true
+  unfolding means
+  fine-demux v =
+      facts-demux (means p)
+      (record {
+        pairs = omega (arith, pairs-length (p .«pair_count») (p .pairs), v .few);
+        waiting = omega (arith, waiting-count v, v .ring .count);
+        packets = packets-valid (map slotRun (ringFrom (p .«waiting_first») (p .«waiting_count») (p .waiting)));
+        pending = v .waits;
+      })
+
+  -- to the test
+  pub fine-valid : Fine p → valid p ≡ true
+  unfolding valid inOrder
+  fine-valid v =
+      rw (facts-list (p .«cea608_on») (p .«pair_count») (p .pairs) (v .few) (v .fields) (v .off), le-leb _ _ (v .short), facts-ring _ _ _ (v .ring)) (fine-demux v)
+
+-- tests that hold together are equal
+same-tests : (a b : Bool) → (a ≡ true → b ≡ true) → (b ≡ true → a ≡ true) → a ≡ b
+same-tests true b f g = sym (f refl)
+same-tests false false f g = refl
+same-tests false true f g = g refl
+
+-- a state that is tested by its numbers
+pub tested-valid : (p : CCDataParser) (c : Counts) (b : Bool) → Shaped p → c ≡ countsOf p → b ≡ fine c (p .pairs) (p .pending) (p .waiting) → b ≡ valid p
+unfolding fine
+tested-valid p c b shaped counted tested = (rw counted at tested) ∙ same-tests _ _ there back
+  where
+    pending : pendingFine (p .«pending_len») (p .pending) ≡ leb (p .«pending_len») 128 && validPending (take (p .«pending_len») (p .pending))
+    pending = fine-pending (p .«pending_len») (p .pending) (shaped .pending)
+
+    there : fine (countsOf p) (p .pairs) (p .pending) (p .waiting) ≡ true → valid p ≡ true
+    there e =
+        let u = both (listFine (p .«cea608_on») (p .«pair_count») (p .pairs)) _ e in
+        let r = both (pendingFine (p .«pending_len») (p .pending)) _ (u .1) in
+        let w = both (leb (p .«pending_len») 128) _ (sym pending ∙ r .0) in
+        let f = list-facts (p .«cea608_on») (p .«pair_count») (p .pairs) (u .0) in
+        fine-valid p (record { few = f .0; fields = f .1; off = f .2; short = leb-true _ _ (w .0); waits = w .1; ring = ring-facts _ _ _ (r .1) })
+
+    back : valid p ≡ true → fine (countsOf p) (p .pairs) (p .pending) (p .waiting) ≡ true
+    back e =
+        let v = valid-fine p e in
+        rw (facts-list (p .«cea608_on») (p .«pair_count») (p .pairs) (v .few) (v .fields) (v .off), pending, le-leb _ _ (v .short), v .waits) (facts-ring _ _ _ (v .ring))

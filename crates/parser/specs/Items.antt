@@ -1,6 +1,7 @@
 -- What drawing says, in the paper's numbers: an item is told by 1 or 2 and two bytes for a pair of that field, by 3 for a packet, and by
 -- nothing where none is left. Assumes nothing.
 use mathlib.Core.Path.{_≡_}
+use mathlib.Core.Bool.{true}
 use mathlib.Core.List.{List, [], _∷_}
 use Prim.Native.Nat.{ℕ}
 use Rattle.caption.specs.Answers.{saidRefusal}
@@ -13,7 +14,7 @@ use Rattle.packet.specs.Packet.{laid, blank}
 use Rattle.packet.specs.declared.DTVCCPacket.{DTVCCPacket}
 use Rattle.parser.specs.Valid.{valid}
 use Rattle.parser.specs.Means.{means}
-use Rattle.parser.specs.Draw.{drawn}
+use Rattle.parser.specs.Calls.{drawn}
 use Rattle.parser.specs.declared.Item.{Item}
 use Rattle.parser.specs.declared.Item.the-variants.{Pair, Packet, Nothing, Refused}
 use Rattle.parser.specs.declared.Drawn.{Drawn}
@@ -52,8 +53,9 @@ packetBeside (refused why) = blank
 abbrev pub itemFrom : CCDataParser → Outcome model.Item
 itemFrom p = checked (valid p) (gave (model.draw (means p) .item))
 
--- what drawing answers
+-- what drawing answers, what the state means afterwards where it was not refused 11, and where it stands
 pub record Draws (p : CCDataParser) (r : Drawn) : Type 0 where
   pub item : saidItem (r .item) ≡ saysWith itemValues (itemFrom p)
   pub packet : r .packet ≡ packetBeside (itemFrom p)
-  pub parser : r .parser ≡ drawn p .parser
+  pub means : valid p ≡ true → means (r .parser) ≡ model.draw (means p) .next
+  pub places : r .parser ≡ drawn p

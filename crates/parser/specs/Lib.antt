@@ -1,6 +1,8 @@
+pub mod Means
 pub mod Valid
 pub mod Fresh
-pub mod Means
-pub mod Push
-pub mod Draw
+pub mod Calls
 pub mod Items
+pub mod Tests
+pub mod Push
+pub mod Take

@@ -7,13 +7,15 @@ ghost use lib.ListN.{length};
 ghost use Rattle.caption.specs.Answers.{saidCounted};
 ghost use Rattle.model.specs.Said.{measured};
 ghost use Rattle.packet.specs.Packet.{blank};
-ghost use Rattle.gather.specs.Ring.{headFine};
-ghost use Rattle.gather.specs.Gather.{pendingFine};
-ghost use Rattle.parser.specs.Valid.{listFine, frontOf, countsOf, valid};
+ghost use Rattle.model.specs.Demux.{freshDemux, turn608On, flushDemux, takeFrame};
+ghost use Rattle.gather.specs.Tests.{headFine, pendingFine};
+ghost use Rattle.parser.specs.Means.{means};
+ghost use Rattle.parser.specs.Valid.{fieldsFine, listFine, valid};
 ghost use Rattle.parser.specs.Fresh.{fresh};
-ghost use Rattle.parser.specs.Means.{means, Answers, saidPush, saidCall, afterCall, turnedOn};
-ghost use Rattle.parser.specs.Push.{fed, refusedFor, pushed};
-ghost use Rattle.parser.specs.Draw.{firstPair, slid, placeBehind, takenBy, takePair, takeNone, takeHead, takeBehind, takeItem, noneTook, Takes};
+ghost use Rattle.parser.specs.Calls.{Answers, saidPush, saidCall, afterCall, turnedOn, pushed, placeBehind};
+ghost use Rattle.parser.specs.Tests.{frontOf, countsOf};
+ghost use Rattle.parser.specs.Push.{fed, refusedFor};
+ghost use Rattle.parser.specs.Take.{firstPair, slid, takenBy, takePair, takeNone, takeHead, takeBehind, takeItem, noneTook, Takes};
 ghost use Rattle.parser.specs.Items.{Draws};
 use caption::Answer;
 use caption::Cea608;
@@ -88,13 +90,11 @@ pub struct Took {
     pub waiting: usize,
 }
 
-// Whether the list has at most 31 pairs, each of field 1 or 2.
-fn list_good(pairs: &[u8; 93], n: usize) -> bool
-    ensures { λ r. ⌜ r ≡ listFine n (now (pairs .entry)) ⌝ }
+// Whether each of the first pairs is of field 1 or 2.
+fn fields_good(pairs: &[u8; 93], n: usize) -> bool
+    requires { ⌜ n ≤ 31 ⌝ }
+    ensures { λ r. ⌜ r ≡ fieldsFine n (now (pairs .entry)) ⌝ }
 {
-    if MOST_PAIRS < n {
-        return false;
-    }
     let mut i = 0;
     while i < n {
         if 1 < pairs[3 * i] {
@@ -103,6 +103,19 @@ fn list_good(pairs: &[u8; 93], n: usize) -> bool
         i += 1;
     }
     true
+}
+
+// Whether the list has at most 31 pairs, each of field 1 or 2, and none while 608 is off.
+fn list_good(on: bool, pairs: &[u8; 93], n: usize) -> bool
+    ensures { λ r. ⌜ r ≡ listFine on n (now (pairs .entry)) ⌝ }
+{
+    if MOST_PAIRS < n {
+        return false;
+    }
+    if on {
+        return fields_good(pairs, n);
+    }
+    n == 0
 }
 
 // The slot that has waited longest, and whether the ring behind it is within its limits. Of an empty ring only the place is looked at: no
@@ -142,9 +155,9 @@ fn ring_good(waiting: usize, o: Front) -> bool
 
 // Whether a state is within the limits, `ring` telling it of the waiting slots.
 fn good<'a>(c: Counts, pairs: &'a [u8; 93], pending: &'a [u8; 128], ring: bool) -> bool
-    ensures { λ r. ⌜ r ≡ (listFine (c .pairs) (now (pairs .entry)) && (pendingFine (c .pending) (now (pending .entry)) && ring)) ⌝ }
+    ensures { λ r. ⌜ r ≡ (listFine (c .on) (c .pairs) (now (pairs .entry)) && (pendingFine (c .pending) (now (pending .entry)) && ring)) ⌝ }
 {
-    if !list_good(pairs, c.pairs) {
+    if !list_good(c.on, pairs, c.pairs) {
         return false;
     }
     if !gather::pending_good(pending, c.pending) {
@@ -292,7 +305,7 @@ fn take_item(behind: bool, c: Counts, pairs: &mut [u8; 93], slot: Slot) -> Took
 impl CCDataParser {
     // A fresh demultiplexer: 608 is off, and nothing waits.
     pub fn new() -> Self
-        ensures { λ r. ⌜ r ≡ fresh ⌝ }
+        ensures { λ r. ⌜ (means r ≡ freshDemux) × (r ≡ fresh) ⌝ }
     {
         let bytes = [0u8; 128];
         let slot = Slot { len: 0, bytes };
@@ -348,7 +361,7 @@ impl CCDataParser {
 
     // Turns 608 on: the pairs of frames are listed from now on, and the list is empty.
     pub fn handle_cea608(self) -> ParserAnswer
-        ensures { λ r. ⌜ Answers (saidCall self) (afterCall self (turnedOn self)) r ⌝ }
+        ensures { λ r. ⌜ Answers self (saidCall self) (turn608On (means self)) (afterCall self (turnedOn self)) r ⌝ }
     {
         if self.is_valid() {
             let mut parser = self;
@@ -364,7 +377,7 @@ impl CCDataParser {
 
     // Returns to fresh, with 608 off.
     pub fn flush(self) -> ParserAnswer
-        ensures { λ r. ⌜ Answers (saidCall self) (afterCall self fresh) r ⌝ }
+        ensures { λ r. ⌜ Answers self (saidCall self) (flushDemux (means self)) (afterCall self fresh) r ⌝ }
     {
         if self.is_valid() {
             let parser = CCDataParser::new();
@@ -428,7 +441,7 @@ impl CCDataParser {
 
     // Reads a frame.
     pub fn push(self, frame: &[u8]) -> ParserAnswer
-        ensures { λ r. ⌜ Answers (saidPush self (now (frame .entry))) (pushed self (now (frame .entry)) .parser) r ⌝ }
+        ensures { λ r. ⌜ Answers self (saidPush self (now (frame .entry))) (takeFrame (now (frame .entry)) (means self) .next) (pushed self (now (frame .entry))) r ⌝ }
     {
         let mut pairs = self.pairs;
         let mut pending = self.pending;

@@ -16,8 +16,7 @@ use Rattle.caption.specs.Rates.{rate}
 use Rattle.service.specs.Service as block
 use Rattle.packet.specs.Packet as packet
 use Rattle.parser.specs.Fresh as parser
-use Rattle.parser.specs.Means.{saidPush, saidCall, afterCall, turnedOn}
-use Rattle.parser.specs.Push.{pushed as pushedFrame}
+use Rattle.parser.specs.Calls.{saidPush, saidCall, afterCall, turnedOn, pushed as pushedFrame}
 use Rattle.writer.specs.declared.CCDataWriter.{CCDataWriter}
 use Rattle.writer.specs.Calls as writer
 use Rattle.writer.specs.Writer.{means, validWriter}
@@ -109,7 +108,7 @@ parserRows =
     -- "608 turned on in r"
     ∷ row "H" (exactly 0) (λ m a. onParser m (tells (saidCall (m .r)) (afterCall (m .r) (turnedOn (m .r)))))
     -- "a frame pushed into r"
-    ∷ row "f" allOfThem (λ m a. onParser m (tells (saidPush (m .r) a) (pushedFrame (m .r) a .parser)))
+    ∷ row "f" allOfThem (λ m a. onParser m (tells (saidPush (m .r) a) (pushedFrame (m .r) a)))
     -- "one item drawn from r"
     ∷ row "n" (exactly 0) (λ m a. onParser m (machines.draws (m .r)))
     -- "r flushed"

@@ -5,32 +5,27 @@ use mathlib.Core.List.{List, [], _∷_, _++_, append-assoc}
 use Prim.Native.Nat.{ℕ, zero, suc, _+_, _≤_}
 use native.Mathlib.Omega.{arith}
 use lib.ListN.{length, take}
-use borrow.Author.Tests.{eq-eqb}
 use Rattle.caption.specs.declared.Cea608.the-variants.{Field1, Field2}
 use Rattle.model.specs.Said.{Said, accepted}
 use Rattle.model.specs.Packet.{Packet, validPacket, allPackets}
 use Rattle.model.specs.Frame.{Cea608, field1, field2, pair}
 use Rattle.model.specs.Demux as model
-use Rattle.model.specs.Demux.{Demux, aPair, aPacket, noItem, closed}
+use Rattle.model.specs.Demux.{Demux, aPair, aPacket, noItem}
 use Rattle.model.proofs.Cases.{both}
-use Rattle.model.proofs.Packets.{Valid, valid-facts, all-append}
-use Rattle.model.proofs.DemuxStates.{closed-valid}
+use Rattle.model.proofs.Packets.{Valid, valid-facts}
+use Rattle.model.proofs.DemuxStates.{demux-facts}
 use Rattle.packet.specs.Packet.{packetOf, blank, laid, validDTVCC}
 use Rattle.packet.proofs.Keeps.{blank-places, blank-valid, laid-over}
-use Rattle.slots.specs.declared.Slot.{Slot}
-use Rattle.gather.specs.Ring.{packetsIn, ringFrom}
-use Rattle.parser.specs.Valid.{countsOf, valid}
+use Rattle.parser.specs.Valid.{valid}
 use Rattle.parser.specs.Means.{means}
-use Rattle.parser.specs.Draw.{drawn, drawnBy, takeItem}
+use Rattle.parser.specs.Calls.{headAfter, drawn}
 use Rattle.parser.specs.Items.{Draws, saidItem, itemValues, packetOfItem}
 use Rattle.parser.specs.declared.Item.{Item}
 use Rattle.parser.specs.declared.Item.the-variants as item
 use Rattle.parser.specs.declared.Drawn.{Drawn}
 use Rattle.parser.specs.declared.CCDataParser.{CCDataParser}
-use Rattle.parser.proofs.Valids.{fine-facts}
-use Rattle.parser.proofs.Calls.{pairs-length}
-use Rattle.parser.proofs.Told.{waiting-count}
-use Rattle.parser.proofs.Kept.{Sound}
+use Rattle.parser.proofs.Laid.{Sound, laid-same}
+use Rattle.parser.proofs.Kept.{sound-fine, sound-demux}
 use Rattle.parser.proofs.Items.{saidItem-injective}
 use Rattle.report.specs.Report.{pairLine, packetLines, pairLines, packetsLines, waitingLines, itemLines, drawnOut}
 
@@ -129,12 +124,6 @@ none-left d e = by-items (d .on608) (d .pairs) (d .pending) (d .waiting) e
     by-items on [] g (p ∷ ps) k = absurd (omega (arith, ap (λ (i : model.Item). length (itemValues i)) k))
     by-items on [] g [] k = refl
 
--- the packets of slots are within their limits
-pub slots-valid : (l : List Slot) → allPackets validPacket (packetsIn l) ≡ true
-unfolding packetsIn allPackets
-slots-valid [] = refl
-slots-valid (s ∷ l) = all-append validPacket (closed (take (s .len) (s .bytes))) (packetsIn l) (closed-valid (take (s .len) (s .bytes))) (slots-valid l)
-
 first-holds : (d : Demux) → allPackets validPacket (d .waiting) ≡ true → Holds (model.draw d .item)
 unfolding model.draw allPackets
 first-holds d v = by-items (d .on608) (d .pairs) (d .pending) (d .waiting) v
@@ -146,14 +135,25 @@ first-holds d v = by-items (d .on608) (d .pairs) (d .pending) (d .waiting) v
     by-items on [] g (p ∷ ps) k = valid-facts p (both (validPacket p) (allPackets validPacket ps) k .0)
     by-items on [] g [] k = tt
 
+-- with none left a draw leaves all as it is
+draw-none : (d : Demux) → itemsIn d ≡ 0 → model.draw d ≡ record { item = noItem; next = d }
+unfolding model.draw
+draw-none d z = by-items (d .on608) (d .pairs) (d .pending) (d .waiting) z
+  where
+    by-items : (on : _) (xs : List Cea608) (g : List ℕ) (ps : List Packet)
+        → let w : Demux = record { on608 = on; pairs = xs; pending = g; waiting = ps } in
+        itemsIn w ≡ 0 → model.draw w ≡ record { item = noItem; next = w }
+    by-items on (x ∷ xs) g ps k = absurd (omega arith)
+    by-items on [] g (p ∷ ps) k = absurd (omega arith)
+    by-items on [] g [] k = refl
+
 -- a draw from a state within the limits
 module _ (p : CCDataParser) (s : Sound p) (r : Drawn) (h : Draws p r) where
   abbrev first : model.Item
   first = model.draw (means p) .item
 
   holds : Holds first
-  unfolding means
-  holds = first-holds (means p) (slots-valid (ringFrom (p .«waiting_first») (p .«waiting_count») (p .waiting)))
+  holds = first-holds (means p) (demux-facts (means p) (sound-demux p s) .packets)
 
   said : saidItem (r .item) ≡ accepted (itemValues first)
   said = rw (s .valid) at (h .item)
@@ -175,26 +175,15 @@ module _ (p : CCDataParser) (s : Sound p) (r : Drawn) (h : Draws p r) where
   pub drawn-none : r .item ≡ item.Nothing → itemsIn (means p) ≡ 0
   drawn-none e = none-left (means p) (none-told first (ap (λ (x : Said). length (x .values)) (sym said ∙ ap saidItem e)))
 
--- the counts of a state say what waits
+-- few items wait in a state within the limits
 module _ (p : CCDataParser) (s : Sound p) where
-  pub items-counted : itemsIn (means p) ≡ p .«pair_count» + p .«waiting_count»
-  unfolding means
-  items-counted =
-      let v = fine-facts (countsOf p) (p .pairs) (p .pending) (p .waiting) (s .valid) in
-      omega (arith, pairs-length (p .«pair_count») (p .pairs), waiting-count p v)
-
   pub items-few : itemsIn (means p) ≤ 63
-  items-few =
-      let v = fine-facts (countsOf p) (p .pairs) (p .pending) (p .waiting) (s .valid) in
-      omega (arith, items-counted, v .few, v .ring .count)
+  items-few = let d = demux-facts (means p) (sound-demux p s) in omega (arith, d .pairs, d .waiting)
 
   -- where nothing waits a draw changes nothing,
-  drawn-stays : itemsIn (means p) ≡ 0 → drawn p .parser ≡ p
-  unfolding drawn drawnBy takeItem
-  drawn-stays z =
-      let a : p .«pair_count» ≡ 0 = omega (arith, items-counted) in
-      let b : p .«waiting_count» ≡ 0 = omega (arith, items-counted) in
-      rw (s .valid, eq-eqb _ _ a, eq-eqb _ _ b)
+  drawn-stays : itemsIn (means p) ≡ 0 → drawn p ≡ p
+  unfolding drawn headAfter
+  drawn-stays z = rw (s .valid, draw-none (means p) z) (laid-same p (sound-fine p s) (s .shaped))
 
   -- nor do more
   pub stays : (n : ℕ) → itemsIn (means p) ≡ 0 → drawnOut n p ≡ p

@@ -12,7 +12,7 @@ use Rattle.model.specs.Said.{Said, badValue}
 use Rattle.model.specs.Block.{Block, blockLength}
 use Rattle.model.specs.Packet.{Packet, carriable, allCarriable, validPacket, allPackets, blocksLength, packetLength}
 use Rattle.model.specs.Frame.{Cea608, field1, field2, pair, Seen, seenAll, triplesIn, countIn}
-use Rattle.model.specs.Demux.{Demux, Taken, Gathered, pairsIn, lateFrom, gathered, takeGathered, takeTriples, unread, takeFrame}
+use Rattle.model.specs.Demux.{Demux, Taken, Gathered, packetsOf, pairsIn, lateFrom, gathered, takeGathered, takeTriples, unread, takeFrame}
 use Rattle.model.proofs.Cases.{by-test, by-cond, both}
 use Rattle.model.proofs.Blocks.{carriable-facts, length-short, length-long}
 use Rattle.model.proofs.Packets.{Valid, valid-facts, length-some}
@@ -20,16 +20,12 @@ use Rattle.records.specs.Text.{word, decimal, hex}
 use Rattle.records.proofs.Layings.{length-hex}
 use Rattle.records.proofs.Decimals.{digits-most}
 use Rattle.lines.specs.Lines.{pairText, packetText, frameLine, blockLine}
-use Rattle.gather.specs.Ring.{ringFrom}
-use Rattle.parser.specs.Valid.{countsOf, valid}
+use Rattle.parser.specs.Valid.{valid}
 use Rattle.parser.specs.Means.{means, Shaped}
-use Rattle.parser.specs.Push.{pushed}
 use Rattle.parser.specs.declared.CCDataParser.{CCDataParser}
-use Rattle.parser.proofs.Valids.{fine-facts}
-use Rattle.parser.proofs.Calls.{pairs-length}
-use Rattle.parser.proofs.Told.{waiting-count}
-use Rattle.parser.proofs.Kept.{Sound, pushed-sound, means-pushed}
-use Rattle.report.proofs.Draws.{slots-valid}
+use Rattle.parser.proofs.Laid.{Sound}
+use Rattle.parser.proofs.Kept.{sound-demux}
+use Rattle.model.proofs.DemuxStates.{DemuxLimits, demux-facts, take-valid}
 use Rattle.report.specs.Report.{pairLine, blockLines, packetLines, pairLines, packetsLines, waitingLines, takenLines, frameLines}
 
 -- the length of several parts
@@ -122,7 +118,7 @@ Numbered t = t .answer .number ≤ 11
 
 gathered-numbered : (ps : List Cea608) (o : Gathered) (d : Demux) → Numbered (takeGathered ps o d)
 unfolding takeGathered
-gathered-numbered ps o d = by-cond Numbered (ltb 32 (length (d .waiting) + length (o .packets))) (λ _. omega arith) (λ _. omega arith)
+gathered-numbered ps o d = by-cond Numbered (ltb 32 (length (d .waiting) + length (packetsOf (o .runs)))) (λ _. omega arith) (λ _. omega arith)
 
 triples-numbered : (ts : List Seen) (late : Option ℕ) (d : Demux) → Numbered (takeTriples ts late d)
 unfolding takeTriples
@@ -140,19 +136,14 @@ frame-numbered f d =
 -- the lines of a frame
 module _ (r : ℕ) (f : List ℕ) (p : CCDataParser) (few : r < 2 ^ 64) (shaped : Shaped p) where
   taken-fits : valid p ≡ true → length (takenLines r (takeFrame f (means p))) ≤ 32768
-  unfolding takenLines means
+  unfolding takenLines
   taken-fits v =
       let s : Sound p = record { valid = v; shaped = shaped } in
-      let q : CCDataParser = pushed p f .parser in
-      let u : Sound q = pushed-sound p f s in
-      let m : means q ≡ takeFrame f (means p) .next = means-pushed p f s in
-      let c = fine-facts (countsOf q) (q .pairs) (q .pending) (q .waiting) (u .valid) in
-      let w : length (waitingLines (means q)) ≤ 25044 =
-      waiting-fits (means q) (omega (arith, pairs-length (q .«pair_count») (q .pairs), c .few)) (omega (arith, waiting-count q c, c .ring .count))
-      (slots-valid (ringFrom (q .«waiting_first») (q .«waiting_count») (q .waiting))) in
+      let d : DemuxLimits (takeFrame f (means p) .next) = demux-facts (takeFrame f (means p) .next) (take-valid f (means p) (sound-demux p s)) in
+      let w : length (waitingLines (takeFrame f (means p) .next)) ≤ 25044 = waiting-fits (takeFrame f (means p) .next) (d .pairs) (d .waiting) (d .packets) in
       let l : length (frameLine r (takeFrame f (means p) .answer)) ≤ 40 = line-fits r (takeFrame f (means p) .answer) few (frame-numbered f (means p)) in
       by-test (eqb (takeFrame f (means p) .answer .number) 0)
-      (λ z. rw (z, two (frameLine r (takeFrame f (means p) .answer)) (waitingLines (takeFrame f (means p) .next))) (omega (arith, ap (λ (d : Demux). length (waitingLines d)) m)))
+      (λ z. rw (z, two (frameLine r (takeFrame f (means p) .answer)) (waitingLines (takeFrame f (means p) .next))) (omega arith))
       (λ z. rw (z, append-nil) (omega arith))
 
   pub frame-fits : length (frameLines r f p) ≤ 32768

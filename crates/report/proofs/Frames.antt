@@ -18,11 +18,12 @@ use Rattle.records.specs.Laid.{Laid}
 use Rattle.records.proofs.Layings.{laid-append}
 use Rattle.lines.specs.Lines.{frameLine}
 use Rattle.parser.specs.Valid.{valid}
-use Rattle.parser.specs.Means.{means, Shaped, Answers, saidPush}
-use Rattle.parser.specs.Push.{pushed}
+use Rattle.parser.specs.Means.{means, Shaped}
+use Rattle.parser.specs.Calls.{Answers, saidPush, pushed}
 use Rattle.parser.specs.declared.ParserAnswer.{ParserAnswer}
 use Rattle.parser.specs.declared.CCDataParser.{CCDataParser}
-use Rattle.parser.proofs.Kept.{Sound, pushed-sound, means-pushed}
+use Rattle.parser.proofs.Laid.{Sound}
+use Rattle.parser.proofs.Kept.{pushed-sound}
 use Rattle.report.specs.Report.{waitingLines, takenLines, frameLines, drawnOut, settled}
 
 -- a refusal has a number
@@ -40,7 +41,7 @@ refusal-numbered Full z = omega arith
 refusal-numbered BadValue z = omega arith
 
 -- a frame pushed
-module _ (p : CCDataParser) (f : List ℕ) (shaped : Shaped p) (a : ParserAnswer) (h : Answers (saidPush p f) (pushed p f .parser) a) where
+module _ (p : CCDataParser) (f : List ℕ) (shaped : Shaped p) (a : ParserAnswer) (h : Answers p (saidPush p f) (takeFrame f (means p) .next) (pushed p f) a) where
   abbrev number : Said → ℕ
   number s = s .number
 
@@ -57,14 +58,14 @@ module _ (p : CCDataParser) (f : List ℕ) (shaped : Shaped p) (a : ParserAnswer
         }
 
     pub pushed-valid : valid (a .parser) ≡ true
-    pushed-valid = rw (h .parser) (pushed-sound p f sound .valid)
+    pushed-valid = rw (h .places) (pushed-sound p f sound .valid)
 
     lines-are : (r : ℕ) → frameLines r f p ≡ frameLine r (saidAnswer (a .answer)) ++ waitingLines (means (a .parser))
     unfolding frameLines takenLines
     lines-are r =
         let z : takeFrame f (means p) .answer .number ≡ 0 = rw (sound .valid) at zero-said in
         let s : saidAnswer (a .answer) ≡ takeFrame f (means p) .answer = rw (sound .valid) at (h .answer) in
-        rw (sound .valid, eq-eqb _ _ z, h .parser, means-pushed p f sound, s)
+        rw (sound .valid, eq-eqb _ _ z, h .means (sound .valid), s)
 
     pub accepted-lines : (r : ℕ) {out mid after : List ℕ} {at q t : ℕ} → Laid (frameLine r (saidAnswer (a .answer))) out at q mid
         → Laid (waitingLines (means (a .parser))) mid q t after → Laid (frameLines r f p) out at t after
@@ -72,7 +73,7 @@ module _ (p : CCDataParser) (f : List ℕ) (shaped : Shaped p) (a : ParserAnswer
 
     pub accepted-state : drawnOut 63 (a .parser) ≡ settled p f
     unfolding settled
-    accepted-state = rw (eq-eqb _ _ zero-said, h .parser)
+    accepted-state = rw (eq-eqb _ _ zero-said, h .places)
 
   -- it is refused
   module _ (why : Refusal) (e : a .answer ≡ Refused why) where
@@ -90,4 +91,4 @@ module _ (p : CCDataParser) (f : List ℕ) (shaped : Shaped p) (a : ParserAnswer
 
     pub refused-state : a .parser ≡ settled p f
     unfolding settled
-    refused-state = rw some-said (h .parser)
+    refused-state = rw some-said (h .places)

@@ -9,12 +9,13 @@ use Rattle.packet.specs.Packet.{packetOf}
 use Rattle.records.specs.Laid.{Laid}
 use Rattle.records.proofs.Layings.{laid-within}
 use Rattle.parser.specs.Means.{means}
-use Rattle.parser.specs.Draw.{drawn}
+use Rattle.parser.specs.Calls.{drawn}
 use Rattle.parser.specs.Items.{Draws}
 use Rattle.parser.specs.declared.Item.the-variants as item
 use Rattle.parser.specs.declared.Drawn.{Drawn}
 use Rattle.parser.specs.declared.CCDataParser.{CCDataParser}
-use Rattle.parser.proofs.Kept.{Sound, drawn-sound, means-drawn}
+use Rattle.parser.proofs.Laid.{Sound}
+use Rattle.parser.proofs.Kept.{drawn-sound}
 use Rattle.report.specs.Report.{waitingLines, itemLines, drawnOut}
 use Rattle.report.proofs.Lays.{Completes, completes-more, laid-nothing}
 use Rattle.report.proofs.Draws.{itemsIn, none-lines, drawn-fewer, drawn-lines, drawn-none, items-few, stays}
@@ -53,22 +54,20 @@ module _ {before : CCDataParser} {out₀ : List ℕ} {at : ℕ} where
     pub going-next : Going before out₀ at mid (r .parser) q n
     unfolding drawnOut
     going-next =
-        let d : means (drawn p .parser) ≡ model.draw (means p) .next = means-drawn p (g .sound) in
+        let d : means (r .parser) ≡ model.draw (means p) .next = h .means (g .sound .valid) in
         let l : length mid ≡ length out = laid-within w .1 in
-        rw (h .parser)
-        (record {
-          sound = drawn-sound p (g .sound);
+        record {
+          sound = rw (h .places) (drawn-sound p (g .sound));
           few = rw d (drawn-fewer (means p) n (omega (arith, g .few)));
           place = omega (arith, laid-within w .0);
           same = l ∙ g .same;
           lines = rw d (completes-more (rw (drawn-lines p (g .sound) r h) at (g .lines)) w);
-          state = g .state ∙ ap (λ (k : ℕ). drawnOut k p) e;
-        })
+          state = rw (h .places) (g .state ∙ ap (λ (k : ℕ). drawnOut k p) e);
+        }
 
     -- it was none
     pub going-none : r .item ≡ item.Nothing → Done before out₀ at mid (r .parser) q
     going-none told =
-        let d : means (drawn p .parser) ≡ model.draw (means p) .next = means-drawn p (g .sound) in
         let z : itemsIn (means p) ≡ 0 = drawn-none p (g .sound) r h told in
         let y : itemsIn (model.draw (means p) .next) ≤ 0 = drawn-fewer (means p) 0 (omega arith) in
-        going-done going-next (omega (arith, y, ap (λ (x : CCDataParser). itemsIn (means x)) (h .parser), ap itemsIn d))
+        going-done going-next (omega (arith, y, ap itemsIn (h .means (g .sound .valid))))

@@ -12,9 +12,8 @@ use Rattle.model.specs.Demux.{Demux, Taken, takeFrame}
 use Rattle.records.specs.Text.{word}
 use Rattle.lines.specs.Lines.{pairText, packetText, frameLine, blockLine}
 use Rattle.parser.specs.Valid.{valid}
-use Rattle.parser.specs.Means.{means, saidPush}
-use Rattle.parser.specs.Push.{pushed}
-use Rattle.parser.specs.Draw.{drawn}
+use Rattle.parser.specs.Means.{means}
+use Rattle.parser.specs.Calls.{saidPush, pushed, drawn}
 use Rattle.parser.specs.declared.Item.{Item}
 use Rattle.parser.specs.declared.Item.the-variants as item
 use Rattle.parser.specs.declared.CCDataParser.{CCDataParser}
@@ -56,11 +55,11 @@ frameLines r f p = cond (valid p) (takenLines r (takeFrame f (means p))) (frameL
 -- the demultiplexer after n draws
 unfoldable pub drawnOut : ℕ → CCDataParser → CCDataParser
 drawnOut zero p = p
-drawnOut (suc n) p = drawnOut n (drawn p .parser)
+drawnOut (suc n) p = drawnOut n (drawn p)
 
 -- and after a frame of which everything is drawn: no frame leaves more than 31 pairs and 32 packets
 unfoldable pub settled : CCDataParser → List ℕ → CCDataParser
-settled p f = cond (eqb (saidPush p f .number) 0) (drawnOut 63 (pushed p f .parser)) (pushed p f .parser)
+settled p f = cond (eqb (saidPush p f .number) 0) (drawnOut 63 (pushed p f)) (pushed p f)
 
 -- the lines of an item beside which a packet stands
 unfoldable pub itemLines : Item → Packet → List ℕ

@@ -23,7 +23,8 @@ use Rattle.packet.specs.declared.DTVCCPacket.{DTVCCPacket}
 use Rattle.packet.proofs.Holds.{over-holds}
 use Rattle.parser.specs.Means.{means}
 use Rattle.parser.specs.Items.{Draws, saidItem, itemValues, packetOfItem}
-use Rattle.parser.proofs.Kept.{Sound, drawn-sound, means-drawn}
+use Rattle.parser.proofs.Laid.{Sound}
+use Rattle.parser.proofs.Kept.{drawn-sound, means-drawn}
 use Rattle.parser.proofs.Items.{saidItem-injective}
 use Rattle.parser.specs.declared.CCDataParser.{CCDataParser}
 use Rattle.parser.specs.declared.Drawn.{Drawn}

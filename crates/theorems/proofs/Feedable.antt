@@ -10,10 +10,10 @@ use Rattle.model.specs.Frame.{Cea608}
 use Rattle.model.specs.Demux as model
 use Rattle.caption.specs.declared.Answer.{Answer}
 use Rattle.parser.specs.Means.{means}
-use Rattle.parser.specs.Push.{pushed}
-use Rattle.parser.specs.Draw.{drawn}
+use Rattle.parser.specs.Calls.{pushed, drawn}
 use Rattle.parser.specs.Items.{Draws, packetOfItem}
-use Rattle.parser.proofs.Kept.{Sound, pushed-sound}
+use Rattle.parser.proofs.Laid.{Sound}
+use Rattle.parser.proofs.Kept.{pushed-sound}
 use Rattle.parser.proofs.Calls.{pushed-answers}
 use Rattle.parser.specs.declared.CCDataParser.{CCDataParser}
 use Rattle.parser.specs.declared.ParserAnswer.{ParserAnswer}

@@ -21,9 +21,10 @@ use Rattle.caption.specs.declared.Answer.{Answer}
 use Rattle.caption.specs.declared.Refusal.{Refusal}
 use Rattle.caption.specs.declared.Answer.the-variants.{Accepted, Refused}
 use Rattle.caption.proofs.Answers.{saidAnswer-injective}
-use Rattle.parser.specs.Means.{means, Answers, saidPush}
-use Rattle.parser.specs.Push.{pushed}
-use Rattle.parser.proofs.Kept.{Sound, pushed-sound, means-pushed}
+use Rattle.parser.specs.Means.{means}
+use Rattle.parser.specs.Calls.{Answers, saidPush, pushed}
+use Rattle.parser.proofs.Laid.{Sound}
+use Rattle.parser.proofs.Kept.{pushed-sound, means-pushed}
 use Rattle.parser.specs.declared.CCDataParser.{CCDataParser}
 use Rattle.parser.specs.declared.Item as parser
 use Rattle.parser.specs.declared.Item.the-variants as item

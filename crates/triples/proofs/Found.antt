@@ -16,7 +16,8 @@ use Rattle.model.specs.Demux.{pairsIn, lateFrom, lateAfter, carries708}
 use Rattle.model.proofs.Frames.{few-pairs}
 use Rattle.triples.specs.Walk.{over, seenFrom}
 use Rattle.triples.specs.Scan.{scanTurn}
-use Rattle.triples.specs.Pairs.{placedAll, pairsOf, listing}
+use Rattle.triples.specs.Pairs.{placedAll, pairsOf}
+use Rattle.triples.specs.Listing.{listing}
 use Rattle.triples.specs.Plan.{plan, planFound}
 use Rattle.triples.specs.declared.Scan.{Scan}
 use Rattle.triples.specs.declared.Scan.the-variants.{Only608, Ended, Carries, Late}
@@ -68,14 +69,14 @@ scan-found i (start a b ∷ ts) = rw add-one (carries-found (suc i) ts)
 scan-found i (more a b ∷ ts) = rw add-one (carries-found (suc i) ts)
 
 -- three places a pair
-placed-length : (ps : List Cea608) → length (placedAll ps) ≡ 3 * length ps
+pub placed-length : (ps : List Cea608) → length (placedAll ps) ≡ 3 * length ps
 unfolding placedAll
 placed-length [] = refl
 placed-length (field1 (pair a b) ∷ ps) = omega (arith, placed-length ps)
 placed-length (field2 (pair a b) ∷ ps) = omega (arith, placed-length ps)
 
 -- the places at the head are the pairs
-pairs-placed : (ps : List Cea608) (rest : List ℕ) → pairsOf (length ps) (placedAll ps ++ rest) ≡ ps
+pub pairs-placed : (ps : List Cea608) (rest : List ℕ) → pairsOf (length ps) (placedAll ps ++ rest) ≡ ps
 unfolding placedAll pairsOf
 pairs-placed [] rest = refl
 pairs-placed (field1 (pair a b) ∷ ps) rest = ap (λ (l : List Cea608). field1 (pair a b) ∷ l) (pairs-placed ps rest)

@@ -11,7 +11,8 @@ use Rattle.model.proofs.Cases.{by-test}
 use Rattle.model.specs.Frame.{tri, Seen, seen, first, second, Cea608, field1, field2, pair}
 use Rattle.model.specs.Demux.{pairsIn}
 use Rattle.triples.specs.Walk.{seenFrom}
-use Rattle.triples.specs.Pairs.{Listing, placed, placedAll, listing}
+use Rattle.triples.specs.Pairs.{placed, placedAll}
+use Rattle.triples.specs.Listing.{Listing, listing}
 use Rattle.triples.proofs.Walks.{seen-next, seen-none, sees-void608, sees-first, sees-second, sees-void708, sees-708}
 
 -- three stores one behind the other

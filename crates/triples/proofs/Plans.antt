@@ -13,7 +13,7 @@ use Rattle.model.specs.Demux.{unread}
 use Rattle.model.proofs.Cases.{by-test}
 use Rattle.triples.specs.Walk.{seenFrom}
 use Rattle.triples.specs.Scan.{scanned}
-use Rattle.triples.specs.Pairs.{Listing, listing, listedBy}
+use Rattle.triples.specs.Listing.{Listing, listing, listedBy}
 use Rattle.triples.specs.Plan.{headOf, plan, planWalked, planOf}
 use Rattle.triples.specs.declared.Head.{Head}
 use Rattle.triples.specs.declared.Head.the-variants as head

@@ -1,4 +1,5 @@
 pub mod Walk
 pub mod Scan
 pub mod Pairs
+pub mod Listing
 pub mod Plan

@@ -1,4 +1,4 @@
--- What is to be done with a frame: document 01, "Reading frames". Assumes nothing.
+-- What is to be done with a frame: document 01, "Reading frames". No public contract of `parser` reaches this file. Assumes nothing.
 use mathlib.Core.List.{List}
 use mathlib.Core.Bool.{Bool, true, false, cond}
 use mathlib.Core.Option.{Option, none, some}

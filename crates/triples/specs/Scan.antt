@@ -1,4 +1,4 @@
--- The search for a late 608 triple and for a valid 708 triple. Assumes nothing.
+-- The search for a late 608 triple and for a valid 708 triple. No public contract of `parser` reaches this file. Assumes nothing.
 use mathlib.Core.List.{List}
 use mathlib.Core.Bool.{Bool, cond}
 use Prim.Native.Nat.{ℕ, _*_}

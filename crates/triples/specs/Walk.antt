@@ -1,4 +1,4 @@
--- The walk over the triples of a frame, from the first to the last. Assumes nothing.
+-- The walk over the triples of a frame, from the first to the last. No public contract of `parser` reaches this file. Assumes nothing.
 use mathlib.Core.List.{List, [], _∷_}
 use Prim.Native.Nat.{ℕ, _+_, _*_}
 use lib.ListN.{drop}

@@ -6,7 +6,7 @@ ghost use lib.ListN.{length};
 ghost use Rattle.model.specs.Frame.{Seen, seen, tri};
 ghost use Rattle.triples.specs.Walk.{over, seenFrom};
 ghost use Rattle.triples.specs.Scan.{found, scanTurn, scanned};
-ghost use Rattle.triples.specs.Pairs.{listing, listedBy};
+ghost use Rattle.triples.specs.Listing.{listing, listedBy};
 ghost use mathlib.Core.Bool.{false, _&&_};
 ghost use Rattle.triples.specs.Plan.{headOf, planWalked, planOf};
 use caption::Answer;

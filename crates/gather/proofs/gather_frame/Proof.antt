@@ -1,33 +1,33 @@
--- `gather::gather_frame` meets its contract: the walk over the whole stays the walk over what is left, by whether a triple delivers; then the frame's end. Assumes nothing.
-use borrow.Author.Needs.{needs}
-use mathlib.Core.Path.{_≡_, refl, sym, _∙_}
+-- `gather::gather_frame` meets its contract: what the whole frame leaves stays what is left of it leaves behind the slots that are there, by
+-- whether a triple delivers; then the frame's end. Assumes nothing.
+use mathlib.Core.Path.{_≡_, refl}
 use mathlib.Core.Logic.{⊎-elim}
 use Prim.Native.Nat.{_+_, _*_, _-_, _≤_}
 use native.Mathlib.Omega.{arith}
-use lib.ListN.{length}
-use Rattle.triples.specs.Walk.{over, seenFrom}
-use Rattle.triples.proofs.Walks.{walk-again, walk-done}
-use Rattle.gather.proofs.Gathers.{turn-delivers, turn-keeps, end-delivers, end-keeps, gathered-is}
-use Rattle.gather.specs.Gather.{Sized, heldBy, gatherTurn}
+use lib.ListN.{length, take}
+use borrow.Author.Needs.{needs}
+use Rattle.model.specs.Demux.{gather, ended}
+use Rattle.triples.specs.Walk.{seenFrom}
+use Rattle.gather.specs.Gather.{Sized, leftOf}
+use Rattle.gather.proofs.Gathers.{Going, held-places, left-most, turn-delivers, turn-keeps, end-delivers, end-keeps}
 use Rattle.gather.proofs.gather_frame.Statement.{statement}
 use Rattle.gather.proofs.gather_frame.Tie as tie
 
 abbrev Inv-loop : tie.InvT-loop
-Inv-loop first count len pending₀ frame t₀ n₀ s₀ i₀ pending t n s i =
+Inv-loop first count len pending frame t₀ n₀ bytes₀ s₀ i₀ t n bytes s i =
     (3 * i ≤ length frame + 2)
     × (n ≤ 32 + i)
     × Sized s
-    × (over (gatherTurn first) (record { held = heldBy s₀ pending₀; ring = record { count = n₀; slots = t₀ } }) 0 (seenFrom 0 frame)
-    ≡ over (gatherTurn first) (record { held = heldBy s pending; ring = record { count = n; slots = t } }) i (seenFrom i frame))
+    × Going (leftOf first n₀ t₀ pending (ended (gather (take len pending) (seenFrom 0 frame)))) first pending n t s bytes (seenFrom i frame)
 
 abbrev μ-loop : tie.MeasureT-loop
-μ-loop first count len pending₀ frame t₀ n₀ s₀ i₀ pending t n s i = length frame + 3 - 3 * i
+μ-loop first count len pending frame t₀ n₀ bytes₀ s₀ i₀ t n bytes s i = length frame + 3 - 3 * i
 
 run-of-requires : tie.Need-run-of-requires Inv-loop μ-loop
-run-of-requires c κs = search needs
+run-of-requires c κs = search (needs, refl)
 
 loop-holds : tie.Need-loop-holds Inv-loop μ-loop
-loop-holds c = (omega arith, omega arith, search needs, refl)
+loop-holds c = (omega arith, omega arith, search needs, record { held = _; holds = c .run-of .ensures .0; rest = refl })
 
 mul-loop : tie.Need-mul-loop Inv-loop μ-loop
 mul-loop c = search needs
@@ -45,7 +45,7 @@ shared-slice-read-c : tie.Need-shared-slice-read-c Inv-loop μ-loop
 shared-slice-read-c c = search needs
 
 closes-requires : tie.Need-closes-requires Inv-loop μ-loop
-closes-requires c κs = search needs
+closes-requires c κs = let v = c .before .before .before .loop .inv .3 in held-places (v .holds) .0
 
 add-t : tie.Need-add-t Inv-loop μ-loop
 add-t c = search needs
@@ -87,7 +87,22 @@ loop-less : tie.Need-loop-less Inv-loop μ-loop
 loop-less c = search needs
 
 loop-again : tie.Need-loop-again Inv-loop μ-loop
-loop-again c = (omega arith, ⊎-elim (λ w. omega arith) (λ w. omega arith) (c .before .before .before .before .if1 .came), search needs, walk-again (gatherTurn _) _ _ _ _ _ (c .before .before .before .before .before .before .before .before .before .loop .inv .3) (c .before .before .before .before .before .before .before .before .loop-test .taken) (⊎-elim (λ w. search (needs, turn-delivers)) (λ w. search (needs, turn-keeps)) (c .before .before .before .before .if1 .came)))
+loop-again c =
+    let came = c .before .before .before .before .if1 .came in
+    let v = c .before .before .before .before .before .before .before .before .before .loop .inv .3 in
+    let more = c .before .before .before .before .before .before .before .before .loop-test .taken in
+    let asked = c .before .before .before .before .before .closes .ensures in (
+      omega arith,
+      ⊎-elim (λ w. omega arith) (λ w. omega arith) came,
+      search needs,
+      record {
+        held = _;
+        holds = c .put-triple .ensures .0 (v .held) (v .holds);
+        rest =
+            ⊎-elim (λ w. turn-delivers _ _ _ _ _ (v .held) _ _ (v .holds) _ _ more (v .rest) _ asked _ _ (search needs) (search needs) (search needs))
+            (λ w. turn-keeps _ _ _ _ _ (v .held) _ _ (v .holds) _ _ more (v .rest) _ asked _ _ (search needs) (search needs) (search needs)) came;
+      },
+    )
 
 completes-requires : tie.Need-completes-requires Inv-loop μ-loop
 completes-requires c κs = search needs
@@ -107,11 +122,29 @@ add-n-2 c = search needs
 left-of-requires : tie.Need-left-of-requires Inv-loop μ-loop
 left-of-requires c κs = search needs
 
+sub-put-bytes : tie.Need-sub-put-bytes Inv-loop μ-loop
+sub-put-bytes c = search needs
+
+part-put-bytes-start : tie.Need-part-put-bytes-start Inv-loop μ-loop
+part-put-bytes-start c = search needs
+
+part-put-bytes-end : tie.Need-part-put-bytes-end Inv-loop μ-loop
+part-put-bytes-end c =
+    let v = c .before .before .before .before .before .before .before .loop in
+    omega (arith, held-places (v .inv .3 .holds), left-most (v .s .need) (v .s .len) _ (c .before .before .left-of .ensures))
+
+put-bytes-requires : tie.Need-put-bytes-requires Inv-loop μ-loop
+put-bytes-requires c κs = search needs
+
 returns : tie.Need-returns Inv-loop μ-loop
 returns c =
-    gathered-is _ _ _ (c .before .before .before .before .before .before .before .before .before .args .frame .now) _ _ _ _ (c .before .before .before .before .before .before .run-of .ensures .0)
-    (c .before .before .before .before .before .loop .inv .3 ∙ sym (walk-done (gatherTurn _) _ _ _ _ refl (c .before .before .before .before .loop-test .left)))
-    (⊎-elim (λ w. search (needs, end-delivers)) (λ w. search (needs, end-keeps)) (c .before .if2 .came))
+    let came = c .before .before .before .before .before .if2 .came in
+    let v = c .before .before .before .before .before .before .before .before .before .loop .inv .3 in
+    let done = c .before .before .before .before .before .before .before .before .loop-test .left in
+    let asked = c .before .before .before .before .before .before .completes .ensures in
+    let left = c .before .before .before .before .left-of .ensures in
+    ⊎-elim (λ w. end-delivers _ _ _ _ _ (v .held) _ _ (v .holds) _ _ done (v .rest) _ asked _ left _ (c .put-bytes .ensures) _ _ (search needs) (search needs) (search needs))
+    (λ w. end-keeps _ _ _ _ _ (v .held) _ _ (v .holds) _ _ done (v .rest) _ asked _ left _ (c .put-bytes .ensures) _ _ (search needs) (search needs) (search needs)) came
 
 pub gather-frame-spec : {M : Type 1} → statement M
 gather-frame-spec =
@@ -147,4 +180,8 @@ gather-frame-spec =
     array-set-from-t-2
     add-n-2
     left-of-requires
+    sub-put-bytes
+    part-put-bytes-start
+    part-put-bytes-end
+    put-bytes-requires
     returns)

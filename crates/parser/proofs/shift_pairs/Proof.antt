@@ -4,7 +4,7 @@ use Rattle.parser.proofs.Draws.{slid-again, slid-none, slid-done}
 use mathlib.Core.Path.{_≡_}
 use Prim.Native.Nat.{_-_, _≤_}
 use native.Mathlib.Omega.{arith}
-use Rattle.parser.specs.Draw.{slid}
+use Rattle.parser.specs.Take.{slid}
 use Rattle.parser.proofs.shift_pairs.Statement.{statement}
 use Rattle.parser.proofs.shift_pairs.Tie as tie
 

@@ -5,7 +5,7 @@ use Prim.Native.Nat.{_+_, _*_, _-_, _≤_}
 use native.Mathlib.Omega.{arith}
 use lib.ListN.{length}
 use Rattle.triples.specs.Walk.{seenFrom}
-use Rattle.triples.specs.Pairs.{listing}
+use Rattle.triples.specs.Listing.{listing}
 use Rattle.triples.proofs.Lists.{list-none, list-stops, list-again}
 use Rattle.triples.proofs.list_pairs.Statement.{statement}
 use Rattle.triples.proofs.list_pairs.Tie as tie

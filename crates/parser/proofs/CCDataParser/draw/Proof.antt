@@ -40,7 +40,7 @@ take-item-requires c κs =
     let o = g .before .before .before in
     let n = o .before in
     let s = n .before .before .before .before in
-    takes (s .args .self) (n .counts .result) (n .counts .ensures) (o .oldest .result) (o .oldest .ensures) _ (g .good2 .ensures)
+    takes (s .args .self) (shaped s) (n .counts .result) (n .counts .ensures) (o .oldest .result) (o .oldest .ensures) _ (g .good2 .ensures)
 
 returns : tie.Need-returns
 returns c =
@@ -48,7 +48,7 @@ returns c =
     let o = g .before .before .before in
     let n = o .before in
     let s = n .before .before .before .before in
-    taken-draws (s .args .self) (n .counts .result) (n .counts .ensures) (o .oldest .result) (o .oldest .ensures) _ (g .good2 .ensures) _ _ (c .before .take-item .ensures) (shaped s)
+    taken-draws (s .args .self) (shaped s) (n .counts .result) (n .counts .ensures) (o .oldest .result) (o .oldest .ensures) _ (g .good2 .ensures) _ _ (c .before .take-item .ensures)
 
 pub draw-spec : {M : Type 1} → statement M
 draw-spec =

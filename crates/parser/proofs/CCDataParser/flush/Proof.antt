@@ -1,4 +1,5 @@
 -- `parser::CCDataParser::flush` meets its contract: one law of `Calls` for each way out. Assumes nothing.
+use Rattle.parser.proofs.Kept.{means-fresh}
 use Rattle.parser.proofs.Calls.{call-accepted, call-refused}
 use borrow.Author.Needs.{needs}
 use Rattle.parser.proofs.CCDataParser.flush.Statement.{statement}
@@ -11,7 +12,7 @@ new-requires : tie.Need-new-requires
 new-requires c κs = search needs
 
 returns : tie.Need-returns
-returns c = search (needs, call-accepted)
+returns c = search (needs, call-accepted, means-fresh)
 
 refused-requires : tie.Need-refused-requires
 refused-requires c κs = search needs

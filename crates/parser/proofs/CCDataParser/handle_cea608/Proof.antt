@@ -1,16 +1,29 @@
 -- `parser::CCDataParser::handle_cea608` meets its contract: one law of `Calls` for each way out. Assumes nothing.
-use Rattle.parser.proofs.Calls.{call-accepted, call-refused}
-use Rattle.parser.specs.Means.{turnedOn}
+use mathlib.Core.Path.{sym, _∙_}
+use Rattle.parser.specs.Means.{Shaped}
+use Rattle.parser.proofs.Kept.{means-turned}
+use Rattle.parser.proofs.Calls.{length-mapped, call-accepted, call-refused, turned-is}
 use borrow.Author.Needs.{needs}
 use Rattle.parser.proofs.CCDataParser.handle_cea608.Statement.{statement}
 use Rattle.parser.proofs.CCDataParser.handle_cea608.Tie as tie
+use Rattle.parser.proofs.CCDataParser.handle_cea608.Reads as reads
+use Rattle.parser.proofs.CCDataParser.handle_cea608.Lts as lts
+use Rattle.parser.proofs.CCDataParser.is_valid.Reads as is-valid-reads
+use Rattle.parser.proofs.CCDataParser.refused.Reads as refused-reads
+
+-- the arrays have their lengths
+shaped : (s : lts.Start (is-valid-reads.Asked, is-valid-reads.Learnt, refused-reads.Asked, refused-reads.Learnt) reads.Pre reads.Post) → Shaped (s .args .self)
+shaped s = record { pairs = search needs; pending = search needs; waiting = search (needs, length-mapped) }
 
 is-valid-requires : tie.Need-is-valid-requires
 is-valid-requires c κs = search needs
 
 returns : tie.Need-returns
-unfolding turnedOn
-returns c = search (needs, call-accepted)
+returns c =
+    let t = c .before in
+    let s = shaped (t .before) in
+    let v = sym (t .is-valid .ensures) ∙ c .if1 .taken in
+    call-accepted _ _ (t .is-valid .ensures) _ _ _ (c .if1 .taken) (turned-is _ s v) (means-turned _ (record { valid = v; shaped = s }))
 
 refused-requires : tie.Need-refused-requires
 refused-requires c κs = search needs

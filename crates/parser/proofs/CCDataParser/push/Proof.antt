@@ -1,7 +1,7 @@
 -- `parser::CCDataParser::push` meets its contract: one law of `Pushes` for each way out gives the exact result, and `Told` says what it means. Assumes nothing.
 use Rattle.parser.proofs.Valids.{tested-fine}
 use Rattle.parser.proofs.Pushes.{push-bad, push-full, push-done}
-use Rattle.parser.proofs.Calls.{length-mapped, pushed-answers}
+use Rattle.parser.proofs.Calls.{length-mapped}
 use Rattle.parser.specs.Means.{Shaped}
 use borrow.Author.Needs.{needs}
 use Rattle.parser.proofs.CCDataParser.push.Statement.{statement}
@@ -68,7 +68,7 @@ returns c =
     let q = g .before .before .before .before in
     let t = q .before .before in
     let o = t .before .before .before .before in
-    pushed-answers _ _ _ (shaped (o .before .before .before .before .before .before)) (push-full _ _ _ (o .before .counts .ensures) _ (tested-fine _ _ _ _ _ (o .oldest .ensures) _ _ (t .before .before .before .ring-good .ensures) (t .good2 .ensures)) (q .before .if1 .taken) _ (q .plan-of .ensures) _ _ (g .before .before .list-by .ensures) _ _ (g .gather-by .ensures) _ (c .before .if2 .taken) (c .refused .ensures))
+    push-full _ _ (shaped (o .before .before .before .before .before .before)) _ (o .before .counts .ensures) _ (tested-fine _ _ _ _ _ (o .oldest .ensures) _ _ (t .before .before .before .ring-good .ensures) (t .good2 .ensures)) (q .before .if1 .taken) _ (q .plan-of .ensures) _ _ (g .before .before .list-by .ensures) _ _ (g .gather-by .ensures) _ (c .before .if2 .taken) (c .refused .ensures)
 
 returns-2 : tie.Need-returns-2
 returns-2 c =
@@ -76,7 +76,7 @@ returns-2 c =
     let q = g .before .before .before .before in
     let t = q .before .before in
     let o = t .before .before .before .before in
-    pushed-answers _ _ _ (shaped (o .before .before .before .before .before .before)) (push-done _ _ _ (o .before .counts .ensures) _ (tested-fine _ _ _ _ _ (o .oldest .ensures) _ _ (t .before .before .before .ring-good .ensures) (t .good2 .ensures)) (q .before .if1 .taken) _ (q .plan-of .ensures) _ _ (g .before .before .list-by .ensures) _ _ (g .gather-by .ensures) (c .before .if2 .left))
+    push-done _ _ (shaped (o .before .before .before .before .before .before)) _ (o .before .counts .ensures) _ (tested-fine _ _ _ _ _ (o .oldest .ensures) _ _ (t .before .before .before .ring-good .ensures) (t .good2 .ensures)) (q .before .if1 .taken) _ (q .plan-of .ensures) _ _ (g .before .before .list-by .ensures) _ _ (g .gather-by .ensures) (c .before .if2 .left)
 
 refused-requires-2 : tie.Need-refused-requires-2
 refused-requires-2 c κs = search needs
@@ -85,7 +85,7 @@ returns-3 : tie.Need-returns-3
 returns-3 c =
     let t = c .before .before in
     let o = t .before .before .before .before in
-    pushed-answers _ _ _ (shaped (o .before .before .before .before .before .before)) (push-bad _ _ _ (o .before .counts .ensures) _ (tested-fine _ _ _ _ _ (o .oldest .ensures) _ _ (t .before .before .before .ring-good .ensures) (t .good2 .ensures)) _ (c .before .if1 .left) (c .refused2 .ensures))
+    push-bad _ _ (shaped (o .before .before .before .before .before .before)) _ (o .before .counts .ensures) _ (tested-fine _ _ _ _ _ (o .oldest .ensures) _ _ (t .before .before .before .ring-good .ensures) (t .good2 .ensures)) _ (c .before .if1 .left) (c .refused2 .ensures)
 
 pub push-spec : {M : Type 1} → statement M
 push-spec =

@@ -1,7 +1,7 @@
--- Drawing an item. Assumes nothing.
+-- The steps of drawing an item. No public contract reaches this file. Assumes nothing.
 use mathlib.Core.List.{List, _++_}
 use mathlib.Core.Bool.{Bool, cond}
-use Prim.Native.Nat.{ℕ, _+_, _-_, _*_, _%_, _≤_}
+use Prim.Native.Nat.{ℕ, _-_, _*_, _≤_}
 use lib.ListN.{getD, take, drop}
 use lib.Dec.{eqb}
 use Rattle.caption.specs.declared.Cea608.{Cea608}
@@ -12,8 +12,8 @@ use Rattle.model.specs.Packet.{readPacket}
 use Rattle.packet.specs.Packet.{laid, blank}
 use Rattle.slots.specs.declared.Slot.{Slot}
 use Rattle.packet.specs.declared.DTVCCPacket.{DTVCCPacket}
-use Rattle.gather.specs.Ring.{noSlot, slotFine}
-use Rattle.parser.specs.Valid.{countsOf, valid}
+use Rattle.gather.specs.Ring.{slotFine}
+use Rattle.parser.specs.Calls.{placeBehind}
 use Rattle.parser.specs.declared.Counts.{Counts}
 use Rattle.parser.specs.declared.Took.{Took}
 use Rattle.parser.specs.declared.Item.{Item}
@@ -36,10 +36,6 @@ packetAt g = after blank (mapped laid (readPacket g))
 -- the packet of a slot
 abbrev pub slotPacket : Slot → DTVCCPacket
 slotPacket s = packetAt (take (s .len) (s .bytes))
-
--- the place of the ring's head once the slot there is taken; a ring that is emptied starts again at its first place
-unfoldable pub placeBehind : ℕ → ℕ → ℕ
-placeBehind first waiting = cond (eqb waiting 1) 0 ((first + 1) % 32)
 
 -- what is taken out of a state: an item, the packet beside it, and the list and the counts afterwards
 pub record Taken : Type 0 where
@@ -123,7 +119,3 @@ drawnBy p t =
         waiting = p .waiting;
       };
     }
-
--- drawing, from any state
-unfoldable pub drawn : CCDataParser → Drawn
-drawn p = drawnBy p (takeItem (valid p) (countsOf p) (p .pairs) (getD (p .waiting) (p .«waiting_first») noSlot))
