@@ -1,41 +1,32 @@
--- The records of a buffer, read one after another: "records of mark CC DA, one length byte, that many frame bytes" (document 01, program `ccread`).
+-- What `ccread` tells of its input: "records of mark CC DA, one length byte, that many frame bytes" (document 01, program `ccread`).
 -- Assumes nothing.
-use mathlib.Core.Bool.{Bool}
+use mathlib.Core.Bool.{Bool, true}
 use mathlib.Core.List.{List, [], _∷_}
-use Prim.Native.Nat.{ℕ, zero, suc, _+_, _%_, _^_}
-use lib.ListN.{take, drop}
+use Prim.Native.Nat.{ℕ}
+use lib.ListN.{drop}
+use Rattle.parser.specs.Fresh.{fresh}
+use Rattle.parser.specs.Means.{turnedOn}
 use Rattle.parser.specs.declared.CCDataParser.{CCDataParser}
-use Rattle.records.specs.Reading.{foundIn}
-use Rattle.records.specs.declared.Found.{Found}
-use Rattle.records.specs.declared.Found.the-variants as found
-use Rattle.report.specs.Report.{settled}
-use Rattle.streams.specs.declared.Left.{Left}
-use Rattle.streams.specs.declared.Left.the-variants.{More, Stopped, Ended}
-
--- where the records end, how many there were with those before, how it goes on, and the demultiplexer
-pub record Walked : Type 0 where
-  pub at : ℕ
-  pub records : ℕ
-  pub left : Left
-  pub parser : CCDataParser
+use Rattle.report.specs.Report.{frameLines, settled}
+use Rattle.streams.specs.Walk.{Told, Walked, told, leftToTell}
+use Rattle.ccread.specs.declared.Stand.{Stand}
+use Rattle.ccread.specs.declared.State.{State}
 
 -- "mark CC DA"
 abbrev pub mark : List ℕ
 mark = 0xCC ∷ 0xDA ∷ []
 
--- where the walk stops
-abbrev pub stop : ℕ → ℕ → Left → CCDataParser → Walked
-stop at n left p = record { at = at; records = n; left = left; parser = p }
+-- the lines of a record's frame, and the demultiplexer after it
+abbrev pub tell : ℕ → CCDataParser → List ℕ → Told CCDataParser
+tell n p frame = record { text = frameLines n frame p; next = settled p frame }
 
--- what is found at place `at`, and the rest behind a whole record; the number of a record is one of 64 bits
-unfoldable pub walkedBy : (ℕ → ℕ → CCDataParser → Walked) → List ℕ → ℕ → ℕ → CCDataParser → Found → Walked
-walkedBy rest buf at n p (found.Record start len next) = rest next ((n + 1) % 2 ^ 64) (settled p (take len (drop start buf)))
-walkedBy rest buf at n p found.More = stop at n More p
-walkedBy rest buf at n p found.WrongMark = stop at n Stopped p
-walkedBy rest buf at n p found.Short = stop at n Stopped p
-walkedBy rest buf at n p found.End = stop at n Ended p
+-- what a buffer tells from where the program stands, and what it tells still
+abbrev pub toTell : Bool → List ℕ → Stand → Walked CCDataParser
+toTell ended buf d = told mark tell ended (drop (d .at) buf) (d .passed) (d .records) (d .parser)
 
--- the records of a buffer from place `at` on, at most k
-unfoldable pub walked : ℕ → Bool → List ℕ → ℕ → ℕ → CCDataParser → Walked
-walked zero ended buf at n p = stop at n More p
-walked (suc k) ended buf at n p = walkedBy (walked k ended buf) buf at n p (foundIn mark ended at (drop at buf))
+abbrev pub stillToTell : Bool → List ℕ → Stand → Walked CCDataParser
+stillToTell ended buf d = leftToTell mark tell ended buf (d .at) (d .passed) (d .records) (d .parser) (d .full) (d .left)
+
+-- nothing is read, and "608 is on"
+abbrev pub freshState : State
+freshState = record { have = 0; passed = 0; records = 0; going = true; parser = turnedOn fresh }

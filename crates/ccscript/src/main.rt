@@ -1,27 +1,35 @@
 // Drives every entry point of the libraries by a script: records of mark CC 5C from standard input to its end, each an operation and its
 // argument bytes, and for each a line that tells what the call answered. Reads and writes go through two buffers of fixed size, whatever the
 // input's length and cut.
-ghost use Prim.Native.Nat.{_≤_};
-ghost use lib.ListN.{length};
+ghost use mathlib.Core.Path.{_≡_};
+ghost use mathlib.Core.Bool.{true};
+ghost use mathlib.Core.List.{_++_};
+ghost use Prim.Native.Nat.{_+_, _≤_, _<_};
+ghost use lib.ListN.{length, take, drop};
+ghost use Rattle.streams.specs.Walk.{before, told, silent, done, Kept};
+ghost use Rattle.operations.specs.Ran.{ran};
+ghost use Rattle.ccscript.specs.Walk.{mark, lineOf, tell, toTell, stillToTell, freshState};
 use libc::STDIN_FILENO;
+use libc::STDOUT_FILENO;
+use operations::Stepped;
 use parts::Machine;
 use records::Found;
-use records::part;
 use streams::Left;
 
-// A line has at most 31 bytes, and behind them either the hex of 255 bytes or 63 blocks of 127 bytes in all: below 600 bytes.
+// A line has at most 31 bytes, and behind them either the hex of 255 bytes or 63 blocks of 127 bytes in all: below 600 bytes. A longer one would
+// not be told.
 const ROOM: usize = 600;
 
-// No buffer holds more records.
-const MOST_RECORDS: usize = 65536;
-
-// The place reached in the buffer, the records so far, the bytes of output that wait, and what the operations left.
-struct Drained {
+// Where the program stands in a buffer: the place there and in the input, the number of the next record, and what the operations left; how many
+// bytes are laid since it stood elsewhere, whether it stands there for want of room, and else where the records end.
+struct Stand {
     at: usize,
+    passed: u64,
     records: u64,
-    laid: usize,
-    left: Left,
     machine: Machine,
+    laid: usize,
+    full: bool,
+    left: Left,
 }
 
 // The bytes of input that wait, those before them, the records so far, whether to go on, and what the operations left.
@@ -33,37 +41,115 @@ struct State {
     machine: Machine,
 }
 
-// Every record that is whole in the buffer.
-fn drain(buf: &[u8], ended: bool, out: &mut [u8], first: u64, before: Machine) -> Drained {
-    let mut at: usize = 0;
+// Runs a record and lays its line behind those that wait.
+fn put_record(out: &mut [u8], at: usize, record: &[u8], machine: Machine) -> Stepped
+    requires { ⌜ at + 600 ≤ length (now out) ⌝ }
+    ensures { λ r. ⌜ take (r .laid) (now (out .exit)) ≡ take at (now (out .entry)) ++ lineOf machine (now («record» .entry)) ⌝ }
+    ensures { λ r. ⌜ r .machine ≡ ran machine (now («record» .entry)) .next ⌝ }
+{
+    let told = operations::run_record(out, at, machine, record);
+    if told.laid < at + ROOM {
+        return told;
+    }
+    let left = told.machine;
+    Stepped {
+        laid: at,
+        machine: left,
+    }
+}
+
+// Lays the lines of the records that are whole in the buffer, as long as there is room for one more, and the last line.
+fn drain(buf: &[u8], ended: bool, out: &mut [u8], from: Stand) -> Stand
+    requires { ⌜ 600 ≤ length (now out) ⌝ }
+    ensures { λ r. ⌜ toTell ended (now (buf .entry)) from ≡ before (take (r .laid) (now (out .exit))) (stillToTell ended (now (buf .entry)) r) ⌝ }
+    ensures { λ r. ⌜ (r .full ≡ true → (from .at < r .at) × (r .at ≤ length (now (buf .entry)))) ⌝ }
+{
+    let most = out.len() - ROOM;
+    let mut at = from.at;
+    let mut passed = from.passed;
+    let mut records = from.records;
+    let mut machine = from.machine;
     let mut laid: usize = 0;
-    let mut records = first;
-    let mut machine = before;
-    let mut n: usize = 0;
-    while n < MOST_RECORDS {
-        n += 1;
+    while laid <= most {
         let found = records::next_record(buf, at, ended, 0xCC, 0x5C);
         let Found::Record { start, len, next } = found else {
-            return Drained {
+            let left = streams::left_at(found);
+            let end = streams::put_last(out, laid, left, passed, records);
+            return Stand {
                 at,
+                passed,
                 records,
-                laid,
-                left: streams::left_at(found),
                 machine,
+                laid: end,
+                full: false,
+                left,
             };
         };
-        let from = streams::with_room(out, laid, ROOM);
-        let told = operations::run_record(out, from, machine, part(buf, start, len));
+        let told = put_record(out, laid, records::part(buf, start, len), machine);
         laid = told.laid;
         machine = told.machine;
         at = next;
+        passed = std::num::wrapping_add_u64(passed, (3 + len) as u64);
         records = std::num::wrapping_add_u64(records, 1);
     }
-    Drained {
+    Stand {
         at,
+        passed,
         records,
+        machine,
         laid,
+        full: true,
         left: Left::More,
+    }
+}
+
+// Hands a text to standard output: what the records from one place of the buffer to another tell.
+fn send(text: &[u8], buf: &[u8], ended: bool, from: Stand, to: Stand)
+    requires { ⌜ toTell ended (now buf) from ≡ before (now text) (stillToTell ended (now buf) to) ⌝ }
+{
+    io::write_all(STDOUT_FILENO, text);
+}
+
+// Every record that is whole in the buffer, in as many pieces as the room makes of what they tell.
+fn tell_all(buf: &[u8], ended: bool, out: &mut [u8], s: State) -> Stand
+    requires { ⌜ 600 ≤ length (now out) ⌝ }
+    ensures { λ r. ⌜ silent (told mark tell ended (now (buf .entry)) (s .passed) (s .records) (s .machine)) ≡ done (drop (r .at) (now (buf .entry))) (r .passed) (r .records) (r .machine) (r .left) ⌝ }
+{
+    let machine = s.machine;
+    let mut to = Stand {
+        at: 0,
+        passed: s.passed,
+        records: s.records,
+        machine,
+        laid: 0,
+        full: true,
+        left: Left::More,
+    };
+    while to.full {
+        let from = to;
+        to = drain(buf, ended, out, from);
+        send(records::part(out, 0, to.laid), buf, ended, from, to);
+    }
+    to
+}
+
+// Takes in the first `more` bytes of the buffer, and keeps those behind the last whole record.
+fn take_in(buf: &mut [u8], more: usize, ended: bool, out: &mut [u8], s: State) -> State
+    requires { ⌜ more ≤ length (now buf) ⌝ }
+    requires { ⌜ 600 ≤ length (now out) ⌝ }
+    ensures { λ r. ⌜ Kept (told mark tell ended (take more (now (buf .entry))) (s .passed) (s .records) (s .machine)) (now (buf .exit)) (r .have) (r .passed) (r .records) (r .machine) (r .going) ⌝ }
+{
+    let to = tell_all(&buf[0..more], ended, out, s);
+    let at = to.at;
+    let left = to.left;
+    let machine = to.machine;
+    let going = streams::goes_on(left);
+    let have = records::move_to_front(buf, at, more);
+    State {
+        have,
+        passed: to.passed,
+        records: to.records,
+        going,
         machine,
     }
 }
@@ -71,39 +157,34 @@ fn drain(buf: &[u8], ended: bool, out: &mut [u8], first: u64, before: Machine) -
 // One read of the input, and what it completes.
 fn step(buf: &mut [u8], out: &mut [u8], s: State) -> State
     requires { ⌜ s .have ≤ length (now buf) ⌝ }
+    requires { ⌜ 600 ≤ length (now out) ⌝ }
     ensures { λ r. ⌜ r .have ≤ length (now (buf .entry)) ⌝ }
 {
     let have = s.have;
     let got = libc::read(STDIN_FILENO, &mut buf[have..]);
     let n = io::count(got, &buf[have..]);
-    let more = have + n;
-    let before = s.machine;
-    let d = drain(&buf[0..more], n == 0, out, s.records, before);
-    let at = d.at;
-    let records = d.records;
-    let machine = d.machine;
-    let left = d.left;
-    let passed = std::num::wrapping_add_u64(s.passed, at as u64);
-    let going = streams::finish(out, d.laid, left, passed, records);
-    let have = records::move_to_front(buf, at, more);
-    State {
-        have,
-        passed,
-        records,
-        going,
-        machine,
-    }
+    take_in(buf, have + n, n == 0, out, s)
 }
 
-fn run(buf: &mut [u8], out: &mut [u8]) {
+// Nothing is read.
+fn fresh() -> State
+    ensures { λ r. ⌜ r ≡ freshState ⌝ }
+{
     let machine = operations::fresh();
-    let mut s = State {
+    State {
         have: 0,
         passed: 0,
         records: 0,
         going: true,
         machine,
-    };
+    }
+}
+
+// Reads the input to its end.
+fn run(buf: &mut [u8], out: &mut [u8])
+    requires { ⌜ 600 ≤ length (now out) ⌝ }
+{
+    let mut s = fresh();
     let mut turns = u64::MAX;
     while turns > 0 {
         turns -= 1;

@@ -6,7 +6,7 @@ use native.Mathlib.Numerals.{add-one}
 use native.Mathlib.Omega.{arith}
 use lib.Dec.{leb}
 use lib.ListN.{length, take, drop, getD, set, length-append, length-set, drop-of-length-le}
-use lib.Seq.{sets, length-sets, sets-eq, drop-cons}
+use lib.Seq.{sets, length-sets, sets-eq, drop-cons, length-take-le, take-at}
 use borrow.Author.Tests.{leb-true, leb-false}
 use Rattle.model.proofs.Cases.{by-test}
 use Rattle.service.proofs.Runs.{sets-append, sets-past}
@@ -21,6 +21,12 @@ laid-within {text} {out} {after} {at} w = (omega (arith, w .place), ap length (w
 pub laid-whole : {text out after : List ℕ} {at r : ℕ} → Laid text out at r after → at + length text ≤ length out
     → Whole text out at r after
 laid-whole {text} {out} {after} {at} w fits = record { place = omega (arith, w .place); bytes = w .bytes ∙ sets-eq text out at fits }
+
+-- so that the buffer begins with what was laid before and the text,
+pub whole-taken : {text out after : List ℕ} {at r : ℕ} → Whole text out at r after → at ≤ length out → take r after ≡ take at out ++ text
+whole-taken {text} {out} {after} {at} w h =
+    let n : length (take at out ++ text) ≡ at + length text = length-append (take at out) text ∙ rw (length-take-le at out h) in
+    rw (w .place, w .bytes) (take-at (take at out ++ text) (drop (at + length text) out) (at + length text) n)
 
 -- and the text, the buffer and the place settle both what is answered and what is left.
 pub laid-settled : {text out l m : List ℕ} {at r s : ℕ} → Laid text out at r l → Laid text out at s m → (r ≡ s) × (l ≡ m)

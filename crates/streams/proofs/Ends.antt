@@ -1,41 +1,31 @@
--- Where output has room, and the last line. Assumes nothing.
-use mathlib.Core.Path.{_≡_, refl}
-use mathlib.Core.Bool.{Bool}
-use mathlib.Core.List.{List}
-use Prim.Native.Nat.{ℕ, _+_, _-_, _≤_, _<_}
+-- The last line is short: whoever leaves room for 64 bytes has all of it. Assumes nothing.
+use mathlib.Core.Path.{_≡_}
+use mathlib.Core.List.{List, _++_}
+use Prim.Native.Nat.{ℕ, _+_, _^_, _≤_, _<_}
 use native.Mathlib.Omega.{arith}
-use lib.Dec.{leb}
-use lib.ListN.{length}
-use lib.Seq.{sets}
-use borrow.Author.Tests.{le-leb, lt-leb, leb-true}
-use Rattle.model.proofs.Cases.{by-test}
-use Rattle.streams.specs.Ends.{placeFor, goesOn, lastLine}
-use Rattle.streams.specs.declared.Left.{Left}
-use Rattle.streams.specs.declared.Left.the-variants.{Stopped, Ended}
-use Rattle.lines.specs.Lines.{stoppedLine, endLine}
+use lib.ListN.{length, take, length-append}
+use Rattle.records.specs.Text.{word, decimal}
 use Rattle.records.specs.Laid.{Laid}
+use Rattle.records.proofs.Layings.{laid-whole, whole-taken}
+use Rattle.records.proofs.Decimals.{digits-most}
+use Rattle.lines.specs.Lines.{stoppedLine, endLine}
+use Rattle.streams.specs.Ends.{lastLine}
+use Rattle.streams.specs.declared.Left.{Left}
+use Rattle.streams.specs.declared.Left.the-variants.{More, Stopped, Ended}
 
--- the place where there is room
-module _ (at size room : ℕ) where
-  pub place-there : room ≤ size → at ≤ size - room → at ≡ placeFor room size at
-  place-there h k = rw (le-leb (at + room) size (omega arith))
+-- a number of 64 bits has at most 20 digits
+digits : (n : ℕ) → n < 2 ^ 64 → length (decimal n) ≤ 20
+digits n h = digits-most 19 n (omega arith)
 
-  pub place-front : size < at + room → 0 ≡ placeFor room size at
-  place-front h = rw (lt-leb (at + room) size h)
+last-fits : (left : Left) (place n : ℕ) → place < 2 ^ 64 → n < 2 ^ 64 → length (lastLine left place n) ≤ 64
+unfolding stoppedLine endLine
+last-fits More place n h k = omega arith
+last-fits Stopped place n h k =
+    rw (length-append (word "stopped at byte " ++ decimal place) (word "\n"), length-append (word "stopped at byte ") (decimal place)) (omega (arith, digits place h))
+last-fits Ended place n h k =
+    rw (length-append (word "end " ++ decimal n) (word "\n"), length-append (word "end ") (decimal n)) (omega (arith, digits n k))
 
-  -- it has room
-  pub place-room : room ≤ size → placeFor room size at + room ≤ size
-  place-room h = by-test (leb (at + room) size) (λ e. rw e (leb-true _ _ e)) (λ e. rw e (omega arith))
-
--- the last line
-module _ (out after : List ℕ) (at p r start records : ℕ) (left : Left) (place : p ≡ placeFor 64 (length out) at) where
-  abbrev Finishes : Bool → Type 0
-  Finishes b = (b ≡ goesOn left) × (after ≡ sets out (placeFor 64 (length out) at) (lastLine left start records))
-
-  -- of a wrong mark or a short record
-  pub stopped-line : left ≡ Stopped → Laid (stoppedLine start) out p r after → Finishes (goesOn Stopped)
-  stopped-line e h = rw (e, ← place) (refl, h .bytes)
-
-  -- of all records
-  pub end-line : left ≡ Ended → Laid (endLine records) out p r after → Finishes (goesOn Ended)
-  end-line e h = rw (e, ← place) (refl, h .bytes)
+-- all of it is laid behind what was laid before
+pub last-taken : (left : Left) (place n : ℕ) {out after : List ℕ} {at r : ℕ} → place < 2 ^ 64 → n < 2 ^ 64 → at + 64 ≤ length out
+    → Laid (lastLine left place n) out at r after → take r after ≡ take at out ++ lastLine left place n
+last-taken left place n h k room w = whole-taken (laid-whole w (omega (arith, last-fits left place n h k))) (omega arith)

@@ -1,1 +1,5 @@
+pub mod Walks
 pub mod Ends
+pub mod Stands
+pub mod Pieces
+pub mod Cut

@@ -1,17 +1,12 @@
--- Where output has room, where the records of a buffer end, and the last line. Assumes nothing.
-use mathlib.Core.Bool.{Bool, true, false, cond}
+-- Where the records of a buffer end, and the last line. Assumes nothing.
+use mathlib.Core.Bool.{Bool, true, false}
 use mathlib.Core.List.{List, []}
-use Prim.Native.Nat.{ℕ, _+_}
-use lib.Dec.{leb}
+use Prim.Native.Nat.{ℕ}
 use Rattle.records.specs.declared.Found.{Found}
 use Rattle.records.specs.declared.Found.the-variants as found
 use Rattle.lines.specs.Lines.{stoppedLine, endLine}
 use Rattle.streams.specs.declared.Left.{Left}
 use Rattle.streams.specs.declared.Left.the-variants.{More, Stopped, Ended}
-
--- `at` in a buffer of so many bytes, if there is room from it on, and else the front
-abbrev pub placeFor : ℕ → ℕ → ℕ → ℕ
-placeFor room size at = cond (leb (at + room) size) at 0
 
 -- how it goes on where no whole record is found
 unfoldable pub leftAt : Found → Left

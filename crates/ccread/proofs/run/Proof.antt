@@ -1,8 +1,10 @@
--- The turns fall, and what is kept lies within the buffer.
+-- The turns fall, and what is kept lies within the buffer. Assumes nothing.
 use Prim.Native.Nat.{_≤_}
-use mathlib.Core.Path.{_≡_}
+use mathlib.Core.Path.{_≡_, refl, ap}
+use native.Mathlib.Omega.{arith}
 use lib.ListN.{length}
 use borrow.Author.Needs.{needs}
+use Rattle.ccread.specs.declared.State.{State}
 use Rattle.ccread.proofs.run.Statement.{statement}
 use Rattle.ccread.proofs.run.Tie as tie
 
@@ -12,14 +14,11 @@ Inv-loop buf₀ out₀ s₀ turns₀ buf out s turns = (s .have ≤ length buf) 
 abbrev μ-loop : tie.MeasureT-loop
 μ-loop buf₀ out₀ s₀ turns₀ buf out s turns = turns
 
-new-requires : tie.Need-new-requires Inv-loop μ-loop
-new-requires c κs = search needs
-
-handle-cea608-requires : tie.Need-handle-cea608-requires Inv-loop μ-loop
-handle-cea608-requires c κs = search needs
+fresh-requires : tie.Need-fresh-requires Inv-loop μ-loop
+fresh-requires c κs = search needs
 
 loop-holds : tie.Need-loop-holds Inv-loop μ-loop
-loop-holds c = search needs
+loop-holds c = let e : c .fresh .result .have ≡ 0 = ap (λ (s : State). s .have) (c .fresh .ensures) in (omega arith, refl, refl)
 
 sub-turns : tie.Need-sub-turns Inv-loop μ-loop
 sub-turns c = search needs
@@ -57,8 +56,7 @@ run-spec =
     (tie.spec
     Inv-loop
     μ-loop
-    new-requires
-    handle-cea608-requires
+    fresh-requires
     loop-holds
     sub-turns
     step-requires

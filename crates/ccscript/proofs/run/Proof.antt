@@ -1,8 +1,10 @@
 -- The turns fall, and what is kept lies within the buffer. Assumes nothing.
 use Prim.Native.Nat.{_≤_}
-use mathlib.Core.Path.{_≡_}
+use mathlib.Core.Path.{_≡_, refl, ap}
+use native.Mathlib.Omega.{arith}
 use lib.ListN.{length}
 use borrow.Author.Needs.{needs}
+use Rattle.ccscript.specs.declared.State.{State}
 use Rattle.ccscript.proofs.run.Statement.{statement}
 use Rattle.ccscript.proofs.run.Tie as tie
 
@@ -16,7 +18,7 @@ fresh-requires : tie.Need-fresh-requires Inv-loop μ-loop
 fresh-requires c κs = search needs
 
 loop-holds : tie.Need-loop-holds Inv-loop μ-loop
-loop-holds c = search needs
+loop-holds c = let e : c .fresh .result .have ≡ 0 = ap (λ (s : State). s .have) (c .fresh .ensures) in (omega arith, refl, refl)
 
 sub-turns : tie.Need-sub-turns Inv-loop μ-loop
 sub-turns c = search needs

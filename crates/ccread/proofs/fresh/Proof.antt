@@ -1,0 +1,31 @@
+-- A fresh demultiplexer is within its limits, so that 608 is turned on. Assumes nothing.
+use mathlib.Core.Path.{_≡_, refl, ap, _∙_}
+use mathlib.Core.Bool.{true}
+use borrow.Author.Needs.{needs}
+use Rattle.parser.specs.Fresh.{fresh}
+use Rattle.parser.specs.Means.{afterCall, turnedOn}
+use Rattle.parser.specs.declared.CCDataParser.{CCDataParser}
+use Rattle.parser.proofs.Kept.{fresh-sound}
+use Rattle.ccread.specs.Walk.{freshState}
+use Rattle.ccread.specs.declared.State.{State}
+use Rattle.ccread.proofs.fresh.Statement.{statement}
+use Rattle.ccread.proofs.fresh.Tie as tie
+
+turned-on : (p q : CCDataParser) → p ≡ fresh → q ≡ afterCall p (turnedOn p) → q ≡ turnedOn fresh
+turned-on p q e h = h ∙ rw (e, fresh-sound .valid)
+
+-- a state in which nothing is read
+abbrev unread : CCDataParser → State
+unread p = record { have = 0; passed = 0; records = 0; going = true; parser = p }
+
+new-requires : tie.Need-new-requires
+new-requires c κs = search needs
+
+handle-cea608-requires : tie.Need-handle-cea608-requires
+handle-cea608-requires c κs = search needs
+
+returns : tie.Need-returns
+returns c = ap unread (turned-on _ _ (c .before .before .new .ensures) (c .before .handle-cea608 .ensures .parser))
+
+pub fresh-spec : {M : Type 1} → statement M
+fresh-spec = tie.close (tie.spec new-requires handle-cea608-requires returns)

@@ -1,0 +1,34 @@
+-- What `ccscript` tells of its input: records of mark CC 5C, one length byte, and as many bytes, which are an operation and its arguments.
+-- Assumes nothing.
+use mathlib.Core.Bool.{Bool, true, cond}
+use mathlib.Core.List.{List, [], _∷_}
+use Prim.Native.Nat.{ℕ}
+use lib.Dec.{ltb}
+use lib.ListN.{length, drop}
+use Rattle.operations.specs.Ran.{ran, freshMachine}
+use Rattle.parts.specs.declared.Machine.{Machine}
+use Rattle.streams.specs.Walk.{Told, Walked, told, leftToTell}
+use Rattle.ccscript.specs.declared.Stand.{Stand}
+use Rattle.ccscript.specs.declared.State.{State}
+
+abbrev pub mark : List ℕ
+mark = 0xCC ∷ 0x5C ∷ []
+
+-- the line of a record, if it has fewer than 600 bytes
+abbrev pub lineOf : Machine → List ℕ → List ℕ
+lineOf m bytes = cond (ltb (length (ran m bytes .line)) 600) (ran m bytes .line) []
+
+-- the line of a record, and what it leaves
+abbrev pub tell : ℕ → Machine → List ℕ → Told Machine
+tell n m bytes = record { text = lineOf m bytes; next = ran m bytes .next }
+
+-- what a buffer tells from where the program stands, and what it tells still
+abbrev pub toTell : Bool → List ℕ → Stand → Walked Machine
+toTell ended buf d = told mark tell ended (drop (d .at) buf) (d .passed) (d .records) (d .machine)
+
+abbrev pub stillToTell : Bool → List ℕ → Stand → Walked Machine
+stillToTell ended buf d = leftToTell mark tell ended buf (d .at) (d .passed) (d .records) (d .machine) (d .full) (d .left)
+
+-- nothing is read
+abbrev pub freshState : State
+freshState = record { have = 0; passed = 0; records = 0; going = true; machine = freshMachine }
