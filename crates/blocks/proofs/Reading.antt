@@ -6,8 +6,8 @@ use Prim.Native.Nat.{ℕ, zero, suc, _+_, _-_, _*_, _≤_, _<_}
 use native.Mathlib.Nat.{add-zero}
 use native.Mathlib.Omega.{arith}
 use lib.Dec.{eqb, ltb}
-use lib.ListN.{length, take, drop, getD, set, length-append, length-map, length-drop, drop-of-length-le}
-use lib.Seq.{sets, drop-drop, length-take-le, take-take, take-nil}
+use lib.ListN.{length, take, drop, getD, set, take-append-drop, length-append, length-map, length-drop, drop-of-length-le}
+use lib.Seq.{sets, drop-drop, length-take-le, take-all, take-take, take-nil}
 use borrow.Author.Tests.{eq-eqb, ne-eqb, eqb-true, eqb-false, ltb-false}
 use Rattle.model.specs.Said.{Outcome, gave, refused, isGiven, mapped, lengthMismatch}
 use Rattle.caption.specs.declared.Refusal.{Refusal}
@@ -24,7 +24,7 @@ use Rattle.service.specs.declared.Head.{Head}
 use Rattle.service.specs.declared.Head.the-variants.{Whole, Short}
 use Rattle.service.specs.Head.{headOf, saidShort}
 use Rattle.service.proofs.Heads.{Headed, headed, head-short, header-least, header-most}
-use Rattle.service.proofs.Runs.{sets-append}
+use Rattle.service.proofs.Runs.{sets-append, sets-more}
 use Rattle.blocks.specs.declared.Kept.{Kept}
 use Rattle.entries.specs.Fields.{numbersOf, sizesOf, payloadsOf, blockFrom}
 use Rattle.blocks.specs.Reading.{moveBy, moveFor, keptFor, Laid, behind, Stored, Room, KeepRoom}
@@ -327,3 +327,24 @@ module _ (number : ℕ) (part : List ℕ) (at : Kept) (n s p : List ℕ) where
 -- the length of a part that is there
 pub part-of : (d : List ℕ) (from size : ℕ) → from + size ≤ length d → length (take size (drop from d)) ≡ size
 part-of d from size h = length-take-le size (drop from d) (rw length-drop (omega arith))
+
+-- four bytes more of a run
+module _ (l src : List ℕ) (at : ℕ) where
+  one-more : (k j m : ℕ) → k < length src → j ≡ at + k → m ≡ k + 1 → (x : List ℕ) → x ≡ sets l at (take k src) → set x j (getD src k 0) ≡ sets l at (take m src)
+  one-more k j m h e f x q = rw (e, f, q) (sets-more l src at k h)
+
+  pub four-more : (i : ℕ) → i + 4 ≤ length src → (x : List ℕ) → x ≡ sets l at (take i src)
+      → set (set (set (set x (at + i) (getD src i 0)) (at + i + 1) (getD src (i + 1) 0)) (at + i + 2) (getD src (i + 2) 0)) (at + i + 3) (getD src (i + 3) 0) ≡ sets l at (take (i + 4) src)
+  four-more i h x q =
+      one-more (i + 3) (at + i + 3) (i + 4) (omega arith) (omega arith) (omega arith) _
+      (one-more (i + 2) (at + i + 2) (i + 3) (omega arith) (omega arith) (omega arith) _
+      (one-more (i + 1) (at + i + 1) (i + 2) (omega arith) (omega arith) (omega arith) _
+      (one-more i (at + i) (i + 1) (omega arith) refl refl x q)))
+
+-- what is laid of a run and then the rest of it
+pub two-parts : (l src x : List ℕ) (at n : ℕ) → n ≤ length src → x ≡ sets l at (take n src) → sets x (at + n) (take (length src - n) (drop n src)) ≡ sets l at src
+two-parts l src x at n h q =
+    let e : length (take n src) ≡ n = length-take-le n src h in
+    let all : take (length src - n) (drop n src) ≡ drop n src = take-all (length src - n) (drop n src) (omega (arith, length-drop n src)) in
+    rw (q, all)
+    (ap (λ (m : ℕ). sets (sets l at (take n src)) (at + m) (drop n src)) (sym e) ∙ sym (sets-append (take n src) (drop n src) l at) ∙ ap (sets l at) (take-append-drop n src))

@@ -1,8 +1,9 @@
 // The blocks of a packet read from bytes into its places.
 ghost use mathlib.Core.Path.{_≡_};
 ghost use mathlib.Core.Bool.{false};
-ghost use Prim.Native.Nat.{_≤_};
+ghost use Prim.Native.Nat.{_+_, _≤_};
 ghost use lib.ListN.{length, take, drop};
+ghost use lib.Seq.{sets};
 ghost use Rattle.caption.specs.Answers.{saidRefusal};
 ghost use Rattle.model.specs.Said.{refused, isGiven, mapped, lengthMismatch};
 ghost use Rattle.model.specs.Packet.{packetSize, plainMove, blocksFrom};
@@ -107,6 +108,37 @@ pub struct Kept {
     pub used: usize,
 }
 
+// Lays bytes into a payload, from `at` on, four in a turn while four are left: most payloads are too short for a longer turn. Answers how many
+// it laid.
+fn put_fours(payload: &mut [u8; 127], at: usize, part: &[u8]) -> usize
+    requires { ⌜ at + length (now part) ≤ 127 ⌝ }
+    ensures { λ r. ⌜ (r ≤ length (now (part .entry))) × (now (payload .exit) ≡ sets (now (payload .entry)) at (take r (now (part .entry)))) ⌝ }
+{
+    let n = part.len();
+    let mut i = 0;
+    while i + 4 <= n {
+        let a = part[i];
+        let b = part[i + 1];
+        let c = part[i + 2];
+        let d = part[i + 3];
+        payload[at + i] = a;
+        payload[at + i + 1] = b;
+        payload[at + i + 2] = c;
+        payload[at + i + 3] = d;
+        i += 4;
+    }
+    i
+}
+
+// Lays bytes into a payload, from `at` on.
+fn put_payload(payload: &mut [u8; 127], at: usize, part: &[u8])
+    requires { ⌜ at + length (now part) ≤ 127 ⌝ }
+    ensures { λ _. ⌜ now (payload .exit) ≡ sets (now (payload .entry)) at (now (part .entry)) ⌝ }
+{
+    let n = put_fours(payload, at, part);
+    service::put_bytes(payload, at + n, &part[n..]);
+}
+
 // Stores a block that has a payload, as block `count` with its payload from `used` on.
 fn keep_block(
     bytes: &[u8; 128],
@@ -133,7 +165,7 @@ fn keep_block(
     let end = from + size;
     numbers[count] = number;
     sizes[count] = size as u8;
-    service::put_bytes(payload, used, &all[from..end]);
+    put_payload(payload, used, &all[from..end]);
     Kept {
         count: count + 1,
         used: used + size,

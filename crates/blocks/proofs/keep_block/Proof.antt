@@ -35,26 +35,26 @@ cast-sizes c = search needs
 element-write-sizes : tie.Need-element-write-sizes
 element-write-sizes c = search needs
 
-sub-put-bytes : tie.Need-sub-put-bytes
-sub-put-bytes c = search needs
+sub-put-payload : tie.Need-sub-put-payload
+sub-put-payload c = search needs
 
-part-put-bytes-start : tie.Need-part-put-bytes-start
-part-put-bytes-start c = search needs
+part-put-payload-start : tie.Need-part-put-payload-start
+part-put-payload-start c = search needs
 
-part-put-bytes-end : tie.Need-part-put-bytes-end
-part-put-bytes-end c = search needs
+part-put-payload-end : tie.Need-part-put-payload-end
+part-put-payload-end c = search needs
 
-put-bytes-requires : tie.Need-put-bytes-requires
-put-bytes-requires c κs = search needs
+put-payload-requires : tie.Need-put-payload-requires
+put-payload-requires c κs = search needs
 
-add-t24 : tie.Need-add-t24
-add-t24 c = search needs
+add-t23 : tie.Need-add-t23
+add-t23 c = search needs
 
-add-t27 : tie.Need-add-t27
-add-t27 c = search needs
+add-t26 : tie.Need-add-t26
+add-t26 c = search needs
 
 returns-3 : tie.Need-returns-3
-returns-3 c = let s = c .before .before .before .before .before .before in keep-some _ (P s) _ _ _ _ (s .args .size) _ (c .before .before .before .before .before .if1 .left) (c .before .before .before .before .if2 .left) (part-length s) (c .put-bytes .ensures ∙ rw add-sub-cancel-left)
+returns-3 c = let s = c .before .before .before .before .before .before in keep-some _ (P s) _ _ _ _ (s .args .size) _ (c .before .before .before .before .before .if1 .left) (c .before .before .before .before .if2 .left) (part-length s) (c .put-payload .ensures ∙ rw add-sub-cancel-left)
 
 pub keep-block-spec : {M : Type 1} → statement M
 keep-block-spec =
@@ -66,10 +66,10 @@ keep-block-spec =
     element-write-numbers
     cast-sizes
     element-write-sizes
-    sub-put-bytes
-    part-put-bytes-start
-    part-put-bytes-end
-    put-bytes-requires
-    add-t24
-    add-t27
+    sub-put-payload
+    part-put-payload-start
+    part-put-payload-end
+    put-payload-requires
+    add-t23
+    add-t26
     returns-3)
