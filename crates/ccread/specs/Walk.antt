@@ -5,7 +5,7 @@ use mathlib.Core.List.{List, [], _∷_}
 use Prim.Native.Nat.{ℕ}
 use lib.ListN.{drop}
 use Rattle.parser.specs.Fresh.{fresh}
-use Rattle.parser.specs.Means.{turnedOn}
+use Rattle.parser.specs.Calls.{turnedOn}
 use Rattle.parser.specs.declared.CCDataParser.{CCDataParser}
 use Rattle.report.specs.Report.{frameLines, settled}
 use Rattle.streams.specs.Walk.{Told, Walked, told, leftToTell}
