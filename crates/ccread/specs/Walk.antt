@@ -1,14 +1,15 @@
 -- What `ccread` tells of its input: "records of mark CC DA, one length byte, that many frame bytes" (document 01, program `ccread`).
 -- Assumes nothing.
-use mathlib.Core.Bool.{Bool, true}
-use mathlib.Core.List.{List, [], _∷_}
+use mathlib.Core.Bool.{Bool, true, false}
+use mathlib.Core.List.{List, [], _∷_, _++_}
 use Prim.Native.Nat.{ℕ}
-use lib.ListN.{drop}
+use lib.Dec.{eqb}
+use lib.ListN.{length, take, drop}
 use Rattle.parser.specs.Fresh.{fresh}
 use Rattle.parser.specs.Calls.{turnedOn}
 use Rattle.parser.specs.declared.CCDataParser.{CCDataParser}
 use Rattle.report.specs.Report.{frameLines, settled}
-use Rattle.streams.specs.Walk.{Told, Walked, told, leftToTell}
+use Rattle.streams.specs.Walk.{Told, Walked, told, leftToTell, Kept}
 use Rattle.ccread.specs.declared.Stand.{Stand}
 use Rattle.ccread.specs.declared.State.{State}
 
@@ -30,3 +31,13 @@ stillToTell ended buf d = leftToTell mark tell ended buf (d .at) (d .passed) (d 
 -- nothing is read, and "608 is on"
 abbrev pub freshState : State
 freshState = record { have = 0; passed = 0; records = 0; going = true; parser = turnedOn fresh }
+
+-- some bytes follow those that wait, none only at the end of the input, and all that they complete is told
+abbrev pub Steps : List ℕ → State → List ℕ → State → Type 0
+Steps buf s after r =
+    (got : List ℕ)
+    × Kept (told mark tell (eqb (length got) 0) (take (s .have) buf ++ got) (s .passed) (s .records) (s .parser)) after (r .have) (r .passed) (r .records) (r .parser) (r .going)
+
+-- all of an input is told
+abbrev pub Ran : List ℕ → State → Type 0
+Ran buf r = (input : List ℕ) × Kept (told mark tell true input 0 0 (freshState .parser)) buf (r .have) (r .passed) (r .records) (r .parser) false

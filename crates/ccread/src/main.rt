@@ -1,12 +1,12 @@
 // Reads records of frames from standard input to its end and writes what each frame holds, as document 01 says under
 // "Checked examples". Reads and writes go through two buffers of fixed size, whatever the input's length and cut.
 ghost use mathlib.Core.Path.{_≡_};
-ghost use mathlib.Core.Bool.{true};
+ghost use mathlib.Core.Bool.{true, false};
 ghost use Prim.Native.Nat.{_+_, _≤_, _<_};
 ghost use lib.ListN.{length, take, drop};
 ghost use Rattle.records.specs.Laid.{Whole};
-ghost use Rattle.streams.specs.Walk.{before, told, silent, done, Kept};
-ghost use Rattle.ccread.specs.Walk.{mark, tell, toTell, stillToTell, freshState};
+ghost use Rattle.streams.specs.Walk.{before, told, silent, done, Kept, Follow};
+ghost use Rattle.ccread.specs.Walk.{mark, tell, toTell, stillToTell, Steps, Ran, freshState};
 ghost use Rattle.report.specs.Report.{frameLines, settled};
 use libc::STDIN_FILENO;
 use libc::STDOUT_FILENO;
@@ -144,15 +144,23 @@ fn take_in(buf: &mut [u8], more: usize, ended: bool, out: &mut [u8], s: State) -
     }
 }
 
+// One read of the input, behind the bytes that wait: how many bytes it gave.
+fn read_more(buf: &mut [u8], have: usize) -> usize
+    requires { ⌜ have ≤ length (now buf) ⌝ }
+    ensures { λ r. ⌜ Follow (now (buf .entry)) have r (now (buf .exit)) ⌝ }
+{
+    let got = libc::read(STDIN_FILENO, &mut buf[have..]);
+    io::count(got, &buf[have..])
+}
+
 // One read of the input, and what it completes.
 fn step(buf: &mut [u8], out: &mut [u8], s: State) -> State
     requires { ⌜ s .have ≤ length (now buf) ⌝ }
     requires { ⌜ 32768 ≤ length (now out) ⌝ }
-    ensures { λ r. ⌜ r .have ≤ length (now (buf .entry)) ⌝ }
+    ensures { λ r. ⌜ Steps (now (buf .entry)) s (now (buf .exit)) r ⌝ }
 {
     let have = s.have;
-    let got = libc::read(STDIN_FILENO, &mut buf[have..]);
-    let n = io::count(got, &buf[have..]);
+    let n = read_more(buf, have);
     take_in(buf, have + n, n == 0, out, s)
 }
 
@@ -171,9 +179,10 @@ fn fresh() -> State
     }
 }
 
-// Reads the input to its end.
-fn run(buf: &mut [u8], out: &mut [u8])
+// Reads the input to its end, and answers where the program stands then.
+fn run(buf: &mut [u8], out: &mut [u8]) -> State
     requires { ⌜ 32768 ≤ length (now out) ⌝ }
+    ensures { λ r. ⌜ (r .going ≡ false → Ran (now (buf .exit)) r) ⌝ }
 {
     let mut s = fresh();
     let mut turns = u64::MAX;
@@ -181,9 +190,10 @@ fn run(buf: &mut [u8], out: &mut [u8])
         turns -= 1;
         s = step(buf, out, s);
         if !s.going {
-            return;
+            return s;
         }
     }
+    s
 }
 
 fn main() {

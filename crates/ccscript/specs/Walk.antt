@@ -1,13 +1,13 @@
 -- What `ccscript` tells of its input: records of mark CC 5C, one length byte, and as many bytes, which are an operation and its arguments.
 -- Assumes nothing.
-use mathlib.Core.Bool.{Bool, true, cond}
-use mathlib.Core.List.{List, [], _∷_}
+use mathlib.Core.Bool.{Bool, true, false, cond}
+use mathlib.Core.List.{List, [], _∷_, _++_}
 use Prim.Native.Nat.{ℕ}
-use lib.Dec.{ltb}
-use lib.ListN.{length, drop}
+use lib.Dec.{eqb, ltb}
+use lib.ListN.{length, take, drop}
 use Rattle.operations.specs.Ran.{ran, freshMachine}
 use Rattle.parts.specs.declared.Machine.{Machine}
-use Rattle.streams.specs.Walk.{Told, Walked, told, leftToTell}
+use Rattle.streams.specs.Walk.{Told, Walked, told, leftToTell, Kept}
 use Rattle.ccscript.specs.declared.Stand.{Stand}
 use Rattle.ccscript.specs.declared.State.{State}
 
@@ -32,3 +32,13 @@ stillToTell ended buf d = leftToTell mark tell ended buf (d .at) (d .passed) (d 
 -- nothing is read
 abbrev pub freshState : State
 freshState = record { have = 0; passed = 0; records = 0; going = true; machine = freshMachine }
+
+-- some bytes follow those that wait, none only at the end of the input, and all that they complete is told
+abbrev pub Steps : List ℕ → State → List ℕ → State → Type 0
+Steps buf s after r =
+    (got : List ℕ)
+    × Kept (told mark tell (eqb (length got) 0) (take (s .have) buf ++ got) (s .passed) (s .records) (s .machine)) after (r .have) (r .passed) (r .records) (r .machine) (r .going)
+
+-- all of an input is told
+abbrev pub Ran : List ℕ → State → Type 0
+Ran buf r = (input : List ℕ) × Kept (told mark tell true input 0 0 (freshState .machine)) buf (r .have) (r .passed) (r .records) (r .machine) false

@@ -3,3 +3,4 @@ pub mod Ends
 pub mod Stands
 pub mod Pieces
 pub mod Cut
+pub mod Inputs

@@ -91,3 +91,8 @@ pub record Kept {S : Type 0} (w : Walked S) (buf : List ℕ) (have place n : ℕ
   pub number : n ≡ w .number
   pub state : x ≡ w .state
   pub goes : going ≡ goesOn (w .left)
+
+-- r bytes follow the first `have` of a buffer, which stay
+pub record Follow (before : List ℕ) (have r : ℕ) (after : List ℕ) : Type 0 where
+  pub stay : take have after ≡ take have before
+  pub within : have + r ≤ length after

@@ -1,15 +1,15 @@
--- The turns fall, and what is kept lies within the buffer. Assumes nothing.
-use Prim.Native.Nat.{_≤_}
-use mathlib.Core.Path.{_≡_, refl, ap}
-use native.Mathlib.Omega.{arith}
+-- The turns fall, and the program stands where the bytes read so far leave it. Assumes nothing.
+use mathlib.Core.Path.{_≡_, refl, sym, _∙_}
+use mathlib.Core.Bool.{false≢true}
 use lib.ListN.{length}
 use borrow.Author.Needs.{needs}
-use Rattle.ccscript.specs.declared.State.{State}
+use borrow.Author.Tests.{not-false}
+use Rattle.ccscript.proofs.Runs.{Stays, begins, reads-on, reads-all}
 use Rattle.ccscript.proofs.run.Statement.{statement}
 use Rattle.ccscript.proofs.run.Tie as tie
 
 abbrev Inv-loop : tie.InvT-loop
-Inv-loop buf₀ out₀ s₀ turns₀ buf out s turns = (s .have ≤ length buf) × (length buf ≡ length buf₀) × (length out ≡ length out₀)
+Inv-loop buf₀ out₀ s₀ turns₀ buf out s turns = (length buf ≡ length buf₀) × (length out ≡ length out₀) × Stays buf s
 
 abbrev μ-loop : tie.MeasureT-loop
 μ-loop buf₀ out₀ s₀ turns₀ buf out s turns = turns
@@ -18,13 +18,13 @@ fresh-requires : tie.Need-fresh-requires Inv-loop μ-loop
 fresh-requires c κs = search needs
 
 loop-holds : tie.Need-loop-holds Inv-loop μ-loop
-loop-holds c = let e : c .fresh .result .have ≡ 0 = ap (λ (s : State). s .have) (c .fresh .ensures) in (omega arith, refl, refl)
+loop-holds c = (refl, refl, begins _ _ (c .fresh .ensures))
 
 sub-turns : tie.Need-sub-turns Inv-loop μ-loop
 sub-turns c = search needs
 
 step-requires : tie.Need-step-requires Inv-loop μ-loop
-step-requires c κs = search needs
+step-requires c κs = search (needs, c .before .before .before .loop .inv .2 .2 .within)
 
 same-length : tie.Need-same-length Inv-loop μ-loop
 same-length c = search needs
@@ -33,13 +33,13 @@ same-length-2 : tie.Need-same-length-2 Inv-loop μ-loop
 same-length-2 c = search needs
 
 returns : tie.Need-returns Inv-loop μ-loop
-returns c = search needs
+returns c = λ e. reads-all _ _ _ _ (c .before .before .before .before .before .before .before .before .before .before .loop .inv .2) (c .before .before .before .before .before .before .step .ensures) e
 
 loop-less : tie.Need-loop-less Inv-loop μ-loop
 loop-less c = search needs
 
 loop-again : tie.Need-loop-again Inv-loop μ-loop
-loop-again c = search needs
+loop-again c = (search needs, search needs, reads-on _ _ _ _ (c .before .before .before .before .before .before .before .before .before .before .loop .inv .2) (c .before .before .before .before .before .before .step .ensures) (not-false _ (c .if1 .left)))
 
 same-length-3 : tie.Need-same-length-3 Inv-loop μ-loop
 same-length-3 c = search needs
@@ -48,7 +48,7 @@ same-length-4 : tie.Need-same-length-4 Inv-loop μ-loop
 same-length-4 c = search needs
 
 returns-2 : tie.Need-returns-2 Inv-loop μ-loop
-returns-2 c = search needs
+returns-2 c = λ e. absurd (false≢true (sym e ∙ c .before .loop .inv .2 .0))
 
 pub run-spec : {M : Type 1} → statement M
 run-spec =
