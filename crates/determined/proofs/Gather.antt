@@ -15,7 +15,7 @@ use Rattle.determined.proofs.Ways.{equal}
 
 -- what the code gives, taken back
 abbrev gatheredIn : Left → Gathered
-gatheredIn x = record { pending = x .pending; waiting = x .ring .count; slots = x .ring .slots }
+gatheredIn x = record { pending = x .pending; waiting = x .count; slots = x .slots }
 
 -- packets gathered, with the pending bytes in a lent place
 gathers : {A E : Type 0} {left : A → Left} {lent : E → List ℕ} → DeterminesLent lent (λ (a : A) (r : Gathered) (e : E). takenBy r (lent e) ≡ left a)

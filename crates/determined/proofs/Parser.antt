@@ -1,6 +1,9 @@
 -- The demultiplexer's functions. Assumes nothing.
+use mathlib.Core.Path.{_≡_, sym, _∙_}
 use contract.Lifetimes.{Lfts}
 use Rattle.model.specs.Said.{Said}
+use Rattle.model.specs.Demux.{Demux}
+use Rattle.parser.specs.Means.{means}
 use Rattle.caption.proofs.Answers.{saidCounted-injective}
 use Rattle.parser.specs.Calls.{Answers}
 use Rattle.parser.specs.Items.{Draws}
@@ -21,8 +24,12 @@ use Rattle.determined.proofs.Ways.{equal, said}
 
 module _ {A E : Type 0} where
   -- an answer and a state
-  answers : {said : A → Said} {next : A → CCDataParser} → Determines (λ (a : A) (r : ParserAnswer) (e : E). Answers (said a) (next a) r)
-  answers {said} {next} = record { result = λ a r q e f h k. answers-same (said a) (next a) r q h k }
+  answers : {p : A → CCDataParser} {said : A → Said} {next : A → Demux} {after : A → CCDataParser} → Determines (λ (a : A) (r : ParserAnswer) (e : E). Answers (p a) (said a) (next a) (after a) r)
+  answers {p} {said} {next} {after} = record { result = λ a r q e f h k. answers-same (p a) (said a) (next a) (after a) r q h k }
+
+  -- a meaning and a state
+  fresh-one : {d : Demux} {q : CCDataParser} → Determines (λ (a : A) (r : CCDataParser) (e : E). (means r ≡ d) × (r ≡ q))
+  fresh-one = record { result = λ a r s e f h k. h .1 ∙ sym (k .1) }
 
   -- an item, the packet beside it and a state
   draws : {p : A → CCDataParser} → Determines (λ (a : A) (r : Drawn) (e : E). Draws (p a) r)
@@ -30,7 +37,7 @@ module _ {A E : Type 0} where
 
 -- `CCDataParser::new()`
 pub CCDataParser-new : Determines (new.Post (tt {0}))
-CCDataParser-new = equal
+CCDataParser-new = fresh-one
 
 -- `parser.is_valid()`
 pub CCDataParser-is-valid : Determines (is_valid.Post (tt {0}))

@@ -1,5 +1,5 @@
 -- What the public calls answer, and what they keep. Assumes nothing.
-use mathlib.Core.Path.{_≡_, refl, sym, ap, _∙_}
+use mathlib.Core.Path.{_≡_, sym, _∙_}
 use mathlib.Core.List.{List, map}
 use mathlib.Core.Bool.{Bool, true, false, true≢false}
 use Prim.Native.Nat.{ℕ}
@@ -7,7 +7,7 @@ use lib.ListN.{length, length-map}
 use Rattle.caption.specs.declared.Answer.the-variants.{Accepted}
 use Rattle.caption.specs.declared.Counted.the-variants as counted
 use Rattle.caption.specs.declared.Refusal.the-variants.{BadValue}
-use Rattle.caption.specs.Answers.{saidAnswer, saidCounted}
+use Rattle.caption.specs.Answers.{saidCounted}
 use Rattle.model.specs.Said.{measured}
 use Rattle.model.specs.Demux.{Demux}
 use Rattle.triples.specs.Pairs.{placedAll}

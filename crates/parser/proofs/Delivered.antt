@@ -1,7 +1,7 @@
 -- What a frame delivers in the model: the runs that it tells are the packets that it puts behind those that wait. Assumes nothing.
 use mathlib.Core.Path.{_≡_, refl, sym, ap, _∙_}
 use mathlib.Core.List.{List, [], _∷_, _++_, map, append-nil}
-use mathlib.Core.Bool.{Bool, true, false, cond}
+use mathlib.Core.Bool.{Bool, false, cond}
 use mathlib.Core.Option.{Option, none, some}
 use Prim.Native.Nat.{ℕ, _+_, _*_, _≤_}
 use native.Mathlib.Omega.{arith}
@@ -14,7 +14,7 @@ use Rattle.model.proofs.Cases.{by-cond}
 use Rattle.model.proofs.Frames.{Read, packets-append, packets-many, gathered-read}
 use Rattle.model.proofs.Frames as frames
 use Rattle.slots.specs.declared.Slot.{Slot}
-use Rattle.gather.specs.Ring.{ringFrom, slotRun, slotsFine, slotWith, setRound}
+use Rattle.gather.specs.Ring.{ringFrom, slotRun, slotWith, setRound}
 use Rattle.gather.proofs.Rings.{round-length, ring-laid, runs-again, runs-fine, fine-append}
 use Rattle.parser.proofs.Laid.{Stands}
 

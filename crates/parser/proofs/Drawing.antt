@@ -7,12 +7,10 @@ use native.Mathlib.Omega.{arith}
 use lib.ListN.{length, getD, drop}
 use lib.Dec.{eqb, leb}
 use borrow.Author.Tests.{eqb-true, eqb-false, leb-true}
-use Rattle.caption.specs.declared.Refusal.the-variants as refusal
 use Rattle.model.specs.Said.{accepted}
 use Rattle.model.specs.Demux as model
 use Rattle.model.specs.Demux.{closed, packetsOf}
 use Rattle.model.proofs.Cases.{by-test, both}
-use Rattle.packet.specs.Packet.{blank}
 use Rattle.slots.specs.declared.Slot.{Slot}
 use Rattle.triples.specs.Pairs.{placedAll, pairsOf}
 use Rattle.gather.specs.Ring.{noSlot, ringFrom, slotRun, slotFine, slotsFine}
@@ -20,7 +18,7 @@ use Rattle.gather.specs.Tests.{headFine, behindFine, pendingFine}
 use Rattle.gather.specs.declared.Front.{Front}
 use Rattle.gather.proofs.Rings.{ring-length}
 use Rattle.parser.specs.Means.{means, Shaped}
-use Rattle.parser.specs.Valid.{fieldsFine, listFine, valid}
+use Rattle.parser.specs.Valid.{listFine, valid}
 use Rattle.parser.specs.Calls.{laidIn, placeBehind, headAfter, drawn}
 use Rattle.parser.specs.Items.{pairValues, saidItem, itemValues, packetOfItem, Draws}
 use Rattle.parser.specs.Tests.{frontOf, countsOf}
@@ -29,9 +27,9 @@ use Rattle.parser.specs.declared.Counts.{Counts}
 use Rattle.parser.specs.declared.CCDataParser.{CCDataParser}
 use Rattle.parser.specs.declared.Drawn.{Drawn}
 use Rattle.parser.specs.declared.Took.{Took}
-use Rattle.parser.specs.declared.Item.the-variants.{Nothing, Refused}
+use Rattle.parser.specs.declared.Item.the-variants.{Nothing}
 use Rattle.parser.proofs.Valids.{Fine, valid-fine, front-found, behind-fine, tested-valid, pairs-length, packets-length, waiting-count}
-use Rattle.parser.proofs.Laid.{pending-many, pending-same, pairs-same}
+use Rattle.parser.proofs.Laid.{pending-many, pending-same}
 use Rattle.parser.proofs.Firsts.{pairs-drawn, pairs-slid, pair-drawn, ring-drawn, slot-read}
 use Rattle.parser.proofs.Kept.{means-drawn}
 

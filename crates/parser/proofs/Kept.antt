@@ -1,17 +1,17 @@
 -- What a caller may rely on: a fresh state is within the limits and every call keeps it there; each call means what the model's does; and
 -- a frame finds a place where nothing waits. Assumes nothing.
-use mathlib.Core.Path.{_≡_, refl, sym, ap, _∙_}
-use mathlib.Core.List.{List, [], _∷_, map}
+use mathlib.Core.Path.{_≡_, refl, ap, _∙_}
+use mathlib.Core.List.{List, [], _∷_}
 use mathlib.Core.Bool.{Bool, true, false}
 use mathlib.Core.Option.{Option, none, some}
-use Prim.Native.Nat.{ℕ, zero, suc, _+_, _-_, _*_, _%_, _≤_}
+use Prim.Native.Nat.{ℕ, suc, _+_, _-_, _*_, _≤_}
 use native.Mathlib.Omega.{arith}
-use lib.ListN.{length, getD, drop}
+use lib.ListN.{length, getD}
 use lib.Dec.{eqb, ltb}
 use borrow.Author.Tests.{eqb-true, le-ltb}
 use Rattle.model.specs.Said.{Said, full}
 use Rattle.model.specs.Packet.{Packet, allPackets}
-use Rattle.model.specs.Frame.{Cea608, seenAll, triplesIn, countIn}
+use Rattle.model.specs.Frame.{Cea608, countIn}
 use Rattle.model.specs.Demux as model
 use Rattle.model.specs.Demux.{Demux, Taken, freshDemux, turn608On, packetsOf, validPending, validDemux, lateFrom, gathered, takeGathered, takeTriples, unread, takeFrame}
 use Rattle.model.proofs.Cases.{by-cond}
@@ -20,12 +20,11 @@ use Rattle.model.proofs.DemuxStates.{demux-facts, on-valid, take-valid, draw-va
 use Rattle.triples.specs.Walk.{seenFrom}
 use Rattle.triples.specs.Pairs.{pairsOf}
 use Rattle.triples.proofs.Found.{few-triples}
-use Rattle.slots.specs.declared.Slot.{Slot}
-use Rattle.gather.specs.Ring.{ringFrom, slotRun, slotsFine, ringFine, setRound}
-use Rattle.parser.specs.Means.{means, Shaped}
+use Rattle.gather.specs.Ring.{ringFrom, slotsFine, ringFine, setRound}
+use Rattle.parser.specs.Means.{means}
 use Rattle.parser.specs.Valid.{fieldsFine, listFine, inOrder, valid}
 use Rattle.parser.specs.Fresh.{fresh}
-use Rattle.parser.specs.Calls.{laidIn, turnedOn, pushed, headAfter, drawn, saidPush}
+use Rattle.parser.specs.Calls.{turnedOn, pushed, drawn, saidPush}
 use Rattle.parser.specs.declared.CCDataParser.{CCDataParser}
 use Rattle.parser.proofs.Valids.{Fine, valid-fine, fine-demux, waiting-count}
 use Rattle.parser.proofs.Laid.{Sound, Stands, own-stands, laid-means, laid-sound}

@@ -3,11 +3,14 @@ use mathlib.Core.Path.{_≡_, refl, sym, ap, _∙_, subst}
 use mathlib.Core.List.{List}
 use mathlib.Core.Bool.{Bool, true, false, _&&_, true≢false}
 use Prim.Native.Nat.{ℕ, _≤_, _<_}
+use lib.Dec.{ltb}
+use borrow.Author.Tests.{ltb-true, ltb-false}
 use Rattle.caption.specs.declared.Answer.{Answer}
 use Rattle.caption.specs.declared.Answer.the-variants.{Refused}
 use Rattle.caption.specs.declared.Refusal.the-variants.{Full, BadValue}
 use Rattle.caption.specs.Answers.{saidAnswer}
 use Rattle.model.specs.Demux.{takeFrame}
+use Rattle.model.proofs.Cases.{by-test}
 use Rattle.triples.specs.Listing.{Listing, listedBy}
 use Rattle.triples.specs.Plan.{planOf}
 use Rattle.triples.specs.declared.Plan.{Plan}
@@ -22,6 +25,7 @@ use Rattle.parser.specs.declared.Counts.{Counts}
 use Rattle.parser.specs.declared.CCDataParser.{CCDataParser}
 use Rattle.parser.specs.declared.ParserAnswer.{ParserAnswer}
 use Rattle.parser.proofs.Valids.{tested-valid, valid-fine}
+use Rattle.parser.proofs.Laid.{Sound}
 use Rattle.parser.proofs.Kept.{means-pushed}
 use Rattle.parser.proofs.Told.{after, Told, told}
 
@@ -33,6 +37,14 @@ Pushed p f r = Answers p (saidPush p f) (takeFrame f (means p) .next) (pushed p 
 pub pushed-by : (p : CCDataParser) (f : List ℕ) (r : ParserAnswer) → Shaped p → (v : valid p ≡ true)
     → saidAnswer (r .answer) ≡ takeFrame f (means p) .answer → r .parser ≡ pushed p f → Pushed p f r
 pushed-by p f r s v a e = record { answer = rw v a; means = λ _. rw e (means-pushed p f (record { valid = v; shaped = s })); places = e }
+
+-- there is an answer that is allowed
+pub frame-answer : (p : CCDataParser) (f : List ℕ) → Sound p → (a : Answer) × Pushed p f (record { answer = a; parser = pushed p f })
+frame-answer p f s =
+    let t = told p (valid-fine p (s .valid)) (s .shaped) f in
+    by-test (ltb 32 (gatheredBy (planOf f .gathers) (p .«waiting_first») (p .«waiting_count») (p .waiting) (p .«pending_len») (p .pending) f .count))
+    (λ e. (Refused Full, pushed-by p f _ (s .shaped) (s .valid) (t .none (ltb-true _ _ e) .0) refl))
+    (λ e. (planOf f .answer, pushed-by p f _ (s .shaped) (s .valid) (t .room (ltb-false _ _ e) .0) refl))
 
 -- a frame, by the test of the state and by whether places are left
 module _ (p : CCDataParser) (f : List ℕ) (shaped : Shaped p) (c : Counts) (counted : c ≡ countsOf p) (b : Bool) (tested : b ≡ fine c (p .pairs) (p .pending) (p .waiting)) where

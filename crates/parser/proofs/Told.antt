@@ -5,9 +5,9 @@ use mathlib.Core.Bool.{Bool, true, false, cond, _&&_}
 use mathlib.Core.Option.{Option, none, some}
 use Prim.Native.Nat.{ℕ, _+_, _*_, _≤_, _<_}
 use native.Mathlib.Omega.{arith}
-use lib.ListN.{length, getD, take, length-append}
-use lib.Dec.{eqb, leb, ltb}
-use borrow.Author.Tests.{le-leb, ltb-true, ltb-false, lt-ltb, le-ltb, eqb-true}
+use lib.ListN.{length, getD, length-append}
+use lib.Dec.{eqb}
+use borrow.Author.Tests.{le-leb, eqb-true}
 use Rattle.caption.specs.declared.Answer.{Answer}
 use Rattle.caption.specs.declared.Answer.the-variants.{Accepted, Refused}
 use Rattle.caption.specs.declared.Refusal.the-variants as refusal
@@ -16,7 +16,6 @@ use Rattle.model.specs.Said.{lengthMismatch, cea608AfterCea708, full}
 use Rattle.model.specs.Frame.{Cea608, countIn}
 use Rattle.model.specs.Demux as model
 use Rattle.model.specs.Demux.{Demux, Taken, packetsOf, withPairs, pairsIn, lateFrom, carries708, ended, takeGathered, takeTriples, unread, takeFrame}
-use Rattle.model.proofs.Cases.{by-test}
 use Rattle.model.proofs.Frames.{Read, packets-many, gathered-read, kept-pending, take-full, take-room}
 use Rattle.model.proofs.Frames as frames
 use Rattle.triples.specs.Walk.{seenFrom}

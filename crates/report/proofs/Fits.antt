@@ -1,5 +1,5 @@
 -- The lines of a frame are short: whoever leaves room for 32768 bytes has all of them. Assumes nothing.
-use mathlib.Core.Path.{_≡_, refl, sym, ap, _∙_}
+use mathlib.Core.Path.{_≡_, refl}
 use mathlib.Core.Bool.{true}
 use mathlib.Core.List.{List, [], _∷_, _++_, append-nil}
 use mathlib.Core.Option.{Option, none, some}
@@ -10,7 +10,7 @@ use lib.ListN.{length, getD, drop, length-append}
 use borrow.Author.Tests.{eqb-true, eqb-false, ltb-true, ltb-false}
 use Rattle.model.specs.Said.{Said, badValue}
 use Rattle.model.specs.Block.{Block, blockLength}
-use Rattle.model.specs.Packet.{Packet, carriable, allCarriable, validPacket, allPackets, blocksLength, packetLength}
+use Rattle.model.specs.Packet.{Packet, carriable, allCarriable, validPacket, allPackets, blocksLength}
 use Rattle.model.specs.Frame.{Cea608, field1, field2, pair, Seen, seenAll, triplesIn, countIn}
 use Rattle.model.specs.Demux.{Demux, Taken, Gathered, packetsOf, pairsIn, lateFrom, gathered, takeGathered, takeTriples, unread, takeFrame}
 use Rattle.model.proofs.Cases.{by-test, by-cond, both}

@@ -9,7 +9,6 @@ use Rattle.packet.specs.Packet.{packetOf}
 use Rattle.records.specs.Laid.{Laid}
 use Rattle.records.proofs.Layings.{laid-within}
 use Rattle.parser.specs.Means.{means}
-use Rattle.parser.specs.Calls.{drawn}
 use Rattle.parser.specs.Items.{Draws}
 use Rattle.parser.specs.declared.Item.the-variants as item
 use Rattle.parser.specs.declared.Drawn.{Drawn}

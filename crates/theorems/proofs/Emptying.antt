@@ -24,7 +24,7 @@ use Rattle.packet.proofs.Holds.{over-holds}
 use Rattle.parser.specs.Means.{means}
 use Rattle.parser.specs.Items.{Draws, saidItem, itemValues, packetOfItem}
 use Rattle.parser.proofs.Laid.{Sound}
-use Rattle.parser.proofs.Kept.{drawn-sound, means-drawn}
+use Rattle.parser.proofs.Kept.{drawn-sound}
 use Rattle.parser.proofs.Items.{saidItem-injective}
 use Rattle.parser.specs.declared.CCDataParser.{CCDataParser}
 use Rattle.parser.specs.declared.Drawn.{Drawn}
@@ -89,8 +89,8 @@ drew p r d s e a =
     record {
       item = saidItem-injective (r .item) (itemFor (model.draw d .item)) ((rw (s .valid, e) at (c .item)) ∙ sym (item-says (model.draw d .item)));
       packet = rw (s .valid, e) at (c .packet);
-      sound = rw (c .parser) (drawn-sound p s);
-      means = rw (c .parser) (means-drawn p s ∙ ap (λ (x : Demux). model.draw x .next) e);
+      sound = rw (c .places) (drawn-sound p s);
+      means = c .means (s .valid) ∙ ap (λ (x : Demux). model.draw x .next) e;
     }
 
 -- a pair before others of its field

@@ -13,8 +13,8 @@ use Rattle.parser.specs.Means.{means}
 use Rattle.parser.specs.Calls.{pushed, drawn}
 use Rattle.parser.specs.Items.{Draws, packetOfItem}
 use Rattle.parser.proofs.Laid.{Sound}
-use Rattle.parser.proofs.Kept.{pushed-sound}
-use Rattle.parser.proofs.Calls.{pushed-answers}
+use Rattle.parser.proofs.Kept.{pushed-sound, means-drawn}
+use Rattle.parser.proofs.Pushes.{frame-answer}
 use Rattle.parser.specs.declared.CCDataParser.{CCDataParser}
 use Rattle.parser.specs.declared.ParserAnswer.{ParserAnswer}
 use Rattle.parser.specs.declared.Drawn.{Drawn}
@@ -31,11 +31,11 @@ lent bytes = record { ptr = (0, 0); name = 0; now = bytes }
 
 -- a draw that the contract allows: what the model draws
 abbrev drawing : CCDataParser → Drawn
-drawing p = record { item = itemFor (model.draw (means p) .item); packet = packetOfItem (model.draw (means p) .item); parser = drawn p .parser }
+drawing p = record { item = itemFor (model.draw (means p) .item); packet = packetOfItem (model.draw (means p) .item); parser = drawn p }
 
 -- the contract allows it
 draw-allowed : (p : CCDataParser) → Sound p → Draw p (drawing p)
-draw-allowed p s = let c : Draws p (drawing p) = record { item = rw (s .valid) (item-says (model.draw (means p) .item)); packet = rw (s .valid); parser = refl } in c
+draw-allowed p s = let c : Draws p (drawing p) = record { item = rw (s .valid) (item-says (model.draw (means p) .item)); packet = rw (s .valid); means = λ _. means-drawn p s; places = refl } in c
 
 -- draws until there is nothing left
 record Emptiable (p : CCDataParser) : Type 0 where
@@ -57,19 +57,20 @@ module _ (on : Bool) (pending : List ℕ) where
   empties-to [] (q ∷ waiting) p s e =
       let a = draw-allowed p s in
       let k = drew p (drawing p) _ s e a in
-      let m = empties-to [] waiting (drawn p .parser) (k .sound) (k .means) in
+      let m = empties-to [] waiting (drawn p) (k .sound) (k .means) in
       record { told = _; items = _; last = m .last; draws = draw (drawing p) a (λ z. packet-some (sym (k .item) ∙ z)) (m .draws); sound = m .sound }
   empties-to (x ∷ pairs) waiting p s e =
       let a = draw-allowed p s in
       let k = drew p (drawing p) _ s e a in
-      let m = empties-to pairs waiting (drawn p .parser) (k .sound) (k .means) in
+      let m = empties-to pairs waiting (drawn p) (k .sound) (k .means) in
       record { told = _; items = _; last = m .last; draws = draw (drawing p) a (λ z. pair-some (drawnPair x) (sym (k .item) ∙ z)) (m .draws); sound = m .sound }
 
 -- any frames can be fed to any state within the limits
 feeds-from : (κs : Lfts 1) (frames : List (List ℕ)) (p : CCDataParser) → Sound p → Feedable p frames
 feeds-from κs [] p s = record { answers = []; told = []; given = _; last = p; feeds = no-frame }
 feeds-from κs (f ∷ frames) p s =
-    let q : CCDataParser = pushed p f .parser in
+    let q : CCDataParser = pushed p f in
+    let a = frame-answer p f s in
     let m = empties-to (means q .on608) (means q .pending) (means q .pairs) (means q .waiting) q (pushed-sound p f s) refl in
     let k = feeds-from κs frames (m .last) (m .sound) in
     record {
@@ -77,7 +78,7 @@ feeds-from κs (f ∷ frames) p s =
       told = _;
       given = _;
       last = k .last;
-      feeds = feed κs (lent f) (pushed p f) (pushed-answers p f (pushed p f) (s .shaped) refl) (m .draws) (k .feeds);
+      feeds = feed κs (lent f) (record { answer = a .0; parser = q }) (a .1) (m .draws) (k .feeds);
     }
 
 -- and so to a fresh one with 608 on, and then any others

@@ -8,11 +8,11 @@ use native.Mathlib.Omega.{arith}
 use lib.ListN.{length, replicate}
 use denote.Ref.{now}
 use Rattle.model.specs.Said.{accepted}
-use Rattle.model.specs.Packet.{Packet, allPackets}
+use Rattle.model.specs.Packet.{Packet}
 use Rattle.model.specs.Frame.{Cea608}
-use Rattle.model.specs.Demux.{Demux, Item, takeFrame, validDemux}
+use Rattle.model.specs.Demux.{Demux, Item, takeFrame}
 use Rattle.model.specs.Run.{Read, readFrames, emptied, ofField1, ofField2, others}
-use Rattle.model.proofs.DemuxStates.{demux-facts, facts-demux, take-valid}
+use Rattle.model.proofs.DemuxStates.{demux-facts}
 use Rattle.journey.specs.Bounds.{one, two}
 use Rattle.journey.proofs.Turns.{others-append}
 use Rattle.journey.proofs.Carried.{field-append}
@@ -24,7 +24,7 @@ use Rattle.caption.proofs.Answers.{saidAnswer-injective}
 use Rattle.parser.specs.Means.{means}
 use Rattle.parser.specs.Calls.{Answers, saidPush, pushed}
 use Rattle.parser.proofs.Laid.{Sound}
-use Rattle.parser.proofs.Kept.{pushed-sound, means-pushed}
+use Rattle.parser.proofs.Kept.{sound-demux, pushed-sound}
 use Rattle.parser.specs.declared.CCDataParser.{CCDataParser}
 use Rattle.parser.specs.declared.Item as parser
 use Rattle.parser.specs.declared.Item.the-variants as item
@@ -48,12 +48,6 @@ pub record Fed (fs : List (List ℕ)) (d : Demux) (answers : List Answer) (told 
   pub items : is ≡ itemsRead (readFrames fs d)
   pub sound : Sound p
   pub means : means p ≡ readFrames fs d .last
-  pub valid : validDemux (readFrames fs d .last) ≡ true
-
--- a demultiplexer within the limits that has been emptied is within them
-emptied-valid : (d : Demux) → validDemux d ≡ true → validDemux (emptied d) ≡ true
-unfolding allPackets
-emptied-valid d v = let f = demux-facts d v in facts-demux (emptied d) (record { pairs = omega arith; waiting = omega arith; packets = refl; pending = f .pending })
 
 -- what was read before, and what after
 items-append : (xs ys : List Cea608) (ps qs : List Packet) → andThen (itemsIn xs ps) (itemsIn ys qs) ≡ itemsIn (xs ++ ys) (ps ++ qs)
@@ -66,19 +60,18 @@ map-append (x ∷ a) b = ap (λ (l : List parser.Item). itemFor x ∷ l) (map-ap
 
 -- by the demultiplexer of the model
 feeds-at : {p p′ : CCDataParser} {fs : List (List ℕ)} {answers : List Answer} {told : List parser.Item} {is : Items} → Feeds p fs answers told is p′
-    → (d : Demux) → Sound p → means p ≡ d → validDemux d ≡ true → Fed fs d answers told is p′
+    → (d : Demux) → Sound p → means p ≡ d → Fed fs d answers told is p′
 unfolding readFrames ofField1 ofField2 others
-feeds-at no-frame d s e v = record { said = refl; tells = refl; items = refl; sound = s; means = e; valid = v }
-feeds-at {p} (feed {q} {fs} {answers} {told} {told′} {is} {is′} κs frame r a c k) d s e v =
+feeds-at no-frame d s e = record { said = refl; tells = refl; items = refl; sound = s; means = e }
+feeds-at {p} (feed {q} {fs} {answers} {told} {told′} {is} {is′} κs frame r a c k) d s e =
     let f : List ℕ = now frame in
     let t : Demux = takeFrame f d .next in
-    let b : Answers (saidPush p f) (pushed p f .parser) r = a in
-    let next : means (r .parser) ≡ t = rw (b .parser) (means-pushed p f s ∙ ap (λ (x : Demux). takeFrame f x .next) e) in
-    let w : validDemux t ≡ true = take-valid f d v in
-    let sound : Sound (r .parser) = rw (b .parser) (pushed-sound p f s) in
-    let m = empties-from c sound t next (demux-facts t w .packets) in
+    let b : Answers p (saidPush p f) (takeFrame f (means p) .next) (pushed p f) r = a in
+    let next : means (r .parser) ≡ t = b .means (s .valid) ∙ ap (λ (x : Demux). takeFrame f x .next) e in
+    let sound : Sound (r .parser) = rw (b .places) (pushed-sound p f s) in
+    let m = empties-from c sound t next (demux-facts t (rw next at (sound-demux (r .parser) sound)) .packets) in
     let first : saidAnswer (r .answer) ≡ takeFrame f d .answer = rw (s .valid, e) at (b .answer) in
-    let n = feeds-at k (emptied t) (m .sound) (m .means) (emptied-valid t w) in
+    let n = feeds-at k (emptied t) (m .sound) (m .means) in
     let later = n .said in
     record {
       said = (cc);
@@ -86,13 +79,12 @@ feeds-at {p} (feed {q} {fs} {answers} {told} {told′} {is} {is′} κs frame r 
       items = rw (m .items, n .items) (items-append (t .pairs) (readFrames fs (emptied t) .pairs) (t .waiting) (readFrames fs (emptied t) .packets));
       sound = n .sound;
       means = n .means;
-      valid = n .valid;
     }
 
 -- from any state within the limits
 pub feeds : {p p′ : CCDataParser} {fs : List (List ℕ)} {answers : List Answer} {told : List parser.Item} {is : Items} → Feeds p fs answers told is p′
-    → Sound p → validDemux (means p) ≡ true → Fed fs (means p) answers told is p′
-feeds {p} c s v = feeds-at c (means p) s refl v
+    → Sound p → Fed fs (means p) answers told is p′
+feeds {p} c s = feeds-at c (means p) s refl
 
 -- answers that all say "accepted" are
 said-accepted : (answers : List Answer) (n : ℕ) → map saidAnswer answers ≡ replicate n (accepted []) → answers ≡ replicate n Accepted

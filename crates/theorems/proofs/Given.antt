@@ -6,7 +6,7 @@ use native.Mathlib.Omega.{arith}
 use lib.ListN.{length, take, drop, replicate, length-append, take-append-drop}
 use Rattle.model.specs.Said as said
 use Rattle.model.specs.Frame.{Pair}
-use Rattle.model.specs.Demux.{Demux, freshDemux, turn608On, validDemux}
+use Rattle.model.specs.Demux.{Demux, freshDemux, turn608On}
 use Rattle.model.specs.Mux.{Mux, freshMux}
 use Rattle.model.specs.Run.{Read, Run, run, readFrames, others}
 use Rattle.journey.specs.Bounds.{Field, one, two, acceptedOf, Left}
@@ -81,7 +81,7 @@ pair-given {w} {p} {fs₀} {fs} {given} new before padded behind padded′ newPa
     let g : List ℕ = o .last .pending in
     let c = framed (run (m .calls) (means w)) (holding g) fs (m .frames) (carried (m .calls) (means w) g (m .allowed padded′) (rw (k .last) at (t .ready))) in
     let at : parser.means p ≡ holding g = d .means ∙ t .held in
-    let e = feeds read (d .sound) (ap validDemux (d .means) ∙ d .valid) in
+    let e = feeds read (d .sound) in
     let fine = ap (λ (x : Demux). readFrames fs x .answers) at ∙ c .answers ∙ ap (λ (x : List (List ℕ)). replicate (length x) (said.accepted [])) (m .frames) in
     let z : given ≡ itemsRead (readFrames fs (holding g)) = e .items ∙ ap (λ (x : Demux). itemsRead (readFrames fs x)) at in (
       no-refusal e fine,

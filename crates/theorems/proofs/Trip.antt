@@ -8,7 +8,6 @@ use Rattle.model.specs.Said as said
 use Rattle.model.specs.Demux.{freshDemux, turn608On}
 use Rattle.model.specs.Run as model
 use Rattle.model.specs.Run.{Read, readFrames}
-use Rattle.model.proofs.DemuxStates.{fresh-demux, on-valid}
 use Rattle.journey.proofs.Trip as journey
 use Rattle.caption.specs.declared.Answer.{Answer}
 use Rattle.caption.specs.declared.Answer.the-variants.{Accepted}
@@ -20,7 +19,9 @@ use Rattle.writer.proofs.Kept.{Sound, sound-ok}
 use Rattle.writer.proofs.Triples.{left-end}
 use Rattle.writer.specs.declared.CCDataWriter.{CCDataWriter}
 use Rattle.parser.specs.Means as parser
+use Rattle.parser.specs.Calls as calls
 use Rattle.parser.specs.Fresh as parser-fresh
+use Rattle.parser.proofs.Laid as places
 use Rattle.parser.proofs.Kept as kept
 use Rattle.parser.specs.declared.CCDataParser.{CCDataParser}
 use Rattle.parser.specs.declared.ParserAnswer.{ParserAnswer}
@@ -49,20 +50,20 @@ drained w s d =
 -- 608 is turned on in a fresh demultiplexer: it is accepted, and the state is within the limits and the model's
 record Ready (on : ParserAnswer) : Type 0 where
   answer : on .answer ≡ Accepted
-  sound : kept.Sound (on .parser)
+  sound : places.Sound (on .parser)
   means : parser.means (on .parser) ≡ turn608On freshDemux
 
 -- from the contracts
 ready : (p : CCDataParser) (on : ParserAnswer) → NewParser p → HandleCea608 p on → Ready on
 ready p on a h =
-    let e : p ≡ parser-fresh.fresh = a in
-    let c : parser.Answers (parser.saidCall p) (parser.afterCall p (parser.turnedOn p)) on = h in
-    let s : kept.Sound p = rw e kept.fresh-sound in
-    let t : on .parser ≡ parser.turnedOn p = rw (s .valid) at (c .parser) in
+    let e : p ≡ parser-fresh.fresh = a .1 in
+    let c : calls.Answers p (calls.saidCall p) (turn608On (parser.means p)) (calls.afterCall p (calls.turnedOn p)) on = h in
+    let s : places.Sound p = rw e kept.fresh-sound in
+    let t : on .parser ≡ calls.turnedOn p = rw (s .valid) at (c .places) in
     record {
       answer = saidAnswer-injective (on .answer) Accepted (rw (s .valid) at (c .answer));
       sound = rw t (kept.turned-sound p s);
-      means = rw t (kept.means-turned p ∙ ap (λ (x : CCDataParser). turn608On (parser.means x)) e ∙ ap turn608On kept.means-fresh);
+      means = c .means (s .valid) ∙ ap turn608On (a .0);
     }
 
 -- frames fed to a fresh one with 608 on
@@ -71,7 +72,7 @@ pub given-fed : {p₀ p : CCDataParser} {on : ParserAnswer} {frames : List (List
     → (on .answer ≡ Accepted) × Fed frames (turn608On freshDemux) answers told given p
 given-fed {p₀} {on} new turned read =
     let y = ready p₀ on new turned in
-    (y .answer, rw (y .means) at (feeds read (y .sound) (rw (y .means) (on-valid freshDemux fresh-demux))))
+    (y .answer, rw (y .means) at (feeds read (y .sound)))
 
 -- Calls from a fresh multiplexer that end drained: what the model's demultiplexer reads in their frames.
 pub record Carried (frames : List (List ℕ)) (accepted : Items) (o : Read) : Type 0 where

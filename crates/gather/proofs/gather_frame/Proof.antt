@@ -1,6 +1,6 @@
 -- `gather::gather_frame` meets its contract: what the whole frame leaves stays what is left of it leaves behind the slots that are there, by
 -- whether a triple delivers; then the frame's end. Assumes nothing.
-use mathlib.Core.Path.{_≡_, refl}
+use mathlib.Core.Path.{refl}
 use mathlib.Core.Logic.{⊎-elim}
 use Prim.Native.Nat.{_+_, _*_, _-_, _≤_}
 use native.Mathlib.Omega.{arith}
