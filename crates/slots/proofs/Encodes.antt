@@ -13,7 +13,8 @@ use Rattle.model.specs.Packet.{Packet, packetLength, packetHeader, writtenBlock
 use Rattle.model.proofs.Cases.{by-test, both}
 use Rattle.model.proofs.Blocks.{Carriable, carriable-facts, written-short, written-long}
 use Rattle.model.proofs.Packets.{Valid, Shape, shape, blocks-length, length-some}
-use Rattle.slots.specs.Slot.{writtenLength, blockSpan, wholeBlocks, framedSlot, writtenSlot}
+use Rattle.slots.specs.Slot.{writtenLength}
+use Rattle.slots.specs.Walk.{blockSpan, wholeBlocks, framedSlot, walkedSlot}
 use Rattle.slots.proofs.Spans.{span-short, span-long}
 use Rattle.slots.specs.declared.Slot.{Slot}
 
@@ -86,8 +87,8 @@ module _ (p : Packet) (v : Valid p) (some : 1 ≤ length (p .blocks)) (rest : Li
       rw (e, split, o, getD-at (packetHeader p ∷ writtenBlocks (p .blocks)) 0x00 rest 0 (packetLength p) body))
 
   -- "the written form of a nonempty packet"
-  pub written-passes : writtenSlot (record { len = packetLength p; bytes = writtenPacket p ++ rest }) ≡ true
-  unfolding writtenSlot framedSlot packetHeader writtenPacket
+  pub written-passes : walkedSlot (record { len = packetLength p; bytes = writtenPacket p ++ rest }) ≡ true
+  unfolding walkedSlot framedSlot packetHeader writtenPacket
   written-passes =
       let l : 3 ≤ packetLength p = omega (arith, h .least, h .even) in
       let a : getD (writtenPacket p ++ rest) 0 0 % 64 ≡ (packetLength p + 1) / 2 % 64 = omega arith in

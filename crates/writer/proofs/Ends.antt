@@ -12,9 +12,10 @@ use Rattle.model.specs.Packet.{Packet}
 use Rattle.model.specs.Frame.{Triple}
 use Rattle.model.specs.Mux.{packetTriples, started, Sent, behind, send}
 use Rattle.model.proofs.Cases.{by-test}
-use Rattle.slots.specs.Slot.{noSlot, writtenLength, writtenBytes, slotPacket, Carries}
-use Rattle.writer.specs.Slots.{packetsOf, leftFrom, Held}
-use Rattle.writer.specs.Sending.{begun, restedSlot, restedSent}
+use Rattle.slots.specs.Slot.{noSlot, writtenLength, writtenBytes, slotPacket}
+use Rattle.slots.specs.Walk.{Carries}
+use Rattle.writer.specs.Writer.{packetsOf, leftFrom}
+use Rattle.writer.specs.Sending.{Held, begun, restedSlot, restedSent}
 use Rattle.writer.proofs.Triples.{left-length, left-drop, left-end}
 use Rattle.writer.proofs.Sends.{send-over, send-under, send-last, held-begun}
 use Rattle.slots.specs.declared.Slot.{Slot}

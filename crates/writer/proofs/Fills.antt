@@ -16,9 +16,9 @@ use Rattle.frames.specs.Frame.{appended, fits, fillers}
 use Rattle.frames.proofs.Stores.{appended-nil, fits-true}
 use Rattle.frames.specs.declared.Frame.{Frame}
 use Rattle.slots.specs.Slot.{noSlot, writtenBytes}
-use Rattle.writer.specs.Slots.{packetsOf, leftFrom, Queued, Held}
-use Rattle.writer.specs.Sending.{stands, sentFrom}
-use Rattle.writer.specs.Writer.{triplesIn, padded, filled, Room}
+use Rattle.writer.specs.Writer.{packetsOf, leftFrom}
+use Rattle.writer.specs.Sending.{Queued, Held, stands, sentFrom}
+use Rattle.writer.specs.Making.{triplesIn, padded, filled, Room}
 use Rattle.slots.specs.declared.Slot.{Slot}
 use Rattle.writer.specs.declared.Sending.{Sending}
 

@@ -17,9 +17,10 @@ use Rattle.model.proofs.Cases.{by-test, by-cond}
 use Rattle.frames.specs.Frame.{appended}
 use Rattle.frames.proofs.Stores.{appended-flat}
 use Rattle.frames.specs.declared.Frame.{Frame}
-use Rattle.slots.specs.Slot.{noSlot, writtenLength, writtenBytes, slotPacket, Carries}
-use Rattle.writer.specs.Slots.{packetsOf, leftFrom, Queued, Held}
-use Rattle.writer.specs.Sending.{begun, stands, sentFrom, movedBy, finished}
+use Rattle.slots.specs.Slot.{noSlot, writtenLength, writtenBytes, slotPacket}
+use Rattle.slots.specs.Walk.{Carries}
+use Rattle.writer.specs.Writer.{packetsOf, leftFrom}
+use Rattle.writer.specs.Sending.{Queued, Held, begun, stands, sentFrom, movedBy, finished}
 use Rattle.writer.proofs.Triples.{left-length, put-length}
 use Rattle.slots.specs.declared.Slot.{Slot}
 use Rattle.writer.specs.declared.Sending.{Sending}

@@ -18,7 +18,8 @@ use Rattle.frames.specs.Frame.{appended, mark, triplesAt, fits, carries}
 use Rattle.frames.proofs.Stores.{fits-true, carries-true}
 use Rattle.frames.specs.declared.Frame.{Frame}
 use Rattle.slots.specs.Slot.{writtenLength, writtenBytes}
-use Rattle.writer.specs.Slots.{leftFrom, Held}
+use Rattle.writer.specs.Writer.{leftFrom}
+use Rattle.writer.specs.Sending.{Held}
 use Rattle.slots.specs.declared.Slot.{Slot}
 
 -- the next triple of a packet that was begun

@@ -4,7 +4,7 @@ use Prim.Native.Nat.{_+_, _-_, _*_, _≤_}
 use native.Mathlib.Omega.{arith}
 use lib.ListN.{length, take, drop}
 use Rattle.model.specs.Duration.{lengthsOf}
-use Rattle.writer.specs.Slots.{packetsOf}
+use Rattle.writer.specs.Writer.{packetsOf}
 use Rattle.writer.proofs.Triples.{left-length}
 use Rattle.writer.proofs.Sends.{lengths-more, lengths-none}
 use borrow.Author.Needs.{needs}
