@@ -1,6 +1,6 @@
 -- What the calls that write no frame do to a multiplexer. Assumes nothing.
 use mathlib.Core.Path.{_≡_, refl, sym}
-use mathlib.Core.Bool.{Bool, true, not, _&&_}
+use mathlib.Core.Bool.{Bool, true, false, not, _&&_}
 use mathlib.Core.List.{List, [], _∷_, _++_, append-nil}
 use Prim.Native.Nat.{_≤_}
 use native.Mathlib.Omega.{arith}
@@ -14,13 +14,9 @@ use Rattle.model.specs.Mux.{Mux, withPackets, withQueues, queued, pushPacket, i
 use Rattle.model.specs.Run.{pushes, pushes608, pads, Run, onlyIf, call, run, others}
 use Rattle.model.proofs.Cases.{by-test}
 use Rattle.model.proofs.Packets.{Valid}
-use Rattle.journey.specs.Bounds.{Field, one, two, the, queueOf}
+use Rattle.journey.specs.Bounds.{Field, one, two, the, queueOf, acceptedOf}
 use Rattle.journey.proofs.Turns.{others-append}
 use Rattle.journey.proofs.Gather.{AllStored, none, also}
-
--- the pairs of the field that a run accepted
-abbrev pub acceptedOf : Field → Run → List Pair
-acceptedOf f r = the f (r .pairs1) (r .pairs2)
 
 -- no pairs of either field
 pub none-accepted : (f : Field) → others (the f [] []) ≡ []
@@ -46,32 +42,30 @@ push-cases P p s same last =
     (λ e. by-test (leb mostPackets (length (s .packets))) (λ l. simp (e, l) same) (λ l. simp (e, l) (last (omega (arith, eqb-false (length (p .blocks)) 0 e)))))
 
 -- a push of a pair: it is refused, it is 0x80,0x80 and dropped, or it stands last
-pair-cases : (P : List Pair → List Pair → Type 0) (x : Pair) (q : List Pair) → P [] q → (isNull x ≡ true → P (x ∷ []) q) → P (x ∷ []) (q ++ (x ∷ []))
+pair-cases : (P : List Pair → List Pair → Type 0) (x : Pair) (q : List Pair) → P [] q → (isNull x ≡ true → P (x ∷ []) q) → (isNull x ≡ false → P (x ∷ []) (q ++ (x ∷ [])))
     → P (onlyIf (isGiven (pushPair x q)) x) (after q (pushPair x q))
 unfolding pushPair queued
 pair-cases P x q same null last =
     by-test (isNull x) (λ e. simp e (null e))
-    (λ e. by-test (leb mostQueued (length q)) (λ l. simp (e, l) same) (λ l. simp (e, l) last))
+    (λ e. by-test (leb mostQueued (length q)) (λ l. simp (e, l) same) (λ l. simp (e, l) (last e)))
 
 -- a field's queue q becomes q′ as the pairs x are accepted
 pub record Grown (q x q′ : List Pair) : Type 0 where
   pub accepts : others q ++ others x ≡ others q′
-  pub new : List Pair
-  pub behind : q ++ new ≡ q′
-  pub came : others new ≡ others x
+  pub behind : q ++ others x ≡ q′
 
 -- nothing of the field is pushed
 grown-none : (q : List Pair) → Grown q [] q
 unfolding others
-grown-none q = record { accepts = append-nil (others q); new = []; behind = append-nil q; came = refl }
+grown-none q = record { accepts = append-nil (others q); behind = append-nil q }
 
 -- a pair of the field is pushed
 grown-pair : (x : Pair) (q : List Pair) → Grown q (onlyIf (isGiven (pushPair x q)) x) (after q (pushPair x q))
 unfolding others
 grown-pair x q =
     pair-cases (Grown q) x q (grown-none q)
-    (λ e. record { accepts = rw e (append-nil (others q)); new = []; behind = append-nil q; came = rw e })
-    (record { accepts = sym (others-append q (x ∷ [])); new = x ∷ []; behind = refl; came = refl })
+    (λ e. record { accepts = rw e (append-nil (others q)); behind = rw e (append-nil q) })
+    (λ e. record { accepts = sym (others-append q (x ∷ [])); behind = rw e })
 
 -- A call that writes no frame: what it accepts stands behind what was queued; the packet being sent and whose turn is next stay.
 pub record Quiet (s : Mux) (k : Run) : Type 0 where

@@ -12,20 +12,20 @@ use Rattle.model.specs.Rate.{Budgets}
 use Rattle.model.specs.Mux.{Mux, writeFrame}
 use Rattle.model.specs.Run.{Call, pushes, pushes608, pads, writes, Run, call, run, AllowedCall, Allowed, Read, emptied, readFrames, ofField1, ofField2, others}
 use Rattle.model.proofs.Packets.{valid-facts}
-use Rattle.journey.specs.Bounds.{Field, one, two, queueOf}
+use Rattle.journey.specs.Bounds.{Field, one, two, queueOf, acceptedOf}
 use Rattle.journey.proofs.Turns.{ofField, others-append}
 use Rattle.journey.proofs.Gather.{AllStored, none, also, underway}
 use Rattle.journey.proofs.Count.{fits, counted}
 use Rattle.journey.proofs.Taking.{holding}
 use Rattle.journey.proofs.Round.{Ready, round}
-use Rattle.journey.proofs.Calls.{acceptedOf, none-accepted, thenRun, accepted-append, Quiet, quiet-none, quiet-pads, quiet-608, quiet-push, stored-push}
+use Rattle.journey.proofs.Calls.{none-accepted, thenRun, accepted-append, Quiet, quiet-none, quiet-pads, quiet-608, quiet-push, stored-push}
 
 -- What was there and what came in is, in order, what went out and what is there now.
 pub record Kept {A : Type 0} (before into out now : List A) : Type 0 where
   pub same : before ++ into ≡ out ++ now
 
 -- one step after another
-chain : {A : Type 0} {a i o b i′ o′ c : List A} → Kept a i o b → Kept b i′ o′ c → Kept a (i ++ i′) (o ++ o′) c
+pub chain : {A : Type 0} {a i o b i′ o′ c : List A} → Kept a i o b → Kept b i′ o′ c → Kept a (i ++ i′) (o ++ o′) c
 chain {a} {i} {o} {b} {i′} {o′} {c} h k = record { same = rw (← append-assoc a i i′, h .same, append-assoc o b i′, k .same, append-assoc o o′ c) }
 
 -- The frames of a run r that begins at s, read by a demultiplexer that holds g: all are accepted, and of what was on its way or queued and

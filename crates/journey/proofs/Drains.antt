@@ -8,7 +8,7 @@ use Rattle.model.specs.Packet.{Packet}
 use Rattle.model.specs.Rate.{Budgets}
 use Rattle.model.specs.Mux.{Mux, withPads, triplesQueued, unsent, writeFrame}
 use Rattle.model.specs.Run.{Call, pushes, pushes608, pads, writes, call, run, Accepted, Drained}
-use Rattle.journey.specs.Bounds.{Field, one, two, queueOf, writesIn, AtRates, NoPush}
+use Rattle.journey.specs.Bounds.{Field, one, two, queueOf, writesIn, AtRates, NoPush, DrainsInTime}
 use Rattle.journey.proofs.Turns.{mine, mine-most}
 use Rattle.journey.proofs.Sending.{remains}
 use Rattle.journey.proofs.Triples.{opens}
@@ -16,7 +16,7 @@ use Rattle.journey.proofs.Four.{sends-four}
 use Rattle.journey.proofs.Leaves.{moved}
 
 -- a list of length 0 is empty
-empty : {A : Type 0} (l : List A) → length l ≤ 0 → l ≡ []
+pub empty : {A : Type 0} (l : List A) → length l ≤ 0 → l ≡ []
 empty [] h = refl
 empty (x ∷ l) h = absurd (omega arith)
 
@@ -51,6 +51,5 @@ drain (pushes p ∷ cs) s n r k u = absurd n
 drain (pushes608 x ∷ cs) s n r k u = absurd n
 
 -- writes at accepted rates drain a multiplexer once they are twice as many as the pairs of either field, and a quarter of the packet triples
-pub drains : (cs : List Call) (s : Mux) → NoPush cs → AtRates cs → 2 * length (s .queue1) ≤ writesIn cs → 2 * length (s .queue2) ≤ writesIn cs → unsent s ≤ 4 * writesIn cs
-    → Drained (run cs s .last)
-drains cs s n r k₁ k₂ u = drain cs s n r (elim [ one ↦ omega arith | two ↦ omega arith ]) u
+pub drains : (cs : List Call) (s : Mux) → NoPush cs → AtRates cs → DrainsInTime cs s
+drains cs s n r k₁ k₂ u = drain cs s n r (elim [ one ↦ omega arith | two ↦ omega arith ]) (omega arith)

@@ -1,7 +1,7 @@
 -- The packet triples of a write, gathered by the reader. Assumes nothing.
 use mathlib.Core.Path.{_≡_, refl, sym, ap, _∙_}
 use mathlib.Core.List.{List, [], _∷_, _++_, append-assoc, append-nil}
-use Prim.Native.Nat.{ℕ, zero, suc, _≤_}
+use Prim.Native.Nat.{ℕ, zero, suc, _≤_, min}
 use native.Mathlib.Omega.{arith}
 use lib.ListN.{length, length-append}
 use lib.Seq.{take-all}
@@ -19,11 +19,11 @@ pub data AllStored : List Packet → Type 0 where
   none : AllStored []
   also : {p : Packet} {q : List Packet} → Stored p → AllStored q → AllStored (p ∷ q)
 
--- The triples left of the packet being sent, and the bytes that the reader has gathered of it: none, or some, and then its header gives the
--- length of those and of what is left.
+-- The triples left of the packet being sent, and the bytes that the reader has gathered of it: there are neither; or its header gives the length
+-- of those gathered and those left, and together they are a packet.
 pub data Link : List Triple → List ℕ → Type 0 where
-  lost : {ts : List Triple} → Follow ts → Link ts []
-  part : {ts : List Triple} {x : ℕ} {g : List ℕ} → Follow ts → packetSize x ≡ length (x ∷ g ++ bytesOf ts) → Link ts (x ∷ g)
+  still : Link [] []
+  part : {ts : List Triple} {x : ℕ} {g : List ℕ} → Follow ts → packetSize x ≡ length (x ∷ g ++ bytesOf ts) → length (closed (x ∷ g ++ bytesOf ts)) ≡ 1 → Link ts (x ∷ g)
 
 -- the packet that is on its way: that of the bytes gathered and those left
 abbrev pub underway : List ℕ → List Triple → List Packet
@@ -45,6 +45,12 @@ pub closed-none : closed [] ≡ []
 unfolding closed readPacket readBy
 closed-none = refl
 
+-- one packet is on its way while triples are left, and none when none are
+pub underway-one : {ts : List Triple} {g : List ℕ} → Link ts g → (wants g ≡ 0 → g ≡ []) → length (underway g ts) ≡ min 1 (length ts)
+underway-one still rest = omega arith
+underway-one (part {x} {g} stop e k) rest = let z = ap length (rest (wants-part [] x g e)) in absurd (omega arith)
+underway-one (part (more f) e k) rest = omega (arith, k)
+
 -- one triple gathered: a start
 gather-start : (g : List ℕ) (a b : ℕ) (ts : List Seen) → 2 ≤ packetSize a → gather g (seen (tri 0xFF a b) ∷ ts) ≡ delivered (closed g) (gather (a ∷ b ∷ []) ts)
 unfolding gather seen
@@ -54,11 +60,6 @@ gather-start g a b ts h = rw (take-all (packetSize a) (a ∷ b ∷ []) h)
 gather-more : (g : List ℕ) (a b : ℕ) (ts : List Seen) → 2 ≤ wants g → gather g (seen (tri 0xFE a b) ∷ ts) ≡ gather (g ++ (a ∷ b ∷ [])) ts
 unfolding gather seen
 gather-more g a b ts h = rw (take-all (wants g) (a ∷ b ∷ []) h)
-
--- more of one whose start was not seen
-gather-lost : (a b : ℕ) (ts : List Seen) → gather [] (seen (tri 0xFE a b) ∷ ts) ≡ gather [] ts
-unfolding gather seen
-gather-lost a b ts = rw wants-none
 
 -- What a write sends, and what the reader makes of it: it is linked to what is left as before, and has given the packets in order.
 pub record Passed (ts : List Triple) (g : List ℕ) (q : List Packet) (o : Sent) (r : Gathered) : Type 0 where
@@ -72,7 +73,7 @@ firstOf p = packetHeader p ∷ opens p .second ∷ []
 
 -- they link the reader to the rest of it
 opened : {p : Packet} → Stored p → Link (opens p .rest) (firstOf p)
-opened {p} k = part (opens p .follow) (shape p (k .valid) (k .some) .header ∙ ap length (sym (bytes-written k)))
+opened {p} k = part (opens p .follow) (shape p (k .valid) (k .some) .header ∙ ap length (sym (bytes-written k))) (ap length (closed-written k))
 
 -- a start closes what was gathered, and the packet that leaves the queue is on its way
 started : {p : Packet} → Stored p → {g : List ℕ} {q : List Packet} {o : Sent} {r : Gathered} → underway g [] ≡ closed g → Passed (opens p .rest) (firstOf p) q o r
@@ -106,15 +107,12 @@ module _ (tail : List Seen) (inert : (g : List ℕ) → gather g tail ≡ record
   pub carry : (m : ℕ) {ts : List Triple} {q : List Packet} {g : List ℕ} → Link ts g → AllStored q → Passed ts g q (send m ts q) (got g (send m ts q))
   unfolding seenAll
   carry zero {ts} {q} {g} l h = rw (send-none ts q, inert g) (record { linked = l; same = refl; stored = h })
-  carry (suc m) (lost stop) none = idle (lost stop) (suc m)
-  carry (suc m) (part stop e) none = idle (part stop e) (suc m)
-  carry (suc m) (lost stop) (also k h) = begin m k (sym closed-none) (carry m (opened k) h)
-  carry (suc m) (part {x} {g} stop e) (also k h) = begin m k (ap closed (append-nil (x ∷ g))) (carry m (opened k) h)
-  carry (suc m) {q} (lost (more {a} {b} {ts} f)) h =
-      let c = carry m (lost f) h in
-      rw (send-one m (tri 0xFE a b) ts q, gather-lost a b _) (record { linked = c .linked; same = c .same; stored = c .stored })
-  carry (suc m) {q} (part {x} {g} (more {a} {b} {ts} f) e) h =
+  carry (suc m) still none = idle still (suc m)
+  carry (suc m) (part stop e c) none = idle (part stop e c) (suc m)
+  carry (suc m) still (also k h) = begin m k (sym closed-none) (carry m (opened k) h)
+  carry (suc m) (part {x} {g} stop e c) (also k h) = begin m k (ap closed (append-nil (x ∷ g))) (carry m (opened k) h)
+  carry (suc m) {q} (part {x} {g} (more {a} {b} {ts} f) e n) h =
       let shift : (x ∷ g) ++ (a ∷ b ∷ []) ++ bytesOf ts ≡ (x ∷ g) ++ (a ∷ b ∷ bytesOf ts) = append-assoc (x ∷ g) (a ∷ b ∷ []) (bytesOf ts) in
-      let c = carry m (part f (e ∙ ap length (sym shift))) h in
+      let c = carry m (part f (e ∙ ap length (sym shift)) (ap (λ (l : List ℕ). length (closed l)) shift ∙ n)) h in
       let two : 2 ≤ wants (x ∷ g) = omega (arith, wants-part (tri 0xFE a b ∷ ts) x g e) in
       rw (send-one m (tri 0xFE a b) ts q, gather-more (x ∷ g) a b _ two) (record { linked = c .linked; same = rw shift at (c .same); stored = c .stored })

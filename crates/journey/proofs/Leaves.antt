@@ -10,9 +10,9 @@ use Rattle.model.specs.Frame.{Pair}
 use Rattle.model.specs.Rate.{Budgets}
 use Rattle.model.specs.Mux.{Mux, turnsDue, framed, writeFrame}
 use Rattle.model.specs.Run.{Call, pushes, pushes608, pads, writes, Run, call, run, others}
-use Rattle.journey.specs.Bounds.{Field, one, two, queueOf, writesIn, AtRates, Left}
+use Rattle.journey.specs.Bounds.{Field, one, two, queueOf, acceptedOf, writesIn, AtRates, Left, LeavesInTime}
 use Rattle.journey.proofs.Turns.{others-append, mine, mine-most, turns-serve}
-use Rattle.journey.proofs.Calls.{acceptedOf, none-accepted, accepted-append, Quiet, quiet-pads, quiet-608, quiet-push}
+use Rattle.journey.proofs.Calls.{none-accepted, thenRun, accepted-append, Quiet, quiet-pads, quiet-608, quiet-push}
 
 -- a frame at a rate with a pair has a turn if a field has a pair
 some-turn : (f : Field) (s : Mux) (p : ℕ) → 1 ≤ p → 1 ≤ length (queueOf f s) → 1 ≤ turnsDue p s
@@ -43,64 +43,58 @@ moved f b s some =
     let v = turns-serve f (turnsDue (b .pairs) s) s in
     record { gone = v .gone; cut = v .cut; nearer = λ i left h k. nearer-by i (length (queueOf f s)) (length (v .gone)) (v .m) (turnsDue (b .pairs) s) left _ _ h (v .enough) (v .clock) (some-turn f s (b .pairs) some) k }
 
--- The first i places of a queue have left, and what came behind it meanwhile are the pairs x that were accepted.
-pub record Went (i : ℕ) (q x q′ : List Pair) : Type 0 where
-  pub left : Left i q q′
-  pub came : others (left .new) ≡ others x
-
 -- first these go, then those
-went-then : {q q′ q″ y : List Pair} (x : List Pair) (i j : ℕ) (new gone : List Pair) → q ++ new ≡ gone ++ q′ → others new ≡ others x → Went j q′ y q″ → i ≤ length gone + j → Went i q (x ++ y) q″
-went-then {q} {q′} {q″} {y} x i j new gone e c v h =
-    let w = v .left in
+left-then : {b q q′ q″ : List Pair} (a : List Pair) (i j : ℕ) (gone : List Pair) → q ++ a ≡ gone ++ q′ → Left j q′ b q″ → i ≤ length gone + j → Left i q (a ++ b) q″
+left-then {b} {q} {q′} {q″} a i j gone e w h =
     record {
-      left = record {
-        gone = gone ++ w .gone;
-        new = new ++ w .new;
-        cut = rw (← append-assoc q new (w .new), e, append-assoc gone q′ (w .new), w .cut, append-assoc gone (w .gone) q″);
-        enough = simp length-append (omega (arith, w .enough));
-      };
-      came = rw (others-append new (w .new), others-append x y, c, v .came);
+      gone = gone ++ w .gone;
+      cut = rw (← append-assoc q a b, e, append-assoc gone q′ b, w .cut, append-assoc gone (w .gone) q″);
+      enough = omega (arith, length-append gone (w .gone), w .enough);
     }
 
--- a call that writes no frame makes no queue shorter
-quiet-went : (f : Field) {s : Mux} {k : Run} {y q″ : List Pair} (i n : ℕ) → Quiet s k
-    → (i ≤ length (queueOf f (k .last)) → 2 * i ≤ n + mine f (k .last .next1) → Went i (queueOf f (k .last)) y q″)
-    → i ≤ length (queueOf f s) → 2 * i ≤ n + mine f (s .next1) → Went i (queueOf f s) (acceptedOf f k ++ y) q″
-quiet-went f {s} {k} i n d later h e =
-    let g = d .pairs f in
-    let long = ap length (g .behind) in
-    went-then (acceptedOf f k) i i (g .new) [] (g .behind) (g .came) (later (omega (arith, length-append (queueOf f s) (g .new))) (rw (d .next1) e)) (omega arith)
+-- what one run accepts of a field and then another
+came-append : (f : Field) (k r : Run) → others (acceptedOf f (thenRun k r)) ≡ others (acceptedOf f k) ++ others (acceptedOf f r)
+came-append f k r = ap others (accepted-append f k r) ∙ others-append (acceptedOf f k) (acceptedOf f r)
 
 -- The same where a field whose turn is next has half a write more.
 module _ (f : Field) where
   -- what calls do to the field's queue
   abbrev Goes : ℕ → Mux → Run → Type 0
-  Goes i s r = Went i (queueOf f s) (acceptedOf f r) (queueOf f (r .last))
+  Goes i s r = Left i (queueOf f s) (others (acceptedOf f r)) (queueOf f (r .last))
 
-  went : (cs : List Call) (s : Mux) (i : ℕ) → AtRates cs → i ≤ length (queueOf f s) → 2 * i ≤ writesIn cs + mine f (s .next1) → Goes i s (run cs s)
-  unfolding run call others
-  went [] s i r h k =
-      record { left = record { gone = []; new = []; cut = append-nil _; enough = omega (arith, mine-most f (s .next1)) }; came = sym (none-accepted f) }
-  went (pushes p ∷ cs) s i r h k = rw (accepted-append f (call (pushes p) s) (run cs (call (pushes p) s .last))) (quiet-went f i (writesIn cs) (quiet-push p s) (went cs _ i r) h k)
-  went (pushes608 x ∷ cs) s i r h k = rw (accepted-append f (call (pushes608 x) s) (run cs (call (pushes608 x) s .last))) (quiet-went f i (writesIn cs) (quiet-608 x s) (went cs _ i r) h k)
-  went (pads a b ∷ cs) s i r h k = rw (accepted-append f (call (pads a b) s) (run cs (call (pads a b) s .last))) (quiet-went f i (writesIn cs) (quiet-pads a b s) (went cs _ i r) h k)
-  went (writes b ∷ cs) s i r h k =
+  -- a call that writes no frame makes no queue shorter
+  quiet-left : {s : Mux} {k : Run} (r : Run) (i n : ℕ) → Quiet s k
+      → (i ≤ length (queueOf f (k .last)) → 2 * i ≤ n + mine f (k .last .next1) → Goes i (k .last) r)
+      → i ≤ length (queueOf f s) → 2 * i ≤ n + mine f (s .next1) → Goes i s (thenRun k r)
+  quiet-left {s} {k} r i n d later h e =
+      let behind = d .pairs f .behind in
+      let long = ap length behind in
+      rw (came-append f k r) (left-then (others (acceptedOf f k)) i i [] behind (later (omega (arith, length-append (queueOf f s) (others (acceptedOf f k)))) (rw (d .next1) e)) (omega arith))
+
+  -- call by call
+  goes : (cs : List Call) (s : Mux) (i : ℕ) → AtRates cs → i ≤ length (queueOf f s) → 2 * i ≤ writesIn cs + mine f (s .next1) → Goes i s (run cs s)
+  unfolding run call
+  goes [] s i r h k = record { gone = []; cut = rw (none-accepted f) (append-nil _); enough = omega (arith, mine-most f (s .next1)) }
+  goes (pushes p ∷ cs) s i r h k = quiet-left (run cs (call (pushes p) s .last)) i (writesIn cs) (quiet-push p s) (goes cs _ i r) h k
+  goes (pushes608 x ∷ cs) s i r h k = quiet-left (run cs (call (pushes608 x) s .last)) i (writesIn cs) (quiet-608 x s) (goes cs _ i r) h k
+  goes (pads a b ∷ cs) s i r h k = quiet-left (run cs (call (pads a b) s .last)) i (writesIn cs) (quiet-pads a b s) (goes cs _ i r) h k
+  goes (writes b ∷ cs) s i r h k =
       let v = moved f b s (r .0 .some-pair) in
       let s′ = writeFrame b s .next in
       let j : ℕ = i - length (v .gone) in
       let long = ap length (v .cut) in
-      let w = went cs s′ j (r .1) (omega (arith, length-append (v .gone) (queueOf f s′))) (v .nearer i (writesIn cs) h k) in
-      rw (accepted-append f (call (writes b) s) (run cs s′)) (went-then (acceptedOf f (call (writes b) s)) i j [] (v .gone) (append-nil _ ∙ v .cut) (sym (none-accepted f)) w (omega arith))
-
--- after 2i writes or more
-pub goes : (f : Field) (cs : List Call) (s : Mux) (i : ℕ) → AtRates cs → i ≤ length (queueOf f s) → 2 * i ≤ writesIn cs → Went i (queueOf f s) (acceptedOf f (run cs s)) (queueOf f (run cs s .last))
-goes f cs s i r h k = went f cs s i r h (omega arith)
+      let w = goes cs s′ j (r .1) (omega (arith, length-append (v .gone) (queueOf f s′))) (v .nearer i (writesIn cs) h k) in
+      rw (came-append f (call (writes b) s) (run cs s′), none-accepted f) (left-then [] i j (v .gone) (append-nil _ ∙ v .cut) w (omega arith))
 
 -- "The pair at place i of its field leaves within 2i accepted writes": whatever is pushed or switched between them, after 2i writes or more
 -- the first i places of what was queued have gone.
-pub leaves : (f : Field) (cs : List Call) (s : Mux) (i : ℕ) → AtRates cs → i ≤ length (queueOf f s) → 2 * i ≤ writesIn cs → Left i (queueOf f s) (queueOf f (run cs s .last))
-leaves f cs s i r h k = goes f cs s i r h k .left
+pub leaves : (f : Field) (cs : List Call) (s : Mux) → AtRates cs → LeavesInTime f cs s
+leaves f cs s r i h k = goes f cs s i r h (omega arith)
 
 -- those that went begin with the pairs at the first i places
-pub first-gone : {i : ℕ} {q q′ : List Pair} (w : Left i q q′) → i ≤ length q → take i (w .gone) ≡ take i q
-first-gone {i} {q} {q′} w h = sym (take-append-le i (w .gone) q′ (w .enough)) ∙ ap (take i) (sym (w .cut)) ∙ take-append-le i q (w .new) h
+pub first-gone : {i : ℕ} {q came q′ : List Pair} (w : Left i q came q′) → i ≤ length q → take i (w .gone) ≡ take i q
+first-gone {i} {q} {came} {q′} w h = sym (take-append-le i (w .gone) q′ (w .enough)) ∙ ap (take i) (sym (w .cut)) ∙ take-append-le i q came h
+
+-- so at least i fewer are queued than were and came
+pub left-fewer : {i : ℕ} {q came q′ : List Pair} → Left i q came q′ → i + length q′ ≤ length q + length came
+left-fewer {q} {came} {q′} w = omega (arith, ap length (w .cut), length-append q came, length-append (w .gone) q′, w .enough)

@@ -11,7 +11,7 @@ use Rattle.model.specs.Packet.{Packet}
 use Rattle.model.specs.Frame.{Triple, tri, Seen, seenAll, frameBytes}
 use Rattle.model.specs.Demux.{Gathered, Taken, carries708, wants, gather, ended, gathered, takeFrame}
 use Rattle.model.specs.Rate.{Budgets}
-use Rattle.model.specs.Mux.{Mux, Framed, Sent, Turned, turnsDue, turned, countDue, padding, framed, writeFrame}
+use Rattle.model.specs.Mux.{Mux, freshMux, Framed, Sent, Turned, turnsDue, turned, countDue, padding, framed, writeFrame}
 use Rattle.model.specs.Run.{others}
 use Rattle.model.proofs.Cases.{by-cond}
 use Rattle.journey.specs.Bounds.{Field, queueOf}
@@ -20,7 +20,7 @@ use Rattle.journey.proofs.Padding.{padding-seen, padding-inert}
 use Rattle.journey.proofs.Turns.{ofField, turns-seen, turns-serve, gone-seen}
 use Rattle.journey.proofs.Sending.{sentBy}
 use Rattle.journey.proofs.Triples.{bytesOf, Follow, stop, more, sent-only}
-use Rattle.journey.proofs.Gather.{AllStored, Link, lost, part, underway, wants-part, wants-none, closed-none, Passed, carry}
+use Rattle.journey.proofs.Gather.{AllStored, none, Link, still, part, underway, wants-part, wants-none, closed-none, Passed, carry}
 use Rattle.journey.proofs.Count.{Fits, count-most}
 use Rattle.journey.proofs.Taking.{holding, taken}
 
@@ -33,17 +33,21 @@ record Closed (ts : List Triple) (g : List ℕ) (ps : List Packet) (o : Gathered
 -- so it is whatever was gathered
 closing : (ps : List Packet) {ts : List Triple} {g : List ℕ} → Link ts g → Closed ts g ps (ended (record { packets = ps; bytes = g }))
 unfolding ended
-closing ps (lost f) = rw (wants-none, closed-none) (record { linked = lost f; rested = λ e. refl; same = simp append-nil })
-closing ps (part {x} {g} stop e) = rw (wants-part [] x g e) (record { linked = lost stop; rested = λ z. refl; same = simp append-nil })
-closing ps (part {x} {g} (more {a} {b} {ts} f) e) =
+closing ps still = rw (wants-none, closed-none) (record { linked = still; rested = λ e. refl; same = simp append-nil })
+closing ps (part {x} {g} stop e k) = rw (wants-part [] x g e) (record { linked = still; rested = λ z. refl; same = simp append-nil })
+closing ps (part {x} {g} (more {a} {b} {ts} f) e k) =
     let w = wants-part (tri 0xFE a b ∷ ts) x g e in
-    rw (w, ne-eqb (suc (suc (length (bytesOf ts)))) 0 (λ z. omega arith)) (record { linked = part (more f) e; rested = λ z. let k : wants (x ∷ g) ≡ 0 = z in absurd (omega arith); same = refl })
+    rw (w, ne-eqb (suc (suc (length (bytesOf ts)))) 0 (λ z. omega arith)) (record { linked = part (more f) e k; rested = λ z. let n : wants (x ∷ g) ≡ 0 = z in absurd (omega arith); same = refl })
 
 -- the demultiplexer keeps g between frames while the multiplexer is in the state s
 pub record Ready (s : Mux) (g : List ℕ) : Type 0 where
   pub linked : Link (s .sending) g
   pub rested : wants g ≡ 0 → g ≡ []
   pub stored : AllStored (s .packets)
+
+-- nothing is kept while it is fresh
+pub ready-fresh : Ready freshMux []
+ready-fresh = record { linked = still; rested = λ e. refl; stored = none }
 
 -- the 708 part ys of a frame, by which the multiplexer sends o
 record Settled (ts : List Triple) (g : List ℕ) (q : List Packet) (o : Sent) (r : Gathered) : Type 0 where
@@ -71,8 +75,8 @@ settled {ts} {g} {q} {o} {ys} j rest d =
 
 -- what is left goes on with a packet
 link-follow : {ts : List Triple} {g : List ℕ} → Link ts g → Follow ts
-link-follow (lost f) = f
-link-follow (part f e) = f
+link-follow still = stop
+link-follow (part f e k) = f
 
 -- One write and its frame taken. It is accepted, it gives the packets that are on their way and queued in order, and each field's pairs.
 pub record Round (s : Mux) (g : List ℕ) (w : Framed) (t : Taken) : Type 0 where

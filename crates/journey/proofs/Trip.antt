@@ -1,22 +1,23 @@
 -- What goes into the multiplexer comes out of the demultiplexer. Assumes nothing.
-use mathlib.Core.Path.{_≡_, refl, sym, ap}
+use mathlib.Core.Path.{_≡_, sym, ap}
 use mathlib.Core.List.{List, [], append-nil}
 use Prim.Native.Nat.{ℕ}
+use native.Mathlib.Omega.{arith}
+use lib.ListN.{length}
 use Rattle.model.specs.Frame.{Triple}
 use Rattle.model.specs.Demux.{freshDemux, turn608On, wants}
 use Rattle.model.specs.Mux.{freshMux}
 use Rattle.model.specs.Run.{Call, run, Allowed, Drained, readFrames, others}
 use Rattle.journey.specs.Bounds.{one, two}
 use Rattle.journey.specs.Trip.{RoundTrip}
-use Rattle.journey.proofs.Triples.{stop, more}
-use Rattle.journey.proofs.Gather.{none, Link, lost, part, underway, wants-part}
+use Rattle.journey.proofs.Gather.{Link, underway, underway-one}
+use Rattle.journey.proofs.Round.{ready-fresh}
 use Rattle.journey.proofs.Carried.{Kept, carried}
+use Rattle.journey.proofs.Drains.{empty}
 
 -- where nothing is being sent, nothing is on its way
 none-underway : {ts : List Triple} {g : List ℕ} → Link ts g → (wants g ≡ 0 → g ≡ []) → ts ≡ [] → underway g ts ≡ []
-none-underway (lost f) rest e = refl
-none-underway (part {x} {g} stop k) rest e = ap (λ (l : List ℕ). underway l []) (rest (wants-part [] x g k))
-none-underway (part (more f) k) rest e = cc
+none-underway {ts} {g} l rest e = empty (underway g ts) (omega (arith, underway-one l rest, ap length e))
 
 -- what was empty and is empty has given what came in
 all-out : {A : Type 0} {i o now : List A} → Kept [] i o now → now ≡ [] → o ≡ i
@@ -28,7 +29,7 @@ all-out {o} k e = sym (rw (e, append-nil o) at (k .same))
 pub round-trip : (cs : List Call) → Allowed cs freshMux → Drained (run cs freshMux .last) → RoundTrip (run cs freshMux) (readFrames (run cs freshMux .frames) (turn608On freshDemux))
 unfolding others
 round-trip cs w d =
-    let c = carried cs freshMux [] w (record { linked = lost stop; rested = λ e. refl; stored = none }) in
+    let c = carried cs freshMux [] w ready-fresh in
     record {
       answers = c .answers;
       packets = all-out (c .packets) (rw (none-underway (c .ready .linked) (c .ready .rested) (d .no-triple)) (d .no-packet));

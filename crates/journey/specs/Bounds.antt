@@ -1,11 +1,11 @@
 -- How soon what is queued leaves. Assumes nothing.
 use mathlib.Core.Path.{_≡_}
 use mathlib.Core.List.{List, [], _∷_, _++_}
-use Prim.Native.Nat.{ℕ, suc, _+_, _≤_, min}
+use Prim.Native.Nat.{ℕ, suc, _+_, _*_, _≤_, min}
 use lib.ListN.{length}
 use Rattle.model.specs.Frame.{Pair, Seen, first, second, start, more, void608, void708, seenAll}
 use Rattle.model.specs.Mux.{Mux, Framed, unsent}
-use Rattle.model.specs.Run.{Call, pushes, pushes608, pads, writes, Accepted}
+use Rattle.model.specs.Run.{Call, pushes, pushes608, pads, writes, Run, run, Accepted, Drained, others}
 
 -- one of the two fields
 pub data Field : Type 0 where
@@ -19,6 +19,10 @@ the two x y = y
 -- the pairs that wait in the field, place 1 first
 abbrev pub queueOf : Field → Mux → List Pair
 queueOf f s = the f (s .queue1) (s .queue2)
+
+-- the pairs of the field that a run accepted
+abbrev pub acceptedOf : Field → Run → List Pair
+acceptedOf f r = the f (r .pairs1) (r .pairs2)
 
 -- the writes among calls
 abbrev pub writesIn : List Call → ℕ
@@ -44,13 +48,22 @@ NoPush (pushes608 x ∷ cs) = ⊥
 NoPush (pads a b ∷ cs) = NoPush cs
 NoPush (writes b ∷ cs) = NoPush cs
 
--- The pairs at the first i places of the queue q have left, q′ being what is queued now: those that went, in order, are the first of q and
--- of what came behind it.
-pub record Left (i : ℕ) (q q′ : List Pair) : Type 0 where
+-- The pairs at the first i places of the queue q have left: what was queued and then what came is, in order, what went and then q′, which is
+-- queued now; and i pairs or more went.
+pub record Left (i : ℕ) (q came q′ : List Pair) : Type 0 where
   pub gone : List Pair
-  pub new : List Pair
-  pub cut : q ++ new ≡ gone ++ q′
+  pub cut : q ++ came ≡ gone ++ q′
   pub enough : i ≤ length gone
+
+-- "The pair at place i of its field leaves within 2i accepted writes": whatever is pushed or switched between them. What comes is what is
+-- accepted meanwhile, other than 0x80,0x80, which is never queued.
+abbrev pub LeavesInTime : Field → List Call → Mux → Type 0
+LeavesInTime f cs s =
+    (i : ℕ) → i ≤ length (queueOf f s) → 2 * i ≤ writesIn cs → Left i (queueOf f s) (others (acceptedOf f (run cs s))) (queueOf f (run cs s .last))
+
+-- writes that are twice as many as the pairs of either field, and a quarter of the packet triples, drain a multiplexer
+abbrev pub DrainsInTime : List Call → Mux → Type 0
+DrainsInTime cs s = 2 * length (s .queue1) ≤ writesIn cs → 2 * length (s .queue2) ≤ writesIn cs → unsent s ≤ 4 * writesIn cs → Drained (run cs s .last)
 
 -- the packet triples among those that a reader sees
 unfoldable pub packetTriplesIn : List Seen → ℕ

@@ -5,11 +5,12 @@ use mathlib.Core.List.{[]}
 use native.Mathlib.Omega.{arith}
 use Rattle.model.specs.Said.{Outcome, gave, refused, checked}
 use Rattle.model.specs.Run.{pads, writes, call, others}
+use Rattle.journey.proofs.Calls.{quiet-pads}
 use Rattle.caption.specs.Answers.{saidRefusal}
 use Rattle.caption.proofs.Answers.{saidAnswer-injective}
 use Rattle.caption.specs.declared.Refusal.{Refusal}
 use Rattle.caption.specs.declared.Answer.the-variants as answer
-use Rattle.writer.specs.Writer.{validWriter}
+use Rattle.writer.specs.Writer.{means, validWriter}
 use Rattle.writer.specs.Calls.{Answers, withPadding}
 use Rattle.writer.proofs.Laws.{means-padding}
 use Rattle.writer.proofs.Kept.{Sound, padding-sound}
@@ -17,6 +18,7 @@ use Rattle.writer.specs.declared.CCDataWriter.{CCDataWriter}
 use Rattle.writer.specs.declared.WriterAnswer.{WriterAnswer}
 use Rattle.theorems.specs.Items.{Items, noItems}
 use Rattle.theorems.specs.Writing.{ifAccepted}
+use Rattle.theorems.proofs.Passing.{passed-quiet}
 use Rattle.theorems.proofs.Following.{Moved, stays, moves}
 
 -- an answer, by what the call comes to
@@ -48,5 +50,6 @@ pads-moves w r x y s a =
       rates = λ cs t. t;
       writes = λ cs. omega arith;
       quiet = λ e cs t. t;
+      passed = passed-quiet w (withPadding x y w) (quiet-pads x y (means w)) (sym (means-padding w x y)) refl refl;
       sound = padding-sound w s x y;
     }))

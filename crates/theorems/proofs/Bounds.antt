@@ -2,21 +2,22 @@
 use mathlib.Core.Path.{_≡_, refl, sym, ap, _∙_}
 use mathlib.Core.Bool.{true, false≢true}
 use mathlib.Core.List.{List, [], _∷_}
-use Prim.Native.Nat.{ℕ, _*_, _≤_}
+use Prim.Native.Nat.{ℕ, _+_, _*_, _≤_}
 use native.Mathlib.Omega.{arith}
 use lib.ListN.{length, take, drop, length-map}
 use lib.Seq.{length-take-le}
 use contract.Lifetimes.{Lfts}
 use denote.Ref.{now}
 use Rattle.model.specs.Said.{Outcome, gave, refused, isGiven, saysWith}
+use Rattle.model.specs.Packet.{Packet}
 use Rattle.model.specs.Frame as model
-use Rattle.model.specs.Frame.{mostFrame, frameBytes, triplesIn}
+use Rattle.model.specs.Frame.{frameBytes, triplesIn}
 use Rattle.model.specs.Rate.{Budgets, budgets}
-use Rattle.model.specs.Mux.{freshMux, writeFrame}
+use Rattle.model.specs.Mux.{Mux, freshMux, writeFrame}
 use Rattle.model.specs.Run as runs
 use Rattle.model.proofs.Frames.{unflat}
 use Rattle.journey.specs.Bounds as journey
-use Rattle.journey.specs.Bounds.{Field, one, two, Left}
+use Rattle.journey.specs.Bounds.{Field, one, two, acceptedOf}
 use Rattle.journey.proofs.Leaves as leaves
 use Rattle.journey.proofs.Four as four
 use Rattle.journey.proofs.Drains as drains
@@ -38,7 +39,7 @@ use Rattle.writer.specs.declared.WriterCount.{WriterCount}
 use Rattle.theorems.specs.Items.{Items, noItems}
 use Rattle.theorems.specs.Allowed.{Lent, NewWriter, Write}
 use Rattle.theorems.specs.Writing.{Calls, Padded, Drained}
-use Rattle.theorems.specs.Bounds.{queueAt, unsentOf, SendsFour}
+use Rattle.theorems.specs.Bounds.{queueAt, pairsAt, SendsFour, AcceptsWrite, LeavesInTime, DrainsInTime}
 use Rattle.theorems.proofs.Following.{Follows}
 use Rattle.theorems.proofs.Frames.{Writes, no-frame, one-frame, wrote, write-does}
 use Rattle.theorems.proofs.Sequences.{follows, from-fresh}
@@ -53,6 +54,12 @@ pub queue-means : (f : Field) (w : CCDataWriter) → journey.queueOf f (means w)
 unfolding means
 queue-means one w = refl
 queue-means two w = refl
+
+-- and what is accepted of the field is what the model accepts
+pub came : {s : Mux} {there : List Packet} {w : CCDataWriter} {fs : List (List ℕ)} {is : Items} {pad : Type 0} (f : Field) (k : Follows s there fs is w pad)
+    → runs.others (acceptedOf f (runs.run (k .calls) s)) ≡ pairsAt f is
+came one k = k .pairs1
+came two k = k .pairs2
 
 -- a state that is drained in the model is drained
 drained-back : (w : CCDataWriter) → Sound w → runs.Drained (means w) → Drained w
@@ -95,16 +102,22 @@ counted-given a n (refused why) e s = absurd (false≢true e)
 -- a state that calls of a fresh multiplexer have reached
 module _ {w₀ w : CCDataWriter} {fs₀ : List (List ℕ)} {is₀ : Items} (new : NewWriter w₀) (before : Calls w₀ fs₀ is₀ w) where
   -- these calls in the model
-  abbrev reached : Follows freshMux fs₀ is₀ w (Padded before)
+  abbrev reached : Follows freshMux [] fs₀ is₀ w (Padded before)
   reached = from-fresh new before
 
   -- "The pair at place i of its field leaves within 2i accepted writes": whatever is pushed or switched between them, once 2i writes or more have
   -- been accepted the first i places of what was queued have gone.
-  pub pair-leaves : {w′ : CCDataWriter} {fs : List (List ℕ)} {is : Items} → Calls w fs is w′ → (f : Field) (i : ℕ) → i ≤ length (queueAt f w) → 2 * i ≤ length fs
-      → Left i (queueAt f w) (queueAt f w′)
+  pub pair-leaves : {w′ : CCDataWriter} {fs : List (List ℕ)} {is : Items} → Calls w fs is w′ → (f : Field) → LeavesInTime f w fs is w′
   pair-leaves {w′} c f i there writes =
       let k = follows c (reached .sound) in
-      rw (← queue-means f w, ← queue-means f w′, ← k .last) (leaves.leaves f (k .calls) (means w) i (k .rates) (rw (queue-means f w) there) (omega (arith, k .writes)))
+      rw (← queue-means f w, ← queue-means f w′, ← k .last, ← came f k)
+      (leaves.leaves f (k .calls) (means w) (k .rates) i (rw (queue-means f w) there) (omega (arith, k .writes)))
+
+  -- so where nothing comes, i places at least come free
+  pub places-free : {w′ : CCDataWriter} {fs : List (List ℕ)} → Calls w fs noItems w′ → (f : Field) (i : ℕ) → i ≤ length (queueAt f w) → 2 * i ≤ length fs
+      → i + length (queueAt f w′) ≤ length (queueAt f w)
+  places-free c one i there writes = omega (arith, leaves.left-fewer (pair-leaves c one i there (omega arith)))
+  places-free c two i there writes = omega (arith, leaves.left-fewer (pair-leaves c two i there (omega arith)))
 
   -- "each sends at least four packet triples or all that remain"
   pub sends-four : (κs : Lfts 1) (rate : Framerate) (out end : Lent) (r : WriterCount) → Write κs w rate out end r
@@ -114,18 +127,16 @@ module _ {w₀ w : CCDataWriter} {fs₀ : List (List ℕ)} {is₀ : Items} (new 
       four-by w (now end) r (k .sound) n e (λ b accepted. rw (k .last) at (four.four (k .calls) b accepted)) (write-does κs w rate out end r (k .sound) a)
 
   -- a write at an accepted rate, with room for the longest frame, is accepted
-  pub write-accepted : (κs : Lfts 1) (rate : Framerate) (out end : Lent) (r : WriterCount) → Write κs w rate out end r
-      → isGiven (budgets (rate .numer) (rate .denom)) ≡ true → mostFrame ≤ length (now out) → r .answer ≡ counted.Count (frameLength rate w)
+  pub write-accepted : (κs : Lfts 1) (rate : Framerate) (out end : Lent) (r : WriterCount) → Write κs w rate out end r → AcceptsWrite w rate (now out) (r .answer)
   write-accepted κs rate out end r a given room =
       let s = reached .sound in
       counted-given (r .answer) (frameLength rate w) (written rate (now out) w)
-      (given-by (budgets (rate .numer) (rate .denom)) given (λ b e. write-given w (s .shaped) (s .valid) rate (now out) e room))
+      (given-by (budgets (rate .numer) (rate .denom)) given (λ b e. write-given w (s .shaped) (s .valid) rate (now out) e (omega arith)))
       (wrote κs w rate out end r a .answer)
 
   -- so many accepted writes drain a multiplexer, if nothing more is accepted: twice as many as the pairs of either field, and a quarter of the
   -- packet triples
-  pub writes-drain : {w′ : CCDataWriter} {fs : List (List ℕ)} → Calls w fs noItems w′
-      → 2 * w .field1 .count ≤ length fs → 2 * w .field2 .count ≤ length fs → unsentOf w ≤ 4 * length fs → Drained w′
+  pub writes-drain : {w′ : CCDataWriter} {fs : List (List ℕ)} → Calls w fs noItems w′ → DrainsInTime w fs w′
   writes-drain {w′} c k₁ k₂ u =
       let ok = sound-ok w (reached .sound) in
       let k = follows c (reached .sound) in

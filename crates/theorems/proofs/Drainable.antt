@@ -22,7 +22,7 @@ use Rattle.writer.specs.declared.WriterAnswer.{WriterAnswer}
 use Rattle.writer.specs.declared.WriterCount.{WriterCount}
 use Rattle.theorems.specs.Items.{Items, noItems, andThen}
 use Rattle.theorems.specs.Allowed.{Lent, NewWriter, Write}
-use Rattle.theorems.specs.Writing.{Calls, no-call, push-packet, push-cea608, set-cea608-padding, set-padding, write, frameIn, Padded, Drained}
+use Rattle.theorems.specs.Writing.{Calls, no-call, push-packet, push-cea608, set-cea608-padding, set-padding, write, frameIn, Padded, Drained, Drains}
 use Rattle.theorems.specs.Bounds.{unsentOf}
 use Rattle.theorems.proofs.Following.{items-same}
 use Rattle.theorems.proofs.Sequences.{from-fresh}
@@ -81,7 +81,7 @@ written-all κs (suc n) w s on =
       frames = frameIn (k .result .answer) (now (k .end)) ++ m .frames;
       last = m .last;
       calls = write κs rate out (k .end) (k .result) (k .allowed) (m .calls);
-      padded = (rw (k .counts, on), m .padded);
+      padded = (λ n e. rw on, m .padded);
       number = rw (k .counts) (ap suc (m .number));
     }
 
@@ -129,17 +129,9 @@ join {fs′} (write {fs} κs rate out end r a c) k =
 then-none : (a : Items) → andThen a noItems ≡ a
 then-none a = items-same (andThen a noItems) a (append-nil (a .packets)) (append-nil (a .pairs1)) (append-nil (a .pairs2))
 
--- calls that wrote fs and accepted is, and then wrote more and end drained
-pub record Drains (w₀ : CCDataWriter) (fs : List (List ℕ)) (is : Items) : Type 0 where
-  pub more : List (List ℕ)
-  pub last : CCDataWriter
-  pub calls : Calls w₀ (fs ++ more) is last
-  pub padded : Padded calls
-  pub drained : Drained last
-
--- any calls go on to such
-pub drainable : {w₀ w : CCDataWriter} {fs : List (List ℕ)} {is : Items} (κs : Lfts 1) → NewWriter w₀ → (c : Calls w₀ fs is w) → Padded c → Drains w₀ fs is
+-- any calls go on to drained ones
+pub drainable : {w₀ w : CCDataWriter} {fs : List (List ℕ)} {is : Items} (κs : Lfts 1) → NewWriter w₀ → (c : Calls w₀ fs is w) → Padded c → Drains w₀ w fs is
 drainable {w₀} {fs} {is} κs new c padded =
     let d = draining κs new c in
     let j = rw (then-none is) at (join c (d .calls)) in
-    record { more = d .frames; last = d .last; calls = j .calls; padded = j .padded (padded, d .padded); drained = d .drained }
+    record { more = d .frames; last = d .last; rest = d .calls; whole = j .calls; padded = j .padded (padded, d .padded); drained = d .drained }

@@ -1,8 +1,9 @@
--- Draws until there is nothing left give all that a demultiplexer holds, in order, and refuse nothing. Assumes nothing.
+-- Draws until there is nothing left tell and give all that a demultiplexer holds, in order. Assumes nothing.
 use mathlib.Core.Path.{_≡_, refl, sym, ap, _∙_}
 use mathlib.Core.Bool.{Bool, true, false≢true}
-use mathlib.Core.List.{List, [], _∷_, _++_}
+use mathlib.Core.List.{List, [], _∷_, _++_, map}
 use Prim.Native.Nat.{ℕ}
+use lib.ListN.{getD, List·getD-map}
 use Rattle.model.specs.Said.{accepted}
 use Rattle.model.specs.Packet.{Packet, validPacket, allPackets}
 use Rattle.model.specs.Frame.{pair, Cea608, field1, field2}
@@ -12,6 +13,7 @@ use Rattle.model.specs.Run.{emptied, ofField1, ofField2, others}
 use Rattle.model.proofs.Cases.{both}
 use Rattle.model.proofs.Packets.{valid-facts}
 use Rattle.journey.proofs.Turns.{others-append}
+use Rattle.journey.proofs.Draws as draws
 use Rattle.caption.specs.Pairs.{cea608Of}
 use Rattle.caption.specs.declared.Refusal.{Refusal}
 use Rattle.caption.specs.declared.Cea608 as caption
@@ -27,9 +29,9 @@ use Rattle.parser.specs.declared.CCDataParser.{CCDataParser}
 use Rattle.parser.specs.declared.Drawn.{Drawn}
 use Rattle.parser.specs.declared.Item.{Item}
 use Rattle.parser.specs.declared.Item.the-variants as item
-use Rattle.theorems.specs.Items.{Items, andThen, onePair}
+use Rattle.theorems.specs.Items.{Items, noItems, andThen, onePair}
 use Rattle.theorems.specs.Allowed.{Draw}
-use Rattle.theorems.specs.Reading.{Empties, nothing-left, draw, drawnItem, refusedDraw}
+use Rattle.theorems.specs.Reading.{Empties, nothing-left, draw, drawnItem}
 
 -- the items that a demultiplexer holds
 abbrev pub itemsIn : List Cea608 → List Packet → Items
@@ -58,6 +60,20 @@ item-says (aPair (field2 (pair a b))) = refl
 item-says (aPacket p) = refl
 item-says noItem = refl
 
+-- it is no refusal
+unrefused : (i : model.Item) (why : Refusal) → itemFor i ≡ item.Refused why → ⊥
+unrefused (aPair x) why e = false≢true (cc)
+unrefused (aPacket p) why e = false≢true (cc)
+unrefused noItem why e = false≢true (cc)
+
+-- and so none is among such items
+pub none-refused : (l : List model.Item) (i : ℕ) (why : Refusal) → getD (map itemFor l) i item.Nothing ≡ item.Refused why → ⊥
+none-refused l i why e = unrefused (getD l i noItem) why (sym (List·getD-map itemFor l i noItem) ∙ e)
+
+-- what draws until there is nothing left tell
+abbrev pub toldOf : Demux → List model.Item
+toldOf d = draws.itemsIn d ++ (noItem ∷ [])
+
 -- what the contract of a draw says of a state within the limits: the item is what the model draws, and so is what is left
 pub record Drew (i : model.Item) (next : Demux) (r : Drawn) : Type 0 where
   pub item : r .item ≡ itemFor i
@@ -82,18 +98,25 @@ unfolding ofField1 ofField2
 pair-first (field1 x) pairs waiting = rw (← others-append (x ∷ []) (ofField1 pairs))
 pair-first (field2 x) pairs waiting = rw (← others-append (x ∷ []) (ofField2 pairs))
 
--- what emptying gives and leaves
-pub record Emptied (pairs : List Cea608) (waiting : List Packet) (next : Demux) (rs : List Refusal) (is : Items) (p′ : CCDataParser) : Type 0 where
-  pub no-refusal : rs ≡ []
-  pub items : is ≡ itemsIn pairs waiting
+-- what emptying tells, gives and leaves
+pub record Emptied (d next : Demux) (told : List Item) (is : Items) (p′ : CCDataParser) : Type 0 where
+  pub tells : told ≡ map itemFor (toldOf d)
+  pub items : is ≡ itemsIn (d .pairs) (d .waiting)
   pub sound : Sound p′
   pub means : means p′ ≡ next
 
 -- one item, and then those that follow
-before : {pairs pairs′ : List Cea608} {waiting waiting′ : List Packet} {next : Demux} {rs : List Refusal} {is : Items} {p′ : CCDataParser} (i : Item) (d : DTVCCPacket)
-    → refusedDraw i ≡ [] → andThen (drawnItem i d) (itemsIn pairs waiting) ≡ itemsIn pairs′ waiting′
-    → Emptied pairs waiting next rs is p′ → Emptied pairs′ waiting′ next (refusedDraw i ++ rs) (andThen (drawnItem i d) is) p′
-before i d z e t = record { no-refusal = rw (z, t .no-refusal); items = rw (t .items) e; sound = t .sound; means = t .means }
+before : {d d′ next : Demux} {told : List Item} {is : Items} {p′ : CCDataParser} (i : Item) (held : DTVCCPacket)
+    → i ∷ map itemFor (toldOf d) ≡ map itemFor (toldOf d′) → andThen (drawnItem i held) (itemsIn (d .pairs) (d .waiting)) ≡ itemsIn (d′ .pairs) (d′ .waiting)
+    → Emptied d next told is p′ → Emptied d′ next (i ∷ told) (andThen (drawnItem i held) is) p′
+before i held z e t = record { tells = rw (t .tells) z; items = rw (t .items) e; sound = t .sound; means = t .means }
+
+-- only a pair or a packet gives anything
+pub drawn-only : (i : Item) (d : DTVCCPacket) → ((x : caption.Cea608) → i ≡ item.Pair x → ⊥) → (i ≡ item.Packet → ⊥) → drawnItem i d ≡ noItems
+drawn-only (item.Pair x) d no-pair no-packet = absurd (no-pair x refl)
+drawn-only item.Packet d no-pair no-packet = absurd (no-packet refl)
+drawn-only item.Nothing d no-pair no-packet = refl
+drawn-only (item.Refused why) d no-pair no-packet = refl
 
 -- a packet that was laid out is the packet held
 laid-holds : (q : Packet) → validPacket q ≡ true → packetOf (laid q) ≡ q
@@ -113,11 +136,11 @@ module _ (on : Bool) (pending : List ℕ) where
   holds pairs waiting = record { on608 = on; pairs = pairs; pending = pending; waiting = waiting }
 
   -- by what there is
-  empties-by : {p p′ : CCDataParser} {rs : List Refusal} {is : Items} (pairs : List Cea608) (waiting : List Packet) → Empties p rs is p′ → Sound p → allPackets validPacket waiting ≡ true
-      → means p ≡ holds pairs waiting → Emptied pairs waiting (holds [] []) rs is p′
+  empties-by : {p p′ : CCDataParser} {told : List Item} {is : Items} (pairs : List Cea608) (waiting : List Packet) → Empties p told is p′ → Sound p → allPackets validPacket waiting ≡ true
+      → means p ≡ holds pairs waiting → Emptied (holds pairs waiting) (holds [] []) told is p′
   unfolding model.draw allPackets ofField1 ofField2 others
   empties-by {p} [] [] (nothing-left r a z) s v e =
-      let k = drew p r (holds [] []) s e a in record { no-refusal = refl; items = refl; sound = k .sound; means = k .means }
+      let k = drew p r (holds [] []) s e a in record { tells = ap (λ (i : Item). i ∷ []) (k .item); items = rw (k .item); sound = k .sound; means = k .means }
   empties-by {p} [] [] (draw r a n c) s v e = let k = drew p r (holds [] []) s e a in absurd (n (k .item))
   empties-by {p} [] (q ∷ waiting) (nothing-left r a z) s v e = let k = drew p r (holds [] (q ∷ waiting)) s e a in absurd (packet-some (sym (k .item) ∙ z))
   empties-by {p} [] (q ∷ waiting) (draw r a n c) s v e =
@@ -130,6 +153,6 @@ module _ (on : Bool) (pending : List ℕ) where
       rw (k .item) (before (item.Pair (drawnPair x)) (r .packet) refl (rw (pair-drawn x) (pair-first x pairs waiting)) (empties-by pairs waiting c (k .sound) v (k .means)))
 
 -- from a state within the limits, by what it is in the model
-pub empties-from : {p p′ : CCDataParser} {rs : List Refusal} {is : Items} → Empties p rs is p′ → Sound p → (d : Demux) → means p ≡ d → allPackets validPacket (d .waiting) ≡ true
-    → Emptied (d .pairs) (d .waiting) (emptied d) rs is p′
+pub empties-from : {p p′ : CCDataParser} {told : List Item} {is : Items} → Empties p told is p′ → Sound p → (d : Demux) → means p ≡ d → allPackets validPacket (d .waiting) ≡ true
+    → Emptied d (emptied d) told is p′
 empties-from c s d e v = empties-by (d .on608) (d .pending) (d .pairs) (d .waiting) c s v e

@@ -8,7 +8,7 @@ use denote.Ref.{now}
 use Rattle.model.specs.Packet.{Packet}
 use Rattle.model.specs.Frame.{Cea608}
 use Rattle.model.specs.Demux as model
-use Rattle.caption.specs.declared.Refusal.{Refusal}
+use Rattle.caption.specs.declared.Answer.{Answer}
 use Rattle.parser.specs.Means.{means}
 use Rattle.parser.specs.Push.{pushed}
 use Rattle.parser.specs.Draw.{drawn}
@@ -16,10 +16,13 @@ use Rattle.parser.specs.Items.{Draws, packetOfItem}
 use Rattle.parser.proofs.Kept.{Sound, pushed-sound}
 use Rattle.parser.proofs.Calls.{pushed-answers}
 use Rattle.parser.specs.declared.CCDataParser.{CCDataParser}
+use Rattle.parser.specs.declared.ParserAnswer.{ParserAnswer}
 use Rattle.parser.specs.declared.Drawn.{Drawn}
+use Rattle.parser.specs.declared.Item as parser
 use Rattle.theorems.specs.Items.{Items}
-use Rattle.theorems.specs.Allowed.{Lent, Draw}
-use Rattle.theorems.specs.Reading.{Empties, nothing-left, draw, Feeds, no-frame, feed}
+use Rattle.theorems.specs.Allowed.{Lent, Draw, NewParser, HandleCea608}
+use Rattle.theorems.specs.Reading.{Empties, nothing-left, draw, Feeds, no-frame, feed, Feedable}
+use Rattle.theorems.proofs.Trip.{given-fed}
 use Rattle.theorems.proofs.Emptying.{drawnPair, itemFor, item-says, drew, packet-some, pair-some}
 
 -- bytes that are lent
@@ -36,10 +39,10 @@ draw-allowed p s = let c : Draws p (drawing p) = record { item = rw (s .valid) (
 
 -- draws until there is nothing left
 record Emptiable (p : CCDataParser) : Type 0 where
-  refusals : List Refusal
+  told : List parser.Item
   items : Items
   last : CCDataParser
-  draws : Empties p refusals items last
+  draws : Empties p told items last
   sound : Sound last
 
 module _ (on : Bool) (pending : List ℕ) where
@@ -50,30 +53,34 @@ module _ (on : Bool) (pending : List ℕ) where
   empties-to [] [] p s e =
       let a = draw-allowed p s in
       let k = drew p (drawing p) _ s e a in
-      record { refusals = []; items = _; last = _; draws = nothing-left (drawing p) a (k .item); sound = k .sound }
+      record { told = _; items = _; last = _; draws = nothing-left (drawing p) a (k .item); sound = k .sound }
   empties-to [] (q ∷ waiting) p s e =
       let a = draw-allowed p s in
       let k = drew p (drawing p) _ s e a in
       let m = empties-to [] waiting (drawn p .parser) (k .sound) (k .means) in
-      record { refusals = _; items = _; last = m .last; draws = draw (drawing p) a (λ z. packet-some (sym (k .item) ∙ z)) (m .draws); sound = m .sound }
+      record { told = _; items = _; last = m .last; draws = draw (drawing p) a (λ z. packet-some (sym (k .item) ∙ z)) (m .draws); sound = m .sound }
   empties-to (x ∷ pairs) waiting p s e =
       let a = draw-allowed p s in
       let k = drew p (drawing p) _ s e a in
       let m = empties-to pairs waiting (drawn p .parser) (k .sound) (k .means) in
-      record { refusals = _; items = _; last = m .last; draws = draw (drawing p) a (λ z. pair-some (drawnPair x) (sym (k .item) ∙ z)) (m .draws); sound = m .sound }
-
--- frames, each followed by draws until there is nothing left
-pub record Feedable (p : CCDataParser) (frames : List (List ℕ)) : Type 0 where
-  pub refusals : List Refusal
-  pub items : Items
-  pub last : CCDataParser
-  pub feeds : Feeds p frames refusals items last
+      record { told = _; items = _; last = m .last; draws = draw (drawing p) a (λ z. pair-some (drawnPair x) (sym (k .item) ∙ z)) (m .draws); sound = m .sound }
 
 -- any frames can be fed to any state within the limits
-pub feedable : (κs : Lfts 1) (frames : List (List ℕ)) (p : CCDataParser) → Sound p → Feedable p frames
-feedable κs [] p s = record { refusals = []; items = _; last = p; feeds = no-frame }
-feedable κs (f ∷ frames) p s =
+feeds-from : (κs : Lfts 1) (frames : List (List ℕ)) (p : CCDataParser) → Sound p → Feedable p frames
+feeds-from κs [] p s = record { answers = []; told = []; given = _; last = p; feeds = no-frame }
+feeds-from κs (f ∷ frames) p s =
     let q : CCDataParser = pushed p f .parser in
     let m = empties-to (means q .on608) (means q .pending) (means q .pairs) (means q .waiting) q (pushed-sound p f s) refl in
-    let k = feedable κs frames (m .last) (m .sound) in
-    record { refusals = _; items = _; last = k .last; feeds = feed κs (lent f) (pushed p f) (pushed-answers p f (pushed p f) (s .shaped) refl) (m .draws) (k .feeds) }
+    let k = feeds-from κs frames (m .last) (m .sound) in
+    record {
+      answers = _;
+      told = _;
+      given = _;
+      last = k .last;
+      feeds = feed κs (lent f) (pushed p f) (pushed-answers p f (pushed p f) (s .shaped) refl) (m .draws) (k .feeds);
+    }
+
+-- and so to a fresh one with 608 on, and then any others
+pub feedable : {p₀ p : CCDataParser} {on : ParserAnswer} {frames : List (List ℕ)} {answers : List Answer} {told : List parser.Item} {given : Items} (κs : Lfts 1)
+    → NewParser p₀ → HandleCea608 p₀ on → Feeds (on .parser) frames answers told given p → (more : List (List ℕ)) → Feedable p more
+feedable {p} κs new turned read more = feeds-from κs more p (given-fed new turned read .1 .sound)

@@ -14,6 +14,7 @@ use Rattle.writer.specs.Writer.{means}
 use Rattle.writer.proofs.Kept.{Sound}
 use Rattle.writer.specs.declared.CCDataWriter.{CCDataWriter}
 use Rattle.theorems.specs.Items.{Items, noItems, andThen}
+use Rattle.theorems.proofs.Passing.{thereIn, Passed, passed-none, passed-then}
 
 -- One call is one of the model, with the frames fs and the items is, if `pad` holds for its being allowed. It takes part in calls that follow
 -- by what it adds to what is known of them.
@@ -27,6 +28,7 @@ pub record Step (w : CCDataWriter) (c : Call) (fs : List (List ℕ)) (is : Items
   pub rates : (cs : List Call) → AtRates cs → AtRates (c ∷ cs)
   pub writes : (cs : List Call) → writesIn (c ∷ cs) ≡ length fs + writesIn cs
   pub quiet : is ≡ noItems → (cs : List Call) → NoPush cs → NoPush (c ∷ cs)
+  pub passed : Passed (thereIn w) (is .packets) (thereIn w′)
   pub sound : Sound w′
 
 -- a call leaves the state as it was, with no frame and no item; or it is one of the model
@@ -39,8 +41,9 @@ pub moved-sound : {w w′ : CCDataWriter} {fs : List (List ℕ)} {is : Items} {p
 moved-sound (stays f i e) s = rw e s
 moved-sound (moves c k) s = k .sound
 
--- calls of the model from s to the multiplexer that w is, with the frames fs and the items is, allowed if `pad` holds
-pub record Follows (s : Mux) (fs : List (List ℕ)) (is : Items) (w : CCDataWriter) (pad : Type 0) : Type 0 where
+-- calls of the model from s to the multiplexer that w is, with the frames fs and the items is, allowed if `pad` holds; `there` are the packets that
+-- were there
+pub record Follows (s : Mux) (there : List Packet) (fs : List (List ℕ)) (is : Items) (w : CCDataWriter) (pad : Type 0) : Type 0 where
   pub calls : List Call
   pub last : run calls s .last ≡ means w
   pub frames : run calls s .frames ≡ fs
@@ -51,10 +54,11 @@ pub record Follows (s : Mux) (fs : List (List ℕ)) (is : Items) (w : CCDataWrit
   pub rates : AtRates calls
   pub writes : writesIn calls ≡ length fs
   pub quiet : is ≡ noItems → NoPush calls
+  pub passed : Passed there (is .packets) (thereIn w)
   pub sound : Sound w
 
 -- no call
-pub follows-none : (w : CCDataWriter) → Sound w → Follows (means w) [] noItems w (Unit {0})
+pub follows-none : (w : CCDataWriter) → Sound w → Follows (means w) (thereIn w) [] noItems w (Unit {0})
 unfolding run others
 follows-none w s =
     record {
@@ -68,6 +72,7 @@ follows-none w s =
       rates = tt;
       writes = refl;
       quiet = λ e. tt;
+      passed = passed-none (thereIn w);
       sound = s;
     }
 
@@ -92,7 +97,7 @@ items-none a b e =
     (items-same a noItems (p .0) (q .0) (r .0), items-same b noItems (p .1) (q .1) (r .1))
 
 -- allowed under less
-pub repad : {s : Mux} {w : CCDataWriter} {fs : List (List ℕ)} {is : Items} {pad less : Type 0} → (less → pad) → Follows s fs is w pad → Follows s fs is w less
+pub repad : {s : Mux} {there : List Packet} {w : CCDataWriter} {fs : List (List ℕ)} {is : Items} {pad less : Type 0} → (less → pad) → Follows s there fs is w pad → Follows s there fs is w less
 repad f t =
     record {
       calls = t .calls;
@@ -105,6 +110,7 @@ repad f t =
       rates = t .rates;
       writes = t .writes;
       quiet = t .quiet;
+      passed = t .passed;
       sound = t .sound;
     }
 
@@ -115,7 +121,7 @@ run-next c cs s s₁ e = ap (λ (x : Mux). thenRun (call c s) (run cs x)) e
 
 -- one call, and then those that follow
 pub follow : {w w₁ w₂ : CCDataWriter} {fs₁ fs₂ : List (List ℕ)} {is₁ is₂ : Items} {pad₁ pad₂ : Type 0}
-    → Moved w fs₁ is₁ w₁ pad₁ → Follows (means w₁) fs₂ is₂ w₂ pad₂ → Follows (means w) (fs₁ ++ fs₂) (andThen is₁ is₂) w₂ (pad₁ × pad₂)
+    → Moved w fs₁ is₁ w₁ pad₁ → Follows (means w₁) (thereIn w₁) fs₂ is₂ w₂ pad₂ → Follows (means w) (thereIn w) (fs₁ ++ fs₂) (andThen is₁ is₂) w₂ (pad₁ × pad₂)
 follow (stays f i e) t = rw (f, i, ← e) (repad (λ p. p .1) t)
 follow {w} {w₁} {w₂} {fs₁} {fs₂} {is₁} {is₂} (moves c k) t =
     let a : Run = call c (means w) in
@@ -132,5 +138,6 @@ follow {w} {w₁} {w₂} {fs₁} {fs₂} {is₁} {is₂} (moves c k) t =
       rates = k .rates (t .calls) (t .rates);
       writes = k .writes (t .calls) ∙ ap (λ n. length fs₁ + n) (t .writes) ∙ sym (length-append fs₁ fs₂);
       quiet = λ z. let n = items-none is₁ is₂ z in k .quiet (n .0) (t .calls) (t .quiet (n .1));
+      passed = passed-then (k .passed) (t .passed);
       sound = t .sound;
     }

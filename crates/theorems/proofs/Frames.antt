@@ -32,6 +32,7 @@ use Rattle.writer.specs.declared.WriterCount.{WriterCount}
 use Rattle.theorems.specs.Items.{noItems}
 use Rattle.theorems.specs.Allowed.{Lent, Write}
 use Rattle.theorems.specs.Writing.{frameIn, PaddingAt}
+use Rattle.theorems.proofs.Passing.{passed-after}
 use Rattle.theorems.proofs.Following.{Moved, stays, moves}
 
 -- a rate is refused with 8, or it has budgets
@@ -112,9 +113,10 @@ write-moves w end r s (one-frame b accepted counts first next) =
       packets = refl;
       pairs1 = refl;
       pairs2 = refl;
-      allowed = λ pad. (accepted, pad);
+      allowed = λ pad. (accepted, pad _ refl);
       rates = λ cs t. (accepted, t);
       writes = λ cs. omega arith;
       quiet = λ e cs t. t;
+      passed = passed-after w s b;
       sound = after-sound w s b;
     }))

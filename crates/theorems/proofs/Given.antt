@@ -1,7 +1,7 @@
 -- A pair that has left its queue has been given. Assumes nothing.
 use mathlib.Core.Path.{_≡_, refl, sym, ap, subst, _∙_}
 use mathlib.Core.List.{List, [], _∷_, _++_}
-use Prim.Native.Nat.{ℕ, _*_, _≤_}
+use Prim.Native.Nat.{ℕ, _≤_}
 use native.Mathlib.Omega.{arith}
 use lib.ListN.{length, take, drop, replicate, length-append, take-append-drop}
 use Rattle.model.specs.Said as said
@@ -9,28 +9,28 @@ use Rattle.model.specs.Frame.{Pair}
 use Rattle.model.specs.Demux.{Demux, freshDemux, turn608On, validDemux}
 use Rattle.model.specs.Mux.{Mux, freshMux}
 use Rattle.model.specs.Run.{Read, Run, run, readFrames, others}
-use Rattle.journey.specs.Bounds.{Field, one, two}
+use Rattle.journey.specs.Bounds.{Field, one, two, acceptedOf, Left}
 use Rattle.journey.specs.Bounds as journey
-use Rattle.journey.proofs.Turns.{ofField, others-append}
-use Rattle.journey.proofs.Triples.{stop}
-use Rattle.journey.proofs.Gather as gather
+use Rattle.journey.proofs.Turns.{ofField}
+use Rattle.journey.proofs.Round.{ready-fresh}
 use Rattle.journey.proofs.Taking.{holding}
-use Rattle.journey.proofs.Calls.{acceptedOf}
 use Rattle.journey.proofs.Carried.{Carried, carried}
-use Rattle.journey.proofs.Leaves.{Went, goes, first-gone}
-use Rattle.caption.specs.declared.Refusal.{Refusal}
+use Rattle.journey.proofs.Leaves.{leaves, first-gone}
+use Rattle.caption.specs.declared.Answer.{Answer}
 use Rattle.writer.specs.Writer.{means}
 use Rattle.writer.specs.declared.CCDataWriter.{CCDataWriter}
 use Rattle.parser.specs.Means as parser
 use Rattle.parser.specs.declared.CCDataParser.{CCDataParser}
 use Rattle.parser.specs.declared.ParserAnswer.{ParserAnswer}
+use Rattle.parser.specs.declared.Item.{Item}
 use Rattle.theorems.specs.Items.{Items}
 use Rattle.theorems.specs.Allowed.{NewWriter, NewParser, HandleCea608}
 use Rattle.theorems.specs.Writing.{Calls, Padded}
-use Rattle.theorems.specs.Reading.{Feeds}
-use Rattle.theorems.specs.Bounds.{queueAt, pairsAt, BeginsWith}
+use Rattle.theorems.specs.Reading.{Feeds, NoRefusal}
+use Rattle.theorems.specs.Bounds.{pairsAt, BeginsWith, GivenInTime}
 use Rattle.theorems.proofs.Sequences.{follows, from-fresh}
-use Rattle.theorems.proofs.Feeding.{itemsRead, feeds}
+use Rattle.theorems.proofs.Queued.{others-twice, others-left, queue-others}
+use Rattle.theorems.proofs.Feeding.{itemsRead, feeds, no-refusal}
 use Rattle.theorems.proofs.Trip.{given-fed}
 use Rattle.theorems.proofs.Bounds.{queue-means}
 
@@ -51,40 +51,42 @@ read-pairs two o = refl
 
 -- Calls from s, whose frames are read by a demultiplexer that holds g: what is read of a field begins with the pairs at the first i places of
 -- its queue, once 2i writes or more were accepted.
-read-begins : {s : Mux} {g : List ℕ} {r : Run} {o : Read} (f : Field) (i : ℕ) → i ≤ length (journey.queueOf f s)
-    → Carried s g r o → Went i (journey.queueOf f s) (acceptedOf f r) (journey.queueOf f (r .last)) → BeginsWith (others (take i (journey.queueOf f s))) (others (ofField f (o .pairs)))
-read-begins {s} {r} {o} f i there c v =
-    let w = v .left in
+read-begins : {s : Mux} {g : List ℕ} {r : Run} {o : Read} (f : Field) (i : ℕ) → i ≤ length (journey.queueOf f s) → others (journey.queueOf f s) ≡ journey.queueOf f s
+    → Carried s g r o → Left i (journey.queueOf f s) (others (acceptedOf f r)) (journey.queueOf f (r .last)) → BeginsWith (take i (journey.queueOf f s)) (others (ofField f (o .pairs)))
+read-begins {s} {r} {o} f i there such c w =
     let q = journey.queueOf f s in
     let q′ = journey.queueOf f (r .last) in
-    let went : others q ++ others (acceptedOf f r) ≡ others (w .gone) ++ others q′ =
-    rw (← v .came) (sym (others-append q (w .new)) ∙ ap others (w .cut) ∙ others-append (w .gone) q′) in
-    let read : others (ofField f (o .pairs)) ≡ others (w .gone) = same-front _ _ (others q′) (sym (c .pairs f .same) ∙ went) in
+    let still = others-left such (others-twice (acceptedOf f r)) w in
+    let same : q ++ others (acceptedOf f r) ≡ others (ofField f (o .pairs)) ++ q′ = rw (such, still) at (c .pairs f .same) in
+    let read : others (ofField f (o .pairs)) ≡ w .gone = same-front _ _ q′ (sym same ∙ w .cut) in
     let parts : w .gone ≡ take i q ++ drop i (w .gone) = sym (take-append-drop i (w .gone)) ∙ ap (λ (l : List Pair). l ++ drop i (w .gone)) (first-gone w there) in
-    record { rest = others (drop i (w .gone)); whole = read ∙ ap others parts ∙ others-append (take i q) (drop i (w .gone)) }
+    record { rest = drop i (w .gone); whole = read ∙ parts }
 
 -- the frames by another name
 framed : {s : Mux} {g : List ℕ} (r : Run) (d : Demux) (fs : List (List ℕ)) → r .frames ≡ fs → Carried s g r (readFrames (r .frames) d) → Carried s g r (readFrames fs d)
 framed {s} {g} r d fs e c = subst (λ (x : List (List ℕ)). Carried s g r (readFrames x d)) e c
 
 -- "The pair at place i of its field leaves within 2i accepted writes", and a demultiplexer that was fed every frame before has given it by then: of
--- what it gives from there on each field's pairs begin with those at the first i places, but for 0x80,0x80.
-pub pair-given : {w₀ w w′ : CCDataWriter} {p₀ p p′ : CCDataParser} {fs₀ fs : List (List ℕ)} {is₀ is given₀ given : Items} {on : ParserAnswer} {refused₀ refused : List Refusal}
+-- what it gives from there on each field's pairs begin with those at the first i places.
+pub pair-given : {w₀ w w′ : CCDataWriter} {p₀ p p′ : CCDataParser} {fs₀ fs : List (List ℕ)} {is₀ is given₀ given : Items} {on : ParserAnswer} {answers₀ answers : List Answer} {told₀ told : List Item}
     → NewWriter w₀ → (before : Calls w₀ fs₀ is₀ w) → Padded before → (behind : Calls w fs is w′) → Padded behind
-    → NewParser p₀ → HandleCea608 p₀ on → Feeds (on .parser) fs₀ refused₀ given₀ p → Feeds p fs refused given p′
-    → (f : Field) (i : ℕ) → i ≤ length (queueAt f w) → 2 * i ≤ length fs
-    → (refused ≡ []) × BeginsWith (others (take i (queueAt f w))) (pairsAt f given)
-pair-given {w} {p} {fs₀} {fs} {given} new before padded behind padded′ newParser turned read₀ read f i there writes =
+    → NewParser p₀ → HandleCea608 p₀ on → Feeds (on .parser) fs₀ answers₀ told₀ given₀ p → Feeds p fs answers told given p′
+    → NoRefusal fs answers told × ((f : Field) → GivenInTime f w fs given)
+pair-given {w} {p} {fs₀} {fs} {given} new before padded behind padded′ newParser turned read₀ read =
     let k = from-fresh new before in
     let o : Read = readFrames fs₀ (turn608On freshDemux) in
-    let t = framed (run (k .calls) freshMux) (turn608On freshDemux) fs₀ (k .frames) (carried (k .calls) freshMux [] (k .allowed padded) (record { linked = gather.lost stop; rested = λ e. refl; stored = gather.none })) in
-    let d = given-fed newParser turned read₀ (t .answers ∙ ap (λ (x : List (List ℕ)). replicate (length x) (said.accepted [])) (k .frames)) .1 in
+    let t = framed (run (k .calls) freshMux) (turn608On freshDemux) fs₀ (k .frames) (carried (k .calls) freshMux [] (k .allowed padded) ready-fresh) in
+    let d = given-fed newParser turned read₀ .1 in
     let m = follows behind (k .sound) in
     let g : List ℕ = o .last .pending in
     let c = framed (run (m .calls) (means w)) (holding g) fs (m .frames) (carried (m .calls) (means w) g (m .allowed padded′) (rw (k .last) at (t .ready))) in
     let at : parser.means p ≡ holding g = d .means ∙ t .held in
-    let e = feeds read (d .sound) (ap validDemux (d .means) ∙ d .valid) (ap (λ (x : Demux). readFrames fs x .answers) at ∙ c .answers ∙ ap (λ (x : List (List ℕ)). replicate (length x) (said.accepted [])) (m .frames)) in
-    let z : given ≡ itemsRead (readFrames fs (holding g)) = e .items ∙ ap (λ (x : Demux). itemsRead (readFrames fs x)) at in
-    let h : i ≤ length (journey.queueOf f (means w)) = rw (queue-means f w) there in
-    let b = read-begins f i h c (goes f (m .calls) (means w) i (m .rates) h (omega (arith, m .writes))) in
-    (e .no-refusal, rw (z, read-pairs f (readFrames fs (holding g)), ← queue-means f w) b)
+    let e = feeds read (d .sound) (ap validDemux (d .means) ∙ d .valid) in
+    let fine = ap (λ (x : Demux). readFrames fs x .answers) at ∙ c .answers ∙ ap (λ (x : List (List ℕ)). replicate (length x) (said.accepted [])) (m .frames) in
+    let z : given ≡ itemsRead (readFrames fs (holding g)) = e .items ∙ ap (λ (x : Demux). itemsRead (readFrames fs x)) at in (
+      no-refusal e fine,
+      λ f i there writes.
+          let h : i ≤ length (journey.queueOf f (means w)) = rw (queue-means f w) there in
+          let b = read-begins f i h (queue-others new before f) c (leaves f (m .calls) (means w) (m .rates) i h (omega (arith, m .writes))) in
+          rw (z, read-pairs f (readFrames fs (holding g)), ← queue-means f w) b,
+    )

@@ -1,11 +1,13 @@
 pub mod Emptying
 pub mod Feeding
+pub mod Passing
 pub mod Following
 pub mod Answered
 pub mod Packets
 pub mod Pairs
 pub mod Frames
 pub mod Sequences
+pub mod Queued
 pub mod Trip
 pub mod Distinct
 pub mod Bounds

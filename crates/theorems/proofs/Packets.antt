@@ -11,6 +11,7 @@ use Rattle.model.specs.Mux.{Mux, withPackets, pushPacket, queued, mostPackets}
 use Rattle.model.specs.Run.{pushes, writes, call, others}
 use Rattle.model.proofs.Cases.{by-test, gives-at}
 use Rattle.model.proofs.Packets.{Valid, facts-valid}
+use Rattle.journey.proofs.Calls.{quiet-push}
 use Rattle.caption.specs.declared.Refusal.the-variants.{BadValue, Full}
 use Rattle.packet.specs.Packet.{packetOf, validDTVCC}
 use Rattle.packet.proofs.Holds.{within-facts, held-valid}
@@ -24,6 +25,8 @@ use Rattle.writer.specs.declared.WriterAnswer.{WriterAnswer}
 use Rattle.theorems.specs.Items.{Items, noItems, onePacket, ifNonempty}
 use Rattle.theorems.specs.Allowed.{PushPacket}
 use Rattle.theorems.specs.Writing.{Typed, ifAccepted}
+use Rattle.theorems.specs.Trip.{sendingOf}
+use Rattle.theorems.proofs.Passing.{passed-quiet}
 use Rattle.theorems.proofs.Following.{Moved, stays, moves}
 use Rattle.theorems.proofs.Answered.{given, stays-denied}
 
@@ -68,22 +71,31 @@ module _ (w : CCDataWriter) (d : DTVCCPacket) (r : WriterAnswer) (s : Sound w) (
           unfolding pushPacket queued
           put = rw (some, room)
 
+          -- the packet being sent stays
+          sending-same : sendingOf (pushedPacket p w) ≡ sendingOf w
+          unfolding pushedPacket
+          sending-same = rw some
+
           -- the packet is stored
           moves-stored : Moved w [] item (r .writer) (Unit {0})
           unfolding call others
           moves-stored =
               let g = given a (pushedPacket p w) (rw (s .valid, v, put)) in
+              let last : call (pushes p) (means w) .last ≡ means (pushedPacket p w) =
+              rw put (sym (gives-at (λ (m : Mux). means (pushedPacket p w) ≡ m) (pushPacket p (means w)) put (means-packet w (s .shaped) (s .valid) p held))) in
+              let packets : call (pushes p) (means w) .packets ≡ p ∷ [] = rw (put, some) in
               rw (g .0, g .1, some)
               (moves (pushes p) (record {
-                last = rw put (sym (gives-at (λ (m : Mux). means (pushedPacket p w) ≡ m) (pushPacket p (means w)) put (means-packet w (s .shaped) (s .valid) p held)));
+                last = last;
                 frames = refl;
-                packets = rw (put, some);
+                packets = packets;
                 pairs1 = refl;
                 pairs2 = refl;
                 allowed = λ _. facts-valid p held;
                 rates = λ cs t. t;
                 writes = λ cs. omega arith;
                 quiet = λ e cs t. absurd (packet-some p e);
+                passed = passed-quiet w (pushedPacket p w) (quiet-push p (means w)) last packets sending-same;
                 sound = gives-at (λ (m : Mux). Sound (pushedPacket p w)) (pushPacket p (means w)) put (packet-sound w s p held);
               }))
 

@@ -10,6 +10,7 @@ use Rattle.model.specs.Frame.{Cea608, field1, field2}
 use Rattle.model.specs.Mux.{Mux, isNull, withQueues, pushPair, pushCea608, queued, mostQueued}
 use Rattle.model.specs.Run.{pushes608, writes, call, others}
 use Rattle.model.proofs.Cases.{by-test}
+use Rattle.journey.proofs.Calls.{quiet-608}
 use Rattle.caption.specs.Pairs.{cea608Of}
 use Rattle.caption.specs.declared.Refusal.the-variants.{Full}
 use Rattle.caption.specs.declared.Cea608 as caption
@@ -24,6 +25,8 @@ use Rattle.writer.specs.declared.WriterAnswer.{WriterAnswer}
 use Rattle.theorems.specs.Items.{Items, noItems, onePair}
 use Rattle.theorems.specs.Allowed.{PushCea608}
 use Rattle.theorems.specs.Writing.{ifAccepted}
+use Rattle.theorems.specs.Trip.{sendingOf}
+use Rattle.theorems.proofs.Passing.{passed-quiet}
 use Rattle.theorems.proofs.Following.{Moved, stays, moves}
 use Rattle.theorems.proofs.Answered.{given, stays-denied}
 
@@ -70,6 +73,11 @@ module _ (w : CCDataWriter) (s : Sound w) where
   padding-same (Field1 a b) e = by-test (ltb (w .field1 .count) mostQueued) (λ f. rw (e, f)) (λ f. rw f)
   padding-same (Field2 a b) e = by-test (ltb (w .field2 .count) mostQueued) (λ f. rw (e, f)) (λ f. rw f)
 
+  -- the packet being sent stays
+  sending-same : (x : caption.Cea608) → sendingOf (pushedTo x w) ≡ sendingOf w
+  sending-same (Field1 a b) = refl
+  sending-same (Field2 a b) = refl
+
   -- by what the push does
   pair-by : (x : caption.Cea608) (r : WriterAnswer) → Answers (checked (validWriter w) (mapped (λ _. pushedTo x w) (pushCea608 (cea608Of x) (means w)))) w r
       → Pushed (cea608Of x) (means w) → Moved w [] (ifAccepted (r .answer) (onePair (cea608Of x))) (r .writer) (Unit {0})
@@ -78,17 +86,20 @@ module _ (w : CCDataWriter) (s : Sound w) where
   pair-by x r a (placed m g p q n) =
       let k = given a (pushedTo x w) (rw (s .valid, g)) in
       let c = pair-call (cea608Of x) (means w) in
+      let last = c .0 ∙ sym (means-pushed w (s .shaped) (s .valid) x) in
+      let packets = c .1 .1 ∙ sym (no-packet (cea608Of x)) in
       rw (k .0, k .1)
       (moves (pushes608 (cea608Of x)) (record {
-        last = c .0 ∙ sym (means-pushed w (s .shaped) (s .valid) x);
+        last = last;
         frames = c .1 .0;
-        packets = c .1 .1 ∙ sym (no-packet (cea608Of x));
+        packets = packets;
         pairs1 = p;
         pairs2 = q;
         allowed = λ _. tt;
         rates = λ cs t. t;
         writes = λ cs. omega arith;
         quiet = λ e cs t. absurd (n e);
+        passed = passed-quiet w (pushedTo x w) (quiet-608 (cea608Of x) (means w)) last packets (sending-same x);
         sound = pushed-sound w s x;
       }))
 

@@ -10,7 +10,7 @@ use Rattle.model.specs.Run as model
 use Rattle.model.specs.Run.{Read, readFrames}
 use Rattle.model.proofs.DemuxStates.{fresh-demux, on-valid}
 use Rattle.journey.proofs.Trip as journey
-use Rattle.caption.specs.declared.Refusal.{Refusal}
+use Rattle.caption.specs.declared.Answer.{Answer}
 use Rattle.caption.specs.declared.Answer.the-variants.{Accepted}
 use Rattle.caption.proofs.Answers.{saidAnswer-injective}
 use Rattle.turns.specs.Queue.{queueOf, pairsOf}
@@ -24,6 +24,7 @@ use Rattle.parser.specs.Fresh as parser-fresh
 use Rattle.parser.proofs.Kept as kept
 use Rattle.parser.specs.declared.CCDataParser.{CCDataParser}
 use Rattle.parser.specs.declared.ParserAnswer.{ParserAnswer}
+use Rattle.parser.specs.declared.Item.{Item}
 use Rattle.theorems.specs.Items.{Items}
 use Rattle.theorems.specs.Allowed.{NewWriter, NewParser, HandleCea608}
 use Rattle.theorems.specs.Writing.{Calls, Padded, Drained}
@@ -31,7 +32,7 @@ use Rattle.theorems.specs.Reading.{Feeds}
 use Rattle.theorems.specs.Trip.{RoundTrip}
 use Rattle.theorems.proofs.Following.{items-same}
 use Rattle.theorems.proofs.Sequences.{from-fresh}
-use Rattle.theorems.proofs.Feeding.{itemsRead, Fed, feeds}
+use Rattle.theorems.proofs.Feeding.{itemsRead, Fed, feeds, no-refusal}
 
 -- a state that is drained is so in the model
 pub drained : (w : CCDataWriter) → Sound w → Drained w → model.Drained (means w)
@@ -64,14 +65,13 @@ ready p on a h =
       means = rw t (kept.means-turned p ∙ ap (λ (x : CCDataParser). turn608On (parser.means x)) e ∙ ap turn608On kept.means-fresh);
     }
 
--- frames that the model's demultiplexer accepts, fed to a fresh one with 608 on
-pub given-fed : {p₀ p : CCDataParser} {on : ParserAnswer} {frames : List (List ℕ)} {refused : List Refusal} {given : Items}
-    → NewParser p₀ → HandleCea608 p₀ on → Feeds (on .parser) frames refused given p
-    → readFrames frames (turn608On freshDemux) .answers ≡ replicate (length frames) (said.accepted [])
-    → (on .answer ≡ Accepted) × Fed (readFrames frames (turn608On freshDemux)) refused given p
-given-fed {p₀} {on} new turned read e =
+-- frames fed to a fresh one with 608 on
+pub given-fed : {p₀ p : CCDataParser} {on : ParserAnswer} {frames : List (List ℕ)} {answers : List Answer} {told : List Item} {given : Items}
+    → NewParser p₀ → HandleCea608 p₀ on → Feeds (on .parser) frames answers told given p
+    → (on .answer ≡ Accepted) × Fed frames (turn608On freshDemux) answers told given p
+given-fed {p₀} {on} new turned read =
     let y = ready p₀ on new turned in
-    (y .answer, rw (y .means) at (feeds read (y .sound) (rw (y .means) (on-valid freshDemux fresh-demux)) (rw (y .means) e)))
+    (y .answer, rw (y .means) at (feeds read (y .sound) (rw (y .means) (on-valid freshDemux fresh-demux))))
 
 -- Calls from a fresh multiplexer that end drained: what the model's demultiplexer reads in their frames.
 pub record Carried (frames : List (List ℕ)) (accepted : Items) (o : Read) : Type 0 where
@@ -90,11 +90,11 @@ carried {w} {frames} {accepted} new c padded empty =
 -- "Start a multiplexer fresh; push and write in any order, never flush, an accepted rate and at least one padding on at each write. Once drained, a
 -- fresh demultiplexer with 608 on, fed every frame and emptied after each, has given exactly the accepted nonempty packets (sequence number,
 -- block numbers, payload bytes) and each field's pairs other than 0x80,0x80, in order, once each."
-pub round-trip : {w₀ w : CCDataWriter} {p₀ p : CCDataParser} {frames : List (List ℕ)} {accepted given : Items} {on : ParserAnswer} {refused : List Refusal}
+pub round-trip : {w₀ w : CCDataWriter} {p₀ p : CCDataParser} {frames : List (List ℕ)} {accepted given : Items} {on : ParserAnswer} {answers : List Answer} {told : List Item}
     → NewWriter w₀ → (c : Calls w₀ frames accepted w) → Padded c → Drained w
-    → NewParser p₀ → HandleCea608 p₀ on → Feeds (on .parser) frames refused given p
-    → RoundTrip on refused given accepted
+    → NewParser p₀ → HandleCea608 p₀ on → Feeds (on .parser) frames answers told given p
+    → RoundTrip on frames answers told given accepted
 round-trip new c padded empty newParser turned read =
     let t = carried new c padded empty in
-    let d = given-fed newParser turned read (t .answers) in
-    record { turned-on = d .0; no-refusal = d .1 .no-refusal; exactly = d .1 .items ∙ t .exactly }
+    let d = given-fed newParser turned read in
+    record { turned-on = d .0; no-refusal = no-refusal (d .1) (t .answers); exactly = d .1 .items ∙ t .exactly }

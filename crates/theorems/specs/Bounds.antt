@@ -1,15 +1,23 @@
 -- How soon what is queued leaves. Assumes nothing.
 use mathlib.Core.Path.{_≡_}
+use mathlib.Core.Bool.{true}
 use mathlib.Core.List.{List, _++_}
-use Prim.Native.Nat.{ℕ, _+_, _≤_, min}
-use lib.ListN.{drop}
-use Rattle.model.specs.Frame.{Pair, seenAll, triplesIn}
+use Prim.Native.Nat.{ℕ, _+_, _*_, _≤_, min}
+use lib.ListN.{length, take, drop}
+use Rattle.model.specs.Said.{isGiven}
+use Rattle.model.specs.Frame.{Pair, seenAll, triplesIn, mostFrame}
+use Rattle.model.specs.Rate.{budgets}
 use Rattle.model.specs.Mux.{unsent}
-use Rattle.journey.specs.Bounds.{Field, the, packetTriplesIn}
+use Rattle.journey.specs.Bounds.{Field, the, Left, packetTriplesIn}
+use Rattle.caption.specs.declared.Counted.{Counted}
+use Rattle.caption.specs.declared.Counted.the-variants.{Count}
+use Rattle.caption.specs.declared.Framerate.{Framerate}
 use Rattle.turns.specs.Queue.{queueOf}
 use Rattle.writer.specs.Writer.{means}
+use Rattle.writer.specs.Calls.{frameLength}
 use Rattle.writer.specs.declared.CCDataWriter.{CCDataWriter}
 use Rattle.theorems.specs.Items.{Items}
+use Rattle.theorems.specs.Writing.{Drained}
 
 -- the pairs that wait in a field, place 1 first
 abbrev pub queueAt : Field → CCDataWriter → List Pair
@@ -28,11 +36,27 @@ pub record SendsFour (w : CCDataWriter) (frame : List ℕ) (w′ : CCDataWriter)
   pub four : min 4 (unsentOf w) ≤ packetTriplesOf frame
   pub no-other : packetTriplesOf frame + unsentOf w′ ≡ unsentOf w
 
+-- a write at an accepted rate, with room for the longest frame, is accepted: its answer counts the frame's bytes
+abbrev pub AcceptsWrite : CCDataWriter → Framerate → List ℕ → Counted → Type 0
+AcceptsWrite w rate out answer = isGiven (budgets (rate .numer) (rate .denom)) ≡ true → mostFrame ≤ length out → answer ≡ Count (frameLength rate w)
+
 -- the pairs of a field among items
 abbrev pub pairsAt : Field → Items → List Pair
 pairsAt f is = the f (is .pairs1) (is .pairs2)
+
+-- "The pair at place i of its field leaves within 2i accepted writes": between w and w′ the frames fs were written and the items `is` accepted
+abbrev pub LeavesInTime : Field → CCDataWriter → List (List ℕ) → Items → CCDataWriter → Type 0
+LeavesInTime f w fs is w′ = (i : ℕ) → i ≤ length (queueAt f w) → 2 * i ≤ length fs → Left i (queueAt f w) (pairsAt f is) (queueAt f w′)
 
 -- one list begins with another
 pub record BeginsWith {A : Type 0} (first all : List A) : Type 0 where
   pub rest : List A
   pub whole : all ≡ first ++ rest
+
+-- likewise what is given of the frames fs: each field's pairs begin with those at the first i places
+abbrev pub GivenInTime : Field → CCDataWriter → List (List ℕ) → Items → Type 0
+GivenInTime f w fs given = (i : ℕ) → i ≤ length (queueAt f w) → 2 * i ≤ length fs → BeginsWith (take i (queueAt f w)) (pairsAt f given)
+
+-- so many accepted writes drain a multiplexer: twice as many as the pairs of either field, and a quarter of the packet triples
+abbrev pub DrainsInTime : CCDataWriter → List (List ℕ) → CCDataWriter → Type 0
+DrainsInTime w fs w′ = 2 * w .field1 .count ≤ length fs → 2 * w .field2 .count ≤ length fs → unsentOf w ≤ 4 * length fs → Drained w′

@@ -2,6 +2,7 @@
 use mathlib.Core.Path.{_≡_}
 use mathlib.Core.List.{List, [], _∷_, _++_}
 use Prim.Native.Nat.{ℕ}
+use lib.ListN.{length, replicate, getD}
 use contract.Lifetimes.{Lfts}
 use denote.Ref.{now}
 use Rattle.caption.specs.Pairs.{cea608Of}
@@ -25,27 +26,29 @@ drawnItem item.Packet d = onePacket (packetOf d)
 drawnItem item.Nothing d = noItems
 drawnItem (item.Refused why) d = noItems
 
--- whether the draw was refused
-abbrev pub refusedDraw : Item → List Refusal
-refusedDraw (item.Pair x) = []
-refusedDraw item.Packet = []
-refusedDraw item.Nothing = []
-refusedDraw (item.Refused why) = why ∷ []
-
--- whether the frame was refused
-abbrev pub refusedFrame : Answer → List Refusal
-refusedFrame answer.Accepted = []
-refusedFrame (answer.Refused why) = why ∷ []
-
--- "emptied": draws until there is nothing left, with what was refused and what was given
-pub data Empties : CCDataParser → List Refusal → Items → CCDataParser → Type 0 where
-  nothing-left : {p : CCDataParser} (r : Drawn) → Draw p r → r .item ≡ item.Nothing → Empties p [] noItems (r .parser)
-  draw : {p p′ : CCDataParser} {rs : List Refusal} {is : Items} (r : Drawn) → Draw p r → (r .item ≡ item.Nothing → ⊥)
-      → Empties (r .parser) rs is p′ → Empties p (refusedDraw (r .item) ++ rs) (andThen (drawnItem (r .item) (r .packet)) is) p′
+-- "emptied": draws until there is nothing left, with each item that a draw told and what was given
+pub data Empties : CCDataParser → List Item → Items → CCDataParser → Type 0 where
+  nothing-left : {p : CCDataParser} (r : Drawn) → Draw p r → r .item ≡ item.Nothing → Empties p (r .item ∷ []) (drawnItem (r .item) (r .packet)) (r .parser)
+  draw : {p p′ : CCDataParser} {told : List Item} {is : Items} (r : Drawn) → Draw p r → (r .item ≡ item.Nothing → ⊥)
+      → Empties (r .parser) told is p′ → Empties p (r .item ∷ told) (andThen (drawnItem (r .item) (r .packet)) is) p′
 
 -- "fed every frame and emptied after each": each result is one that its function's contract allows, and the next call is of the state that came
--- back; with what was refused and what was given
-pub data Feeds : CCDataParser → List (List ℕ) → List Refusal → Items → CCDataParser → Type 0 where
-  no-frame : {p : CCDataParser} → Feeds p [] [] noItems p
-  feed : {p q p′ : CCDataParser} {fs : List (List ℕ)} {rs rs′ : List Refusal} {is is′ : Items} (κs : Lfts 1) (frame : Lent) (r : ParserAnswer) → Push κs p frame r
-      → Empties (r .parser) rs is q → Feeds q fs rs′ is′ p′ → Feeds p (now frame ∷ fs) (refusedFrame (r .answer) ++ (rs ++ rs′)) (andThen is is′) p′
+-- back; with each frame's answer, each item that a draw told, and what was given
+pub data Feeds : CCDataParser → List (List ℕ) → List Answer → List Item → Items → CCDataParser → Type 0 where
+  no-frame : {p : CCDataParser} → Feeds p [] [] [] noItems p
+  feed : {p q p′ : CCDataParser} {fs : List (List ℕ)} {answers : List Answer} {told told′ : List Item} {is is′ : Items} (κs : Lfts 1) (frame : Lent) (r : ParserAnswer)
+      → Push κs p frame r → Empties (r .parser) told is q → Feeds q fs answers told′ is′ p′
+      → Feeds p (now frame ∷ fs) (r .answer ∷ answers) (told ++ told′) (andThen is is′) p′
+
+-- every frame is accepted, and no draw tells a refusal
+pub record NoRefusal (frames : List (List ℕ)) (answers : List Answer) (told : List Item) : Type 0 where
+  pub all-accepted : answers ≡ replicate (length frames) answer.Accepted
+  pub none-refused : (i : ℕ) (why : Refusal) → getD told i item.Nothing ≡ item.Refused why → ⊥
+
+-- there is a way to feed frames: at each step some result is allowed, and drawing comes to an end
+pub record Feedable (p : CCDataParser) (frames : List (List ℕ)) : Type 0 where
+  pub answers : List Answer
+  pub told : List Item
+  pub given : Items
+  pub last : CCDataParser
+  pub feeds : Feeds p frames answers told given last

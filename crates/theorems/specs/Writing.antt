@@ -56,8 +56,7 @@ pub data Calls : CCDataWriter → List (List ℕ) → Items → CCDataWriter →
 
 -- whether a write that is accepted finds "at least one padding on"
 abbrev pub PaddingAt : Counted → CCDataWriter → Type 0
-PaddingAt (counted.Count n) w = w .«output_cea608_padding» || w .«output_padding» ≡ true
-PaddingAt (counted.Refused why) w = Unit {0}
+PaddingAt answer w = (n : ℕ) → answer ≡ counted.Count n → w .«output_cea608_padding» || w .«output_padding» ≡ true
 
 -- "at least one padding on at each write"; that its rate is accepted is what the answer says, else it is refused with 8
 abbrev pub Padded : {w w′ : CCDataWriter} {fs : List (List ℕ)} {is : Items} → Calls w fs is w′ → Type 0
@@ -74,3 +73,12 @@ pub record Drained (w : CCDataWriter) : Type 0 where
   pub no-byte : writtenLength (w .sending) ≤ w .sent
   pub no-pair1 : w .field1 .count ≡ 0
   pub no-pair2 : w .field2 .count ≡ 0
+
+-- Calls that wrote fs, accepted `is` and came to w go on: with more writes, and accepting nothing more, they end drained.
+pub record Drains (w₀ w : CCDataWriter) (fs : List (List ℕ)) (is : Items) : Type 0 where
+  pub more : List (List ℕ)
+  pub last : CCDataWriter
+  pub rest : Calls w more noItems last
+  pub whole : Calls w₀ (fs ++ more) is last
+  pub padded : Padded whole
+  pub drained : Drained last

@@ -1,0 +1,153 @@
+-- The packets that are there, the one being sent and those queued, from call to call: they leave in order, and others come behind them.
+-- Assumes nothing.
+use mathlib.Core.Path.{_≡_, refl, sym, ap, _∙_}
+use mathlib.Core.Bool.{Bool, true, false, cond}
+use mathlib.Core.List.{List, [], _∷_, _++_, append-assoc, append-nil}
+use Prim.Native.Nat.{ℕ, suc, _-_, _*_, _≤_, _<_}
+use native.Mathlib.Omega.{arith}
+use borrow.Author.Tests.{ne-eqb, le-leb, leb-true}
+use lib.Dec.{leb}
+use lib.ListN.{length, take, getD, length-append, length-map, List·getD-map}
+use lib.Seq.{getD-take, length-take-le}
+use Rattle.model.specs.Packet.{Packet}
+use Rattle.model.specs.Rate.{Budgets}
+use Rattle.model.specs.Mux.{Mux, Sent, framed, writeFrame, turnsDue, turned, countDue}
+use Rattle.model.specs.Run.{Run}
+use Rattle.model.proofs.Cases.{by-test}
+use Rattle.journey.proofs.Calls.{Quiet}
+use Rattle.journey.proofs.Carried.{Kept, chain}
+use Rattle.journey.proofs.Sending.{Begins, none-begun, one-begun, begins, sentBy}
+use Rattle.slots.specs.Slot.{noSlot, writtenLength, writtenBytes, slotPacket}
+use Rattle.slots.specs.declared.Slot.{Slot}
+use Rattle.writer.specs.Slots.{packetsOf, leftFrom, Queued, Held}
+use Rattle.writer.specs.Sending.{begun, restedSlot, restedSent}
+use Rattle.writer.specs.Writer.{means, afterFrame}
+use Rattle.writer.proofs.Triples.{left-length}
+use Rattle.writer.proofs.Laws.{means-after}
+use Rattle.writer.proofs.Kept.{Sound, sound-ok}
+use Rattle.writer.specs.declared.CCDataWriter.{CCDataWriter}
+use Rattle.theorems.specs.Trip.{sendingOf}
+
+-- the packets that are there
+abbrev pub thereIn : CCDataWriter → List Packet
+thereIn w = sendingOf w ++ means w .packets
+
+-- some have gone
+pub record Passed (there came now : List Packet) : Type 0 where
+  pub gone : List Packet
+  pub kept : Kept there came gone now
+
+-- nothing happens
+pub passed-none : (there : List Packet) → Passed there [] there
+passed-none there = record { gone = []; kept = record { same = append-nil there } }
+
+-- one after the other
+pub passed-then : {a i b j c : List Packet} → Passed a i b → Passed b j c → Passed a (i ++ j) c
+passed-then h k = record { gone = h .gone ++ k .gone; kept = chain (h .kept) (k .kept) }
+
+-- a call that writes no frame
+pub passed-quiet : (w w′ : CCDataWriter) {k : Run} {came : List Packet} → Quiet (means w) k → k .last ≡ means w′ → k .packets ≡ came → sendingOf w′ ≡ sendingOf w → Passed (thereIn w) came (thereIn w′)
+passed-quiet w w′ {k} q e f same =
+    record { gone = []; kept = record { same = rw (← f, same, ← e, ← q .packets) (append-assoc (sendingOf w) (means w .packets) (k .packets)) } }
+
+-- others are in front
+passed-front : (a : List Packet) {there now : List Packet} → Passed there [] now → Passed (a ++ there) [] now
+passed-front a {there} {now} h =
+    record { gone = a ++ h .gone; kept = record { same = append-assoc a there [] ∙ ap (λ (l : List Packet). a ++ l) (h .kept .same) ∙ sym (append-assoc a (h .gone) now) } }
+
+-- the first has left, or has not
+passed-one : (p : Packet) (left : Bool) (r : List Packet) → Passed (p ∷ r) [] (cond left [] (p ∷ []) ++ r)
+passed-one p true r = passed-front (p ∷ []) (passed-none r)
+passed-one p false r = passed-none (p ∷ r)
+
+-- the packet of a slot of which so many bytes have left, and none once all have
+abbrev restIn : Slot → ℕ → List Packet
+restIn s sent = cond (leb (writtenLength s) sent) [] (slotPacket s ∷ [])
+
+-- it is the same where the slot is let go
+rest-rested : (s : Slot) (sent : ℕ) → restIn (restedSlot s sent) (restedSent s sent) ≡ restIn s sent
+rest-rested s sent = by-test (leb (writtenLength s) sent) (λ e. rw e) (λ e. rw (e, e))
+
+-- what stands behind others
+getD-behind : (a : List Packet) (p : Packet) (r : List Packet) (d : Packet) → getD (a ++ (p ∷ r)) (length a) d ≡ p
+getD-behind [] p r d = refl
+getD-behind (x ∷ a) p r d = getD-behind a p r d
+
+-- of the slot being sent no more is left than was
+passed-rest : (slot : Slot) (at : ℕ) → Held slot at → (n : ℕ) (r : List Packet) → n ≤ length (leftFrom at (writtenBytes slot))
+    → Passed (restIn slot at ++ r) [] (restIn slot (writtenLength slot - 2 * n) ++ r)
+passed-rest slot at h n r few =
+    by-test (leb (writtenLength slot) at)
+    (λ t. let k = leb-true (writtenLength slot) at t in
+    let m : leb (writtenLength slot) (writtenLength slot - 2 * n) ≡ true = le-leb (writtenLength slot) (writtenLength slot - 2 * n) (omega (arith, left-length slot at h)) in
+    rw (t, m) (passed-none r))
+    (λ t. rw t (passed-one (slotPacket slot) (leb (writtenLength slot) (writtenLength slot - 2 * n)) r))
+
+-- of a queue of slots and the slot being sent, what is there once the model's o has been sent
+module _ (l : List Slot) (count : ℕ) (q : Queued l count) (slot : Slot) (at : ℕ) (h : Held slot at) (o : Sent) where
+  -- the slot begun last
+  abbrev last : Slot
+  last = begun l slot 0 (count - length (o .packets))
+
+  -- so much of it has left
+  abbrev sent : ℕ
+  sent = writtenLength last - 2 * length (o .sending)
+
+  -- as many packets as are counted
+  number : length (packetsOf (take count l)) ≡ count
+  number = length-map (take count l) slotPacket ∙ length-take-le count l (omega (arith, q .few, q .places))
+
+  -- no other packet is begun
+  passed-here : o .packets ≡ packetsOf (take count l) → length (o .sending) ≤ length (leftFrom at (writtenBytes slot))
+      → Passed (restIn slot at ++ packetsOf (take count l)) [] (restIn last sent ++ o .packets)
+  passed-here e few =
+      let z : count - length (packetsOf (take count l)) ≡ 0 = omega (arith, number) in
+      rw (e, z) (passed-rest slot at h (length (o .sending)) (packetsOf (take count l)) few)
+
+  -- one of the queue is begun
+  passed-on : (gone : List Packet) (p : Packet) → packetsOf (take count l) ≡ gone ++ (p ∷ o .packets)
+      → Passed (restIn slot at ++ packetsOf (take count l)) [] (restIn last sent ++ o .packets)
+  passed-on gone p e =
+      let n = ap length e in
+      let m = length-append gone (p ∷ o .packets) in
+      let next : count - length (o .packets) ≡ suc (length gone) = omega (arith, number) in
+      let before : suc (length gone) - 1 ≡ length gone = omega arith in
+      let there : length gone < count = omega (arith, number) in
+      let it : slotPacket (getD l (length gone) noSlot) ≡ p =
+      ap slotPacket (sym (getD-take count l (length gone) noSlot there)) ∙ sym (List·getD-map slotPacket (take count l) (length gone) noSlot)
+      ∙ ap (λ (ps : List Packet). getD ps (length gone) (slotPacket noSlot)) e ∙ getD-behind gone p (o .packets) (slotPacket noSlot) in
+      rw (next, ne-eqb (suc (length gone)) 0 (λ z. omega arith), before, it, e)
+      (passed-front (restIn slot at) (passed-front gone (passed-one p (leb (writtenLength (getD l (length gone) noSlot)) (writtenLength (getD l (length gone) noSlot) - 2 * length (o .sending))) (o .packets))))
+
+  -- either way
+  passed-by : Begins (leftFrom at (writtenBytes slot)) (packetsOf (take count l)) o → Passed (restIn slot at ++ packetsOf (take count l)) [] (restIn last sent ++ o .packets)
+  passed-by (none-begun e few) = passed-here e few
+  passed-by (one-begun gone p e) = passed-on gone p e
+
+-- a write
+module _ (w : CCDataWriter) (s : Sound w) (b : Budgets) where
+  -- what the model leaves
+  abbrev x : Mux
+  x = writeFrame b (means w) .next
+
+  -- the slot that is begun last
+  abbrev slot : Slot
+  slot = begun (w .packets) (w .sending) 0 (w .«packet_count» - length (x .packets))
+
+  -- the packet that is being sent then
+  sending-after : sendingOf (afterFrame b w) ≡ restIn slot (writtenLength slot - 2 * length (x .sending))
+  unfolding afterFrame
+  sending-after = rest-rested slot (writtenLength slot - 2 * length (x .sending))
+
+  -- by what the model sends
+  passed-model : Passed (thereIn w) [] (restIn slot (writtenLength slot - 2 * length (x .sending)) ++ x .packets)
+  unfolding means writeFrame framed
+  passed-model =
+      let k = sound-ok w s in
+      let t : Mux = means w in
+      passed-by (w .packets) (w .«packet_count») (k .queued) (w .sending) (w .sent) (k .held) (sentBy b t)
+      (begins (countDue b t - length (turned (turnsDue (b .pairs) t) t .out)) (t .sending) (t .packets))
+
+  -- in all
+  pub passed-after : Passed (thereIn w) [] (thereIn (afterFrame b w))
+  passed-after = rw (sending-after, means-after w (s .shaped) (s .valid) b) passed-model
