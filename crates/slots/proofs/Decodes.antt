@@ -1,22 +1,19 @@
 -- A slot that passes the walk is a written packet. Assumes nothing.
-use mathlib.Core.Path.{_≡_, refl, sym, ap, _∙_}
+use mathlib.Core.Path.{_≡_, refl, sym, _∙_}
 use mathlib.Core.Bool.{Bool, true, false, cond, not, _&&_, _||_, false≢true}
-use mathlib.Core.List.{List, [], _∷_, _++_, append-nil, append-assoc}
+use mathlib.Core.List.{List, [], _∷_, _++_, append-nil}
 use Prim.Native.Nat.{ℕ, zero, suc, _+_, _-_, _*_, _/_, _%_, _≤_, _<_}
 use native.Mathlib.Numerals.{add-one}
 use native.Mathlib.Omega.{arith}
-use borrow.Author.Tests.{eq-eqb, ne-eqb, eqb-true, eqb-false, leb-true, ltb-true, ltb-false, not-true}
+use borrow.Author.Tests.{eqb-true, eqb-false, leb-true, ltb-true, not-true}
 use lib.Dec.{eqb, leb, ltb}
-use lib.ListN.{length, getD, take, drop, take-append-drop, length-drop, length-take}
-use lib.Seq.{length-take-le, take-suc, drop-cons}
-use Rattle.model.specs.Said.{gave, after}
+use lib.ListN.{length, getD, take, drop, take-append-drop, length-drop}
+use lib.Seq.{length-take-le, take-suc}
 use Rattle.model.specs.Block.{Block, writtenBlock}
-use Rattle.model.specs.Packet.{Packet, packetLength, packetHeader, readPacket, writtenBlocks, writtenPacket, fill, blocksLength, allCarriable, carriable}
-use Rattle.model.specs.Mux.{started}
+use Rattle.model.specs.Packet.{Packet, packetLength, packetHeader, writtenBlocks, writtenPacket, fill, blocksLength, allCarriable}
 use Rattle.model.proofs.Cases.{by-test, both, and-both}
 use Rattle.model.proofs.Blocks.{Carriable, facts-carriable, written-short, written-long}
-use Rattle.model.proofs.Packets.{Valid, Shape, shape, blocks-length, length-some, plain-back}
-use Rattle.model.proofs.Sends.{triples-written}
+use Rattle.model.proofs.Packets.{Valid, blocks-length, length-some}
 use Rattle.slots.specs.Slot.{writtenLength, writtenBytes, writtenSlot}
 use Rattle.slots.specs.Walk.{blockSpan, wholeBlocks, framedSlot, walkedSlot}
 use Rattle.slots.proofs.Written.{facts-written}

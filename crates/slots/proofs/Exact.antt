@@ -1,8 +1,8 @@
 -- The walk over a slot passes exactly the written packets. Assumes nothing.
 use mathlib.Core.Path.{_≡_, refl, sym, ap, _∙_}
-use mathlib.Core.Bool.{Bool, true, false, true≢false}
+use mathlib.Core.Bool.{Bool, true, false}
 use mathlib.Core.List.{List, _++_}
-use lib.ListN.{take, drop, take-append-drop}
+use lib.ListN.{drop, take-append-drop}
 use Rattle.model.specs.Packet.{writtenPacket}
 use Rattle.slots.specs.Slot.{writtenLength, writtenBytes, slotPacket, writtenSlot}
 use Rattle.slots.specs.Walk.{walkedSlot}

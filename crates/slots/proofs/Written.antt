@@ -1,18 +1,18 @@
 -- What a slot that is a written packet holds, and what makes one. Assumes nothing.
 use mathlib.Core.Path.{_≡_, refl, sym, ap, _∙_}
-use mathlib.Core.Bool.{Bool, true, false, _&&_, false≢true}
+use mathlib.Core.Bool.{true, false, false≢true}
 use mathlib.Core.List.{List, [], _∷_}
-use Prim.Native.Nat.{ℕ, _+_, _*_, _/_, _%_, _≤_}
+use Prim.Native.Nat.{ℕ, _+_, _*_, _/_, _≤_}
 use native.Mathlib.Omega.{arith}
 use borrow.Author.Tests.{eq-eqb, eqb-true, le-leb, leb-true}
-use lib.Dec.{eqb, leb}
+use lib.Dec.{eqb}
 use lib.ListN.{length}
 use Rattle.model.specs.Packet.{Packet, packetLength, writtenPacket, validPacket}
 use Rattle.model.specs.Mux.{storable, started}
 use Rattle.model.proofs.Cases.{both, and-both}
 use Rattle.model.proofs.Packets.{Valid, valid-facts, facts-valid, Shape, shape, plain-back}
 use Rattle.model.proofs.Sends.{triples-written}
-use Rattle.slots.specs.Slot.{writtenLength, writtenBytes, slotPacket, same, writtenSlot}
+use Rattle.slots.specs.Slot.{writtenBytes, slotPacket, same, writtenSlot}
 use Rattle.slots.specs.Walk.{Carries}
 use Rattle.slots.specs.declared.Slot.{Slot}
 

@@ -1,19 +1,18 @@
 -- What the flat bytes of a queue are in the model: a pair pushed stands last, a pair popped stood first. Assumes nothing.
 use mathlib.Core.Path.{_≡_, refl, sym, ap, _∙_}
-use mathlib.Core.Bool.{Bool, true, false, cond, not, _&&_}
+use mathlib.Core.Bool.{Bool, true, false}
 use mathlib.Core.List.{List, [], _∷_, _++_, append-assoc}
 use Prim.Native.Nat.{ℕ, zero, suc, _+_, _-_, _*_, _/_, _%_, _≤_, _<_}
 use native.Mathlib.Nat.{add-comm, zero-add}
 use native.Mathlib.Numerals.{add-one}
 use native.Mathlib.Omega.{arith}
-use borrow.Author.Tests.{le-ltb, lt-ltb, le-leb, lt-leb, ltb-true, ltb-false}
-use lib.Dec.{leb, ltb}
-use lib.ListN.{length, take, drop, getD, set, length-set, length-append, length-take, length-drop, take-append-drop}
-use lib.Seq.{drop-cons, take-suc, getD-append-add, getD-drop, set-at, length-take-le, take-at, drop-drop, sets, sets-eq, length-sets}
-use Rattle.model.specs.Said.{Said, Outcome, gave, refused, after, says, mapped, checked, badValue, full, accepted}
+use borrow.Author.Tests.{le-leb, lt-leb}
+use lib.Dec.{leb}
+use lib.ListN.{length, take, drop, getD, set, length-append, length-drop, take-append-drop}
+use lib.Seq.{drop-cons, take-suc, getD-append-add, getD-drop, set-at, length-take-le, take-at, sets, sets-eq, length-sets}
+use Rattle.model.specs.Said.{Said, Outcome, after, says, mapped, checked, badValue, full, accepted}
 use Rattle.model.specs.Frame.{Pair, pair}
 use Rattle.model.specs.Mux.{isNull, pushPair, queued, mostQueued}
-use Rattle.model.proofs.Cases.{by-test, by-cond, both}
 use Rattle.service.proofs.Runs.{sets-append, sets-front}
 use Rattle.turns.specs.Queue.{pairsOf, queueOf, pairBytes, queueOver}
 use Rattle.turns.specs.Step.{slid, pushed, popped, poppedTimes, downTo}

@@ -1,23 +1,21 @@
 -- The turns: what a turn does to the queues and the frame is what the model's turn does. Assumes nothing.
-use mathlib.Core.Path.{_≡_, refl, sym, ap, _∙_}
-use mathlib.Core.Bool.{Bool, true, false, cond, not, _&&_}
-use mathlib.Core.List.{List, [], _∷_, _++_, append-nil}
-use Prim.Native.Nat.{ℕ, zero, suc, _+_, _-_, _*_, _≤_, _<_}
-use native.Mathlib.Nat.{add-zero, add-assoc}
-use native.Mathlib.Numerals.{add-one}
+use mathlib.Core.Path.{_≡_, refl, _∙_}
+use mathlib.Core.Bool.{Bool, true, false, cond, not}
+use mathlib.Core.List.{List, [], _∷_, _++_}
+use Prim.Native.Nat.{ℕ, zero, suc, _-_, _*_, _≤_, _<_}
+use native.Mathlib.Nat.{add-zero}
 use native.Mathlib.Omega.{arith}
-use borrow.Author.Tests.{ltb-true, ltb-false, leb-true, le-leb, lt-leb, le-ltb, lt-ltb}
-use lib.Dec.{leb, ltb}
-use lib.ListN.{length, drop, getD, set, length-append}
+use borrow.Author.Tests.{ltb-true, ltb-false, le-leb, lt-leb}
+use lib.Dec.{ltb}
+use lib.ListN.{length, drop}
 use Rattle.model.specs.Frame.{Pair, pair, Triple, tri, flat}
-use Rattle.model.specs.Mux.{Turned, turn1, turn2, mostQueued}
-use Rattle.model.proofs.Cases.{by-test, by-cond, both}
+use Rattle.model.specs.Mux.{Turned, turn1, turn2}
+use Rattle.model.proofs.Cases.{by-test, by-cond}
 use Rattle.model.proofs.Frames.{flat-length}
-use Rattle.frames.specs.Frame.{appended}
 use Rattle.frames.proofs.Stores.{appended-flat}
-use Rattle.turns.specs.Queue.{queueOf, queueOver}
+use Rattle.turns.specs.Queue.{queueOf}
 use Rattle.turns.specs.Turn.{fits, taken, turnsFrom, takenFrom}
-use Rattle.turns.specs.Step.{popped, poppedTimes, downTo, Fits, rest, under, triple1, triple2, sent1, sent2, stepped, laidOver}
+use Rattle.turns.specs.Step.{popped, poppedTimes, downTo, Fits, rest, triple1, triple2, sent1, sent2, stepped, laidOver}
 use Rattle.turns.proofs.Queues.{Sized, queue-none, queue-some, queue-length, queue-back, sized-popped, count-times}
 use Rattle.turns.specs.declared.PairQueue.{PairQueue}
 use Rattle.turns.specs.declared.Turns.{Turns}

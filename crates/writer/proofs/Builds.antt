@@ -1,34 +1,30 @@
 -- A frame that is built is the model's frame, and the state after it is what the model leaves. Assumes nothing.
 use mathlib.Core.Path.{_≡_, refl, sym, ap, _∙_}
-use mathlib.Core.Bool.{Bool, true, false, cond, not}
-use mathlib.Core.List.{List, [], _∷_, _++_, append-assoc}
-use Prim.Native.Nat.{ℕ, zero, suc, _+_, _-_, _*_, _/_, _%_, _≤_, _<_, min, max}
+use mathlib.Core.Bool.{true, cond}
+use mathlib.Core.List.{List, [], _++_, append-assoc}
+use Prim.Native.Nat.{ℕ, _+_, _-_, _*_, _%_, _≤_, min}
 use native.Mathlib.Omega.{arith}
-use lib.ListN.{length, take, drop, replicate, length-append, length-map}
-use lib.Seq.{length-take-le}
-use Rattle.model.specs.Packet.{Packet}
-use Rattle.model.specs.Frame.{Triple, tri, Pair, flat}
+use lib.ListN.{length, take}
+use Rattle.model.specs.Frame.{Triple, flat}
 use Rattle.model.specs.Rate.{Budgets}
-use Rattle.model.specs.Mux.{Mux, Turned, turn1, turn2, turned, turnsDue, countDue, triplesQueued, Sent, send, padding, framed, writeFrame, validMux}
+use Rattle.model.specs.Mux.{Mux, Turned, turned, turnsDue, countDue, triplesQueued, Sent, padding, framed, writeFrame, validMux}
 use Rattle.model.proofs.Cases.{by-cond}
 use Rattle.model.proofs.Frames.{flat-length}
 use Rattle.model.proofs.MuxStates.{write-valid}
 use Rattle.frames.specs.Frame.{headed, appended, fillers}
 use Rattle.frames.proofs.Stores.{appended-flat}
-use Rattle.turns.specs.Queue.{queueOf}
 use Rattle.turns.specs.Turn.{fits, taken, turnsFrom, takenFrom}
-use Rattle.turns.specs.Step.{Fits}
-use Rattle.slots.specs.Slot.{slotPacket, writtenBytes}
+use Rattle.slots.specs.Slot.{writtenBytes}
 use Rattle.writer.specs.Writer.{packetsOf, leftFrom, means, moved}
 use Rattle.writer.specs.Sending.{stands, sentFrom}
 use Rattle.writer.specs.Making.{Ok, madeOf, joined, laid, Builds, turnsOf, triplesIn, padded, filled, startOf, turnsOn, Room}
-use Rattle.turns.proofs.Queues.{Sized, queue-length}
+use Rattle.turns.proofs.Queues.{queue-length}
 use Rattle.turns.proofs.Steps.{Leaves, leaves1, leaves2, fit}
 use Rattle.frames.specs.declared.Frame.{Frame}
 use Rattle.turns.specs.declared.Turns.{Turns}
 use Rattle.writer.proofs.Valid.{Shaped, Order}
 use Rattle.writer.proofs.Moved as moved
-use Rattle.writer.proofs.Fills.{send-few, sent-next, sent-slot}
+use Rattle.writer.proofs.Fills.{sent-next, sent-slot}
 use Rattle.writer.specs.declared.Sending.{Sending}
 use Rattle.writer.specs.declared.CCDataWriter.{CCDataWriter}
 use Rattle.writer.specs.declared.Made.{Made}

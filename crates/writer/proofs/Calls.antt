@@ -1,14 +1,14 @@
 -- One law for each way out of a call. Assumes nothing.
 use mathlib.Core.Path.{_≡_, refl, sym, ap, _∙_}
-use mathlib.Core.Bool.{Bool, true, false, cond, not, _&&_, _||_}
+use mathlib.Core.Bool.{Bool, true, false, cond, _||_}
 use mathlib.Core.List.{List, [], _∷_, _++_}
-use Prim.Native.Nat.{ℕ, zero, suc, _+_, _-_, _*_, _≤_, _<_}
+use Prim.Native.Nat.{ℕ, _+_, _-_, _*_, _≤_, _<_}
 use native.Mathlib.Omega.{arith}
 use borrow.Author.Tests.{lt-ltb, le-ltb, le-leb}
 use lib.Dec.{eqb, leb, ltb}
-use lib.ListN.{length, take, drop, replicate, take-append-drop, length-append, length-take, length-replicate}
-use lib.Seq.{sets, sets-eq, take-at}
-use Rattle.model.specs.Said.{Said, Outcome, gave, refused, accepted, says, saysWith, after, checked, measured, mapped, putInto, badValue, badRate, outShort}
+use lib.ListN.{length, take, drop, replicate, take-append-drop, length-append, length-replicate}
+use lib.Seq.{sets-eq, take-at}
+use Rattle.model.specs.Said.{Outcome, gave, refused, accepted, says, saysWith, after, checked, measured, mapped, putInto, badValue, badRate}
 use Rattle.model.specs.Frame as model
 use Rattle.model.specs.Frame.{Cea608, field1, field2, Pair, pair, Triple, tri, flat, frameBytes}
 use Rattle.model.specs.Rate.{Budgets, pairsAt, triplesAt, mostTriples, budgets}
@@ -16,10 +16,9 @@ use Rattle.model.specs.Mux.{Mux, Turned, turned, turnsDue, countDue, Sent, send
 use Rattle.model.specs.Duration.{pairsDuration, bytesDuration, lengthsOf, bytesLeft, field1Duration, field2Duration, packetDuration}
 use Rattle.model.proofs.Cases.{by-cond, Gives}
 use Rattle.model.proofs.Frames.{flat-length, frame-length}
-use Rattle.model.proofs.Rates.{Sane, accepted-sane}
-use Rattle.caption.specs.Answers.{saidRefusal, saidAnswer, saidCounted}
-use Rattle.caption.specs.Rates.{saidBudgets, pairsThenTriples, budgetsOf}
-use Rattle.caption.specs.Pairs.{cea608Of}
+use Rattle.model.proofs.Rates.{accepted-sane}
+use Rattle.caption.specs.Answers.{saidRefusal, saidAnswer}
+use Rattle.caption.specs.Rates.{saidBudgets, pairsThenTriples}
 use Rattle.caption.proofs.Rates.{budgets-meant}
 use Rattle.caption.specs.declared.Answer.{Answer}
 use Rattle.caption.specs.declared.Answer.the-variants as answer
@@ -29,12 +28,12 @@ use Rattle.caption.specs.declared.Cea608.the-variants.{Field1, Field2}
 use Rattle.caption.specs.declared.Framerate.{Framerate}
 use Rattle.caption.specs.declared.Budgets as caption
 use Rattle.caption.specs.declared.Budgets.the-variants.{Of, BadRate as NoBudgets}
-use Rattle.frames.specs.Frame.{headed, appended, emitted}
+use Rattle.frames.specs.Frame.{headed, emitted}
 use Rattle.frames.proofs.Stores.{emitted-whole}
 use Rattle.turns.specs.Queue.{queueOf, queueOver}
 use Rattle.turns.specs.Step.{slid}
 use Rattle.slots.specs.Slot.{writtenBytes}
-use Rattle.writer.specs.Writer.{packetsOf, leftFrom, means, validWriter, stored, emptied, moved}
+use Rattle.writer.specs.Writer.{packetsOf, leftFrom, means, validWriter, stored, emptied}
 use Rattle.writer.specs.Calls.{Answers, budgetsAt, frameLength, written, Writes}
 use Rattle.writer.specs.Making.{Ok, laid, unmadeOf, joined, Builds, withPadding, withFields, pairOutcome, Makes}
 use Rattle.turns.proofs.Queues.{queue-length}
@@ -48,7 +47,6 @@ use Rattle.writer.proofs.Valid.{Shaped, Order, valid-order, valid-ok, v
 use Rattle.writer.proofs.Builds.{leaves, count-most, count-least, means-frame}
 use Rattle.writer.proofs.Stored.{Grows, grows-pads, grows-pair, stored-pads, stored-first, stored-second, means-stored, means-emptied}
 use Rattle.writer.specs.declared.CCDataWriter.{CCDataWriter}
-use Rattle.writer.specs.declared.WriterAnswer.{WriterAnswer}
 use Rattle.writer.specs.declared.Made.{Made}
 
 -- an answer, by what it says and where the state stands, if the places of what the model gives mean it

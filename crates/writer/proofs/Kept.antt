@@ -2,7 +2,6 @@
 -- state. Assumes nothing.
 use mathlib.Core.Path.{_≡_, refl, sym, ap, _∙_}
 use mathlib.Core.Bool.{Bool, true}
-use Rattle.model.specs.Said.{Outcome, gave, refused, after, checked, mapped}
 use Rattle.model.specs.Rate.{Budgets}
 use Rattle.model.specs.Mux.{Mux, validMux, withPads, writeFrame, flushMux}
 use Rattle.model.proofs.Cases.{both, and-both}

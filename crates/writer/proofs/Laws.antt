@@ -1,16 +1,16 @@
 -- The laws of a fresh state, of what durations say, and of a write that is accepted. Assumes nothing.
 use mathlib.Core.Path.{_≡_, refl}
 use mathlib.Core.Bool.{true}
-use mathlib.Core.List.{List}
+use mathlib.Core.List.{List, _++_}
 use mathlib.Mathlib.Logic.Function.Defs.{Injective, LeftInverse, LeftInverse·injective}
 use Prim.Native.Nat.{ℕ, _≤_}
 use native.Mathlib.Omega.{arith}
 use borrow.Author.Tests.{le-ltb}
-use lib.ListN.{length, getD}
-use Rattle.model.specs.Said.{gave, isGiven, putInto}
+use lib.ListN.{length, getD, drop}
+use Rattle.model.specs.Said.{gave, putInto}
 use Rattle.model.specs.Frame.{frameBytes}
 use Rattle.model.specs.Rate.{Budgets, budgets}
-use Rattle.model.specs.Mux.{freshMux, validMux, started, writeFrame, writeAt}
+use Rattle.model.specs.Mux.{freshMux, started, writeFrame, writeAt}
 use Rattle.model.proofs.Frames.{frame-length}
 use Rattle.model.proofs.Rates.{accepted-sane}
 use Rattle.caption.proofs.Answers.{answerOf, refused-again}
@@ -44,8 +44,9 @@ pub means-fresh : means fresh ≡ freshMux
 unfolding means fresh writtenBytes leftFrom started queueOf pairsOf queueOver pairBytes
 means-fresh = refl
 
--- "a write never fails on a valid state at an accepted rate with 95 bytes of room"
-pub write-given : (w : CCDataWriter) → validWriter w ≡ true → (rate : Framerate) (out : List ℕ) {b : Budgets} → budgets (rate .numer) (rate .denom) ≡ gave b → 95 ≤ length out → isGiven (written rate out w) ≡ true
+-- a write of a valid state at an accepted rate, with 95 bytes of room, gives the model's frame
+pub write-given : (w : CCDataWriter) → validWriter w ≡ true → (rate : Framerate) (out : List ℕ) {b : Budgets} → budgets (rate .numer) (rate .denom) ≡ gave b → 95 ≤ length out
+    → written rate out w ≡ (let f = frameBytes (writeFrame b (means w) .frame) in gave (record { out = f ++ drop (length f) out; next = writeFrame b (means w) .next }))
 unfolding written writeAt putInto
 write-given w v rate out {b} e room =
     let s = accepted-sane (rate .numer) (rate .denom) e in

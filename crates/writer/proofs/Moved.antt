@@ -1,25 +1,24 @@
 -- The places of what a frame leaves mean what it leaves in the model, and stay in order. Assumes nothing.
 use mathlib.Core.Path.{_≡_, refl, sym, ap, _∙_}
-use mathlib.Core.Bool.{Bool, true, false, cond, not, _&&_, _||_}
-use mathlib.Core.List.{List, [], _∷_, _++_, map}
-use Prim.Native.Nat.{ℕ, zero, suc, _+_, _-_, _*_, _/_, _%_, _≤_, _<_}
+use mathlib.Core.Bool.{Bool, true, false, _||_}
+use mathlib.Core.List.{List, [], _∷_, map}
+use Prim.Native.Nat.{ℕ, zero, suc, _-_, _*_, _%_, _≤_, _<_}
 use native.Mathlib.Omega.{arith}
 use borrow.Author.Tests.{eq-eqb, ne-eqb, eqb-true, eqb-false, le-leb, lt-leb}
 use lib.Dec.{eqb, leb}
 use lib.ListN.{length, take, drop, getD}
-use lib.Seq.{sets, take-nil, length-take-le, getD-take, getD-drop, length-sets}
+use lib.Seq.{sets, take-nil, length-take-le, getD-take, length-sets}
 use Rattle.model.specs.Mux.{Mux, Sent, send, validMux}
 use Rattle.model.proofs.Cases.{by-test, by-cond, both}
 use Rattle.model.proofs.MuxStates.{mux-facts}
 use Rattle.turns.specs.Step.{slid}
-use Rattle.turns.specs.Queue.{queueOver}
 use Rattle.turns.proofs.Queues.{slid-front, slid-length, slid-over, over-queue, over-sized}
 use Rattle.turns.proofs.Steps.{not-not}
 use Rattle.slots.specs.Slot.{noSlot, writtenLength, writtenBytes, slotPacket, writtenSlot}
 use Rattle.slots.specs.declared.Slot.{Slot}
 use Rattle.queues.specs.Written.{allWritten, validSending}
 use Rattle.writer.specs.Writer.{packetsOf, leftFrom, means, laidIn, moved}
-use Rattle.writer.specs.Sending.{Queued, begun, restedSlot, restedSent}
+use Rattle.writer.specs.Sending.{begun, restedSlot, restedSent}
 use Rattle.writer.specs.Making.{Ok}
 use Rattle.writer.proofs.Ends.{Tail, Ends, ends, rested-left}
 use Rattle.writer.proofs.Valid.{Shaped, Order, all-each}
@@ -51,7 +50,7 @@ or-right true b e = refl
 or-right false b e = e
 
 -- the slot begun last, by its place
-begun-at : (l : List Slot) (slot : Slot) (n : ℕ) → getD (slot ∷ l) n noSlot ≡ begun l slot 0 n
+pub begun-at : (l : List Slot) (slot : Slot) (n : ℕ) → getD (slot ∷ l) n noSlot ≡ begun l slot 0 n
 begun-at l slot zero = refl
 begun-at l slot (suc n) = let e : suc n - 1 ≡ n = omega arith in rw (ne-eqb (suc n) 0 (λ z. omega arith), e)
 

@@ -1,20 +1,18 @@
 -- A packet that is pushed: one law for each way out, and what its slot is in the model. Assumes nothing.
 use mathlib.Core.Path.{_≡_, refl, sym, ap, _∙_}
-use mathlib.Core.Bool.{Bool, true, false, cond, not, _&&_, false≢true}
-use mathlib.Core.List.{List, [], _∷_, _++_, map}
-use Prim.Native.Nat.{ℕ, zero, suc, _+_, _-_, _*_, _/_, _%_, _≤_, _<_}
-use native.Mathlib.Numerals.{add-one}
+use mathlib.Core.Bool.{Bool, true, false, false≢true}
+use mathlib.Core.List.{List, [], _∷_, _++_}
+use Prim.Native.Nat.{ℕ, _+_, _≤_}
 use native.Mathlib.Omega.{arith}
 use borrow.Author.Tests.{eq-eqb, ne-eqb, eqb-true, eqb-false, le-leb, lt-leb, le-ltb}
 use lib.Dec.{eqb, leb, ltb}
-use lib.ListN.{length, take, drop, set, replicate, length-map, length-replicate}
-use lib.Seq.{take-at, take-suc-set, length-take-le}
-use Rattle.model.specs.Said.{Said, Outcome, gave, refused, accepted, after, checked, measured, mapped, saysWith, putInto, badValue}
-use Rattle.model.specs.Packet.{Packet, packetLength, writtenPacket, readPacket}
+use lib.ListN.{length, drop, set, replicate}
+use Rattle.model.specs.Said.{gave, measured, putInto}
+use Rattle.model.specs.Packet.{Packet, packetLength, writtenPacket}
 use Rattle.model.specs.Mux.{Mux, withPackets, pushPacket, queued}
 use Rattle.model.proofs.Cases.{by-test, gives-at}
 use Rattle.model.proofs.Packets.{facts-valid, Shape, shape, length-some, length-empty}
-use Rattle.caption.specs.Answers.{saidRefusal, saidCounted}
+use Rattle.caption.specs.Answers.{saidCounted}
 use Rattle.caption.proofs.Answers.{saidCounted-injective}
 use Rattle.caption.specs.declared.Counted.{Counted}
 use Rattle.caption.specs.declared.Counted.the-variants as counted
@@ -24,9 +22,8 @@ use Rattle.caption.specs.declared.Refusal.{Refusal}
 use Rattle.caption.specs.declared.Refusal.the-variants.{BadValue, Full}
 use Rattle.service.specs.Service.{Writes}
 use Rattle.packet.specs.Packet.{packetOf, validDTVCC}
-use Rattle.packet.proofs.Holds.{Places, Within, within-facts, held-valid}
+use Rattle.packet.proofs.Holds.{Places, within-facts, held-valid}
 use Rattle.packet.specs.declared.DTVCCPacket.{DTVCCPacket}
-use Rattle.slots.specs.Slot.{writtenLength, writtenBytes, slotPacket}
 use Rattle.writer.specs.Writer.{means, validWriter, slotOf, stored}
 use Rattle.writer.specs.Calls.{Answers}
 use Rattle.writer.specs.Making as making

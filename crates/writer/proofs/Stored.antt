@@ -1,17 +1,17 @@
 -- The places of what a switch, a push or a flush leaves mean what it leaves in the model, and stay in order. Assumes nothing.
 use mathlib.Core.Path.{_≡_, refl, sym, ap, _∙_}
-use mathlib.Core.Bool.{Bool, true, false, cond, not, _&&_}
+use mathlib.Core.Bool.{Bool, true}
 use mathlib.Core.List.{List, [], _∷_, _++_, map, append-nil}
-use Prim.Native.Nat.{ℕ, _+_, _-_, _*_, _/_, _%_, _≤_, _<_}
+use Prim.Native.Nat.{ℕ, _+_, _%_, _≤_}
 use native.Mathlib.Omega.{arith}
-use borrow.Author.Tests.{eqb-false, leb-true}
+use borrow.Author.Tests.{leb-true}
 use lib.Dec.{eqb, leb}
 use lib.ListN.{length, take, drop, set, replicate, length-map, length-append, drop-of-length-le}
 use lib.Seq.{sets, sets-eq, length-sets, take-at, drop-at, length-take-le}
 use Rattle.model.specs.Said.{gave, refused, mapped}
 use Rattle.model.specs.Packet.{Packet, packetLength, writtenPacket, validPacket, allPackets}
 use Rattle.model.specs.Frame.{Pair, Cea608, field1, field2}
-use Rattle.model.specs.Mux.{Mux, freshMux, withPads, withQueues, withPackets, flushMux, storable, validMux, queued, pushPacket, pushPair, pushCea608, mostPackets, started}
+use Rattle.model.specs.Mux.{Mux, withPads, withQueues, withPackets, flushMux, storable, validMux, queued, pushPacket, pushPair, pushCea608, mostPackets, started}
 use Rattle.model.proofs.Cases.{by-test, both, and-both, Gives}
 use Rattle.model.proofs.Packets.{Valid, valid-facts, Shape, shape}
 use Rattle.model.proofs.MuxStates.{MuxLimits, mux-facts, pads-valid, push608-valid, push-valid}

@@ -1,7 +1,7 @@
 -- How a frame is made and a packet stored, part by part. No public contract reaches this file. Document 01, "Writing frames". Assumes nothing.
 use mathlib.Core.Path.{_≡_}
-use mathlib.Core.Bool.{Bool, true, false, cond, not, _&&_}
-use mathlib.Core.List.{List, [], _∷_}
+use mathlib.Core.Bool.{Bool, true, false, cond, _&&_}
+use mathlib.Core.List.{List, []}
 use Prim.Native.Nat.{ℕ, _+_, _-_, _*_, _/_, _%_, _≤_, _<_, min, max}
 use lib.ListN.{length, set, replicate}
 use Rattle.model.specs.Said.{Outcome, checked}

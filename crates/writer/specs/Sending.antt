@@ -1,14 +1,13 @@
 -- The packet triples of a frame, slot by slot. No public contract reaches this file. Document 01, "Writing frames". Assumes nothing.
 use mathlib.Core.Path.{_≡_}
-use mathlib.Core.Bool.{Bool, cond}
-use mathlib.Core.List.{List, [], _∷_}
+use mathlib.Core.Bool.{cond}
+use mathlib.Core.List.{List}
 use Prim.Native.Nat.{ℕ, _+_, _-_, _*_, _/_, _%_, _≤_, _<_, min}
 use lib.Dec.{eqb, leb}
-use lib.ListN.{length, getD, take, drop, replicate}
-use Rattle.model.specs.Frame.{Triple, tri, flat}
+use lib.ListN.{length, getD, take, drop}
+use Rattle.model.specs.Frame.{flat}
 use Rattle.model.specs.Mux.{Sent, send}
 use Rattle.frames.specs.Frame.{appended}
-use Rattle.frames.specs.declared.Frame.{Frame}
 use Rattle.slots.specs.Slot.{noSlot, writtenLength, writtenBytes}
 use Rattle.slots.specs.Walk.{Carries}
 use Rattle.writer.specs.Writer.{packetsOf, leftFrom}

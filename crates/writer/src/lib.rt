@@ -14,8 +14,7 @@ use turns::PairQueue;
 use turns::Turns;
 ghost use mathlib.Core.Path.{_≡_};
 ghost use mathlib.Core.Bool.{true, false, cond, _&&_};
-ghost use mathlib.Core.List.{[], _∷_, _++_};
-ghost use Prim.Native.Nat.{ℕ, _+_, _-_, _*_, _/_, _%_, _≤_, _<_, min, max};
+ghost use Prim.Native.Nat.{_+_, _-_, _*_, _/_, _%_, _≤_, _<_, min, max};
 ghost use lib.ListN.{length, take};
 ghost use Rattle.model.specs.Said.{gave, measured, checked};
 ghost use Rattle.model.specs.Mux.{freshMux, withPads, flushMux, triplesQueued, pushPacket, pushCea608};
@@ -680,20 +679,18 @@ impl CCDataWriter {
         let sending = made.slot;
         let field1 = made.field1;
         let field2 = made.field2;
-        WriterCount {
-            answer,
-            writer: CCDataWriter {
-                output_cea608_padding: self.output_cea608_padding,
-                output_padding: self.output_padding,
-                packet_count: count,
-                packets,
-                sending,
-                sent: made.sent,
-                field1,
-                field2,
-                field2_next: made.field2_next,
-            },
-        }
+        let writer = CCDataWriter {
+            output_cea608_padding: self.output_cea608_padding,
+            output_padding: self.output_padding,
+            packet_count: count,
+            packets,
+            sending,
+            sent: made.sent,
+            field1,
+            field2,
+            field2_next: made.field2_next,
+        };
+        WriterCount { answer, writer }
     }
 }
 
@@ -723,8 +720,16 @@ fn bytes_left(packets: [Slot; 16], count: usize, slot: Slot, sent: usize) -> usi
     let mut i: usize = 0;
     while i < count {
         let s = packets[i];
-        sum += s.len;
+        sum += length_in(s);
         i += 1;
     }
     sum
+}
+
+// The length of the packet in a slot.
+fn length_in(held: Slot) -> usize
+    requires { ⌜ held .len ≤ 128 ⌝ }
+    ensures { λ r. ⌜ r ≡ held .len ⌝ }
+{
+    held.len
 }

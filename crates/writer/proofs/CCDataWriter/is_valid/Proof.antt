@@ -1,4 +1,5 @@
 -- `writer::CCDataWriter::is_valid` meets its contract: one law of `Valid` for each way out. Assumes nothing.
+use native.Mathlib.Omega.{arith}
 use Rattle.writer.proofs.Valid.{over-first, over-second, by-slots}
 use Rattle.queues.proofs.Written.{length-mapped}
 use borrow.Author.Needs.{needs}
@@ -9,7 +10,7 @@ use Rattle.writer.proofs.CCDataWriter.is_valid.Lts as lts
 use Rattle.queues.proofs.slots_written.Reads as slots-written-reads
 
 returns : tie.Need-returns
-returns c = let s = c .before .before .before .before .before in over-first (s .args .self) (record { packets = search (needs, length-mapped, s .good); first = search needs; second = search needs }) (c .if1 .taken)
+returns c = let s = c .before .before .before .before .before in over-first (s .args .self) (record { packets = search (needs, length-mapped, s .good); first = search needs; second = search needs }) (omega (arith, c .if1 .taken))
 
 returns-2 : tie.Need-returns-2
 returns-2 c = let s = c .before .before .before .before .before .before .before in over-second (s .args .self) (record { packets = search (needs, length-mapped, s .good); first = search needs; second = search needs }) (c .before .before .if1 .left) (c .if2 .taken)

@@ -1,8 +1,6 @@
 -- `writer::CCDataWriter::make` meets its contract: one law of `Calls` for each way out. Assumes nothing.
-use mathlib.Core.Path.{_≡_, refl, sym, _∙_}
-use mathlib.Core.Bool.{true}
+use mathlib.Core.Path.{sym, _∙_}
 use mathlib.Core.List.{[]}
-use native.Mathlib.Omega.{arith}
 use Rattle.queues.proofs.Written.{length-mapped}
 use Rattle.writer.proofs.Valid.{Shaped, valid-ok}
 use Rattle.writer.proofs.Calls.{sane, wrote-rate, wrote-short, wrote-done, wrote-value, unmade-makes}

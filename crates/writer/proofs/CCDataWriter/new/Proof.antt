@@ -3,7 +3,6 @@ use mathlib.Core.Path.{refl}
 use Rattle.turns.specs.Queue.{pairBytes, queueOver}
 use Rattle.writer.specs.Writer.{fresh}
 use Rattle.writer.proofs.Laws.{means-fresh}
-use borrow.Author.Needs.{needs}
 use Rattle.writer.proofs.CCDataWriter.new.Statement.{statement}
 use Rattle.writer.proofs.CCDataWriter.new.Tie as tie
 use Rattle.writer.proofs.CCDataWriter.new.Reads as reads

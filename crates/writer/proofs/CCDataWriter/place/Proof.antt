@@ -1,5 +1,5 @@
 -- `writer::CCDataWriter::place` meets its contract: one law of `Packs` for each way out. Assumes nothing.
-use mathlib.Core.Path.{_≡_, refl, sym, _∙_}
+use mathlib.Core.Path.{sym, _∙_}
 use mathlib.Core.Bool.{true, false, false≢true}
 use native.Mathlib.Omega.{arith}
 use Rattle.packet.proofs.Holds.{Places}

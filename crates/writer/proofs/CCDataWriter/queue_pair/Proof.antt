@@ -1,6 +1,4 @@
 -- `writer::CCDataWriter::queue_pair` meets its contract: one law of `Calls` for each way out. Assumes nothing.
-use mathlib.Core.Path.{_≡_, refl, sym, _∙_}
-use mathlib.Core.Bool.{true}
 use Rattle.queues.proofs.Written.{length-mapped}
 use Rattle.writer.proofs.Valid.{Shaped}
 use Rattle.writer.proofs.Calls.{pushed-first, pushed-second, refused-value}
