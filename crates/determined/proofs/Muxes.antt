@@ -7,7 +7,7 @@ use Rattle.packet.specs.Packet as packet
 use Rattle.parser.specs.declared.CCDataParser.{CCDataParser}
 use Rattle.parser.specs.Fresh as parser
 use Rattle.writer.specs.declared.CCDataWriter.{CCDataWriter}
-use Rattle.writer.specs.Calls as writer
+use Rattle.writer.specs.Writer as writer
 use Rattle.parts.specs.declared.Machine.{Machine}
 use Rattle.muxes.proofs.on_parser.Reads as on_parser
 use Rattle.muxes.proofs.on_writer.Reads as on_writer

@@ -8,7 +8,7 @@ use Rattle.service.specs.declared.Service.{Service}
 use Rattle.packet.specs.declared.DTVCCPacket.{DTVCCPacket}
 use Rattle.packet.specs.Packet as packet
 use Rattle.parser.specs.Fresh as parser
-use Rattle.writer.specs.Calls as writer
+use Rattle.writer.specs.Writer as writer
 use Rattle.answers.specs.Steps.{Effect, Did}
 use Rattle.parts.specs.declared.Machine.{Machine}
 use Rattle.parts.proofs.on_block.Reads as on_block

@@ -3,16 +3,16 @@
 ghost use mathlib.Core.Path.{_≡_};
 ghost use mathlib.Core.Bool.{_&&_};
 ghost use Rattle.model.specs.Said.{gave, checked, mapped, after};
-ghost use Rattle.model.specs.Mux.{pushPacket, pushCea608};
+ghost use Rattle.model.specs.Mux.{withPads, flushMux, pushPacket, pushCea608};
 ghost use Rattle.caption.specs.Answers.{saidAnswer};
 ghost use Rattle.caption.specs.Pairs.{cea608Of};
 ghost use Rattle.packet.specs.Packet.{packetOf, validDTVCC};
 ghost use Rattle.parser.specs.Fresh.{fresh as freshParser};
 ghost use Rattle.parser.specs.Calls.{saidPush, saidCall, afterCall, turnedOn, pushed as pushedFrame};
-ghost use Rattle.writer.specs.Calls.{fresh as freshWriter, withPadding, flushed, pushedPacket, pushedTo, written};
-ghost use Rattle.writer.specs.Writer.{means, validWriter};
-ghost use Rattle.answers.specs.Steps.{Did, tells, changes, becomes};
-ghost use Rattle.machines.specs.Counts.{withCounts, withQueued, draws, wrote};
+ghost use Rattle.writer.specs.Writer.{means, validWriter, fresh as freshWriter, stored, emptied};
+ghost use Rattle.writer.specs.Calls.{written};
+ghost use Rattle.answers.specs.Steps.{Did, tells, becomes};
+ghost use Rattle.machines.specs.Counts.{withCounts, withQueued, draws, called, wrote};
 use caption::Cea608;
 use caption::Framerate;
 use packet::DTVCCPacket;
@@ -122,7 +122,7 @@ pub fn switch(
     cea608_padding: bool,
     padding: bool,
 ) -> OnWriter
-    ensures { λ r. ⌜ Did (changes before (checked (validWriter before) (gave (withPadding «cea608_padding» padding before)))) (now (out .entry)) at (r .laid) (r .writer) (now (out .exit)) ⌝ }
+    ensures { λ r. ⌜ Did (called (stored before) before (checked (validWriter before) (gave (withPads «cea608_padding» padding (means before))))) (now (out .entry)) at (r .laid) (r .writer) (now (out .exit)) ⌝ }
 {
     let first = before.set_output_cea608_padding(cea608_padding);
     let writer = first.writer;
@@ -131,21 +131,21 @@ pub fn switch(
 
 // A packet pushed.
 pub fn push_packet(out: &mut [u8], at: usize, before: CCDataWriter, packet: DTVCCPacket) -> OnWriter
-    ensures { λ r. ⌜ Did (changes before (checked (validWriter before && validDTVCC packet) (mapped (λ _. pushedPacket (packetOf packet) before) (pushPacket (packetOf packet) (means before))))) (now (out .entry)) at (r .laid) (r .writer) (now (out .exit)) ⌝ }
+    ensures { λ r. ⌜ Did (called (stored before) before (checked (validWriter before && validDTVCC packet) (pushPacket (packetOf packet) (means before)))) (now (out .entry)) at (r .laid) (r .writer) (now (out .exit)) ⌝ }
 {
     told_writer(out, at, before.push_packet(packet))
 }
 
 // A pair pushed.
 pub fn push_pair(out: &mut [u8], at: usize, before: CCDataWriter, pair: Cea608) -> OnWriter
-    ensures { λ r. ⌜ Did (changes before (checked (validWriter before) (mapped (λ _. pushedTo pair before) (pushCea608 (cea608Of pair) (means before))))) (now (out .entry)) at (r .laid) (r .writer) (now (out .exit)) ⌝ }
+    ensures { λ r. ⌜ Did (called (stored before) before (checked (validWriter before) (pushCea608 (cea608Of pair) (means before)))) (now (out .entry)) at (r .laid) (r .writer) (now (out .exit)) ⌝ }
 {
     told_writer(out, at, before.push_cea608(pair))
 }
 
 // The multiplexer flushed.
 pub fn flush_writer(out: &mut [u8], at: usize, before: CCDataWriter) -> OnWriter
-    ensures { λ r. ⌜ Did (changes before (checked (validWriter before) (gave (flushed before)))) (now (out .entry)) at (r .laid) (r .writer) (now (out .exit)) ⌝ }
+    ensures { λ r. ⌜ Did (called (emptied before) before (checked (validWriter before) (gave (flushMux (means before))))) (now (out .entry)) at (r .laid) (r .writer) (now (out .exit)) ⌝ }
 {
     told_writer(out, at, before.flush())
 }

@@ -8,7 +8,7 @@ use lib.ListN.{getD, drop}
 use Rattle.model.specs.Said.{gave, checked, mapped}
 use Rattle.model.specs.Block.{newBlock, readBlock, writtenBlock, partIn, pushToBlock}
 use Rattle.model.specs.Packet.{newPacket, readPacket, readTidy, writtenPacket, pushBlock, pushRun, pushRunSingle}
-use Rattle.model.specs.Mux.{pushPacket, pushCea608}
+use Rattle.model.specs.Mux.{withPads, flushMux, pushPacket, pushCea608}
 use Rattle.caption.specs.declared.Cea608.{Cea608}
 use Rattle.caption.specs.declared.Cea608.the-variants.{Field1, Field2}
 use Rattle.caption.specs.Pairs.{cea608Of}
@@ -18,8 +18,8 @@ use Rattle.packet.specs.Packet as packet
 use Rattle.parser.specs.Fresh as parser
 use Rattle.parser.specs.Calls.{saidPush, saidCall, afterCall, turnedOn, pushed as pushedFrame}
 use Rattle.writer.specs.declared.CCDataWriter.{CCDataWriter}
-use Rattle.writer.specs.Calls as writer
-use Rattle.writer.specs.Writer.{means, validWriter}
+use Rattle.writer.specs.Writer as writer
+use Rattle.writer.specs.Writer.{means, validWriter, stored, emptied}
 use Rattle.records.specs.Reading.{highestFirst}
 use Rattle.answers.specs.Script.{answerLine, runLine, blockMeasures, packetMeasures, durations, readBlockLine, readPacketLine}
 use Rattle.answers.specs.Steps.{Effect, tells, changes, lays, makes, reads, becomes}
@@ -56,7 +56,7 @@ byte a k = getD a k 0
 
 -- `1`, `2`: "a pair of field 1, of field 2 pushed into w"
 abbrev pairPushed : Cea608 → CCDataWriter → Effect CCDataWriter
-pairPushed pair w = changes w (checked (validWriter w) (mapped (λ _. writer.pushedTo pair w) (pushCea608 (cea608Of pair) (means w))))
+pairPushed pair w = machines.called (stored w) w (checked (validWriter w) (pushCea608 (cea608Of pair) (means w)))
 
 -- `w`: "one frame written to out L; numer and denom are four bytes each, highest first"
 abbrev pub framed : List ℕ → CCDataWriter → Effect CCDataWriter
@@ -123,21 +123,20 @@ writerRows =
     -- "switches of w: bit 0 the 608 padding, bit 1 the output padding"
     ∷ row "S" (exactly 1)
     (λ m a.
-    onWriter m (changes (m .w) (checked (validWriter (m .w)) (gave (writer.withPadding (eqb (byte a 0 % 2) 1) (eqb (byte a 0 / 2 % 2) 1) (m .w))))))
+    onWriter m (machines.called (stored (m .w)) (m .w) (checked (validWriter (m .w)) (gave (withPads (eqb (byte a 0 % 2) 1) (eqb (byte a 0 / 2 % 2) 1) (means (m .w)))))))
     -- "p pushed into w"
     ∷ row "q" (exactly 0)
     (λ m a.
     onWriter m
-    (changes (m .w)
-    (checked (validWriter (m .w) && packet.validDTVCC (m .p))
-    (mapped (λ _. writer.pushedPacket (packet.packetOf (m .p)) (m .w)) (pushPacket (packet.packetOf (m .p)) (means (m .w)))))))
+    (machines.called (stored (m .w)) (m .w)
+    (checked (validWriter (m .w) && packet.validDTVCC (m .p)) (pushPacket (packet.packetOf (m .p)) (means (m .w))))))
     ∷ row "1" (exactly 2) (λ m a. onWriter m (pairPushed (Field1 (byte a 0) (byte a 1)) (m .w)))
     ∷ row "2" (exactly 2) (λ m a. onWriter m (pairPushed (Field2 (byte a 0) (byte a 1)) (m .w)))
     ∷ row "w" (exactly 9) (λ m a. onWriter m (framed a (m .w)))
     -- "the three durations of w"
     ∷ row "u" (exactly 0) (λ m a. stays m (answerLine (durations (m .w))))
     -- "w flushed"
-    ∷ row "x" (exactly 0) (λ m a. onWriter m (changes (m .w) (checked (validWriter (m .w)) (gave (writer.flushed (m .w))))))
+    ∷ row "x" (exactly 0) (λ m a. onWriter m (machines.called (emptied (m .w)) (m .w) (checked (validWriter (m .w)) (gave (flushMux (means (m .w)))))))
     ∷ []
 
 -- "four operations set raw fields and check nothing (each prints `ok`)": "these two fields of s; its payload bytes stay",

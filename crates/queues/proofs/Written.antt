@@ -11,7 +11,9 @@ use lib.ListN.{length, take, drop, getD, length-map}
 use lib.Seq.{take-take, slice-cons, slice-empty}
 use Rattle.model.proofs.Cases.{by-test, both}
 use Rattle.slots.specs.Slot.{noSlot, writtenLength, writtenSlot}
-use Rattle.queues.specs.Written.{allWritten, writtenIf, sendsWhole, validSending, validSlots}
+use Rattle.slots.proofs.Written.{carried}
+use Rattle.queues.specs.Written.{allWritten, validSending, validSlots}
+use Rattle.queues.specs.Steps.{writtenIf, sendsWhole}
 use Rattle.slots.specs.declared.Slot.{Slot}
 
 -- the length of an array of slots, from what owning it tells
@@ -140,12 +142,13 @@ module _ (x : Bool) (l : List Slot) (n : ℕ) (places : length l ≡ 16) (few : 
 module _ (s : Slot) (sent : ℕ) where
   -- a packet that is too long is none, and of one that is not too much has left
   not-sending : sendsWhole (s .len) sent ≡ false → validSending s sent ≡ false
-  unfolding sendsWhole validSending writtenSlot
+  unfolding sendsWhole validSending
   not-sending e =
       by-test (leb (s .len) 128)
       (λ t. let f : eqb (sent % 2) 0 && leb sent (writtenLength s) ≡ false = rw t at e in rw f (and-false (eqb (s .len) 0 || writtenSlot s)))
-      (λ t. let n : eqb (s .len) 0 ≡ false = ne-eqb (s .len) 0 (λ z. omega (arith, leb-false (s .len) 128 t)) in
-      rw (n, t, and-false (leb 3 (s .len))))
+      (λ t. let over : 128 < s .len = leb-false (s .len) 128 t in
+      let n : eqb (s .len) 0 ≡ false = ne-eqb (s .len) 0 (λ z. omega arith) in
+      by-test (writtenSlot s) (λ k. absurd (omega (arith, carried s k .most))) (λ k. rw (n, k)))
 
   -- the slot decides
   sending-by : sendsWhole (s .len) sent ≡ true → writtenIf (ltb 0 (s .len)) s ≡ validSending s sent

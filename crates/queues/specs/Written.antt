@@ -1,27 +1,19 @@
 -- The slots of a multiplexer that are written packets. Document 01, "Sizes". Assumes nothing.
-use mathlib.Core.Bool.{Bool, true, cond, _&&_, _||_}
+use mathlib.Core.Bool.{Bool, true, _&&_, _||_}
 use mathlib.Core.List.{List, [], _∷_}
-use Prim.Native.Nat.{ℕ, _+_, _%_}
+use Prim.Native.Nat.{ℕ, _%_}
 use lib.Dec.{eqb, leb}
 use lib.ListN.{take}
 use Rattle.model.specs.Mux.{mostPackets}
 use Rattle.slots.specs.Slot.{writtenLength, writtenSlot}
 use Rattle.slots.specs.declared.Slot.{Slot}
 
--- every slot is the written form of a packet that is not empty
+-- every slot is a written packet
 unfoldable pub allWritten : List Slot → Bool
 allWritten [] = true
 allWritten (s ∷ ss) = writtenSlot s && allWritten ss
 
--- a slot is such a form, if it is taken
-abbrev pub writtenIf : Bool → Slot → Bool
-writtenIf taken s = cond taken (writtenSlot s) true
-
--- an even number of a packet's bytes has left, and no more than there are
-unfoldable pub sendsWhole : ℕ → ℕ → Bool
-sendsWhole len sent = leb len 128 && (eqb (sent % 2) 0 && leb sent (len + len % 2))
-
--- a slot that can be the packet being sent, of which `sent` bytes have left; nothing is being sent where its length is 0
+-- a slot that can be the packet being sent, of which `sent` bytes have left, two at a time; nothing is being sent where its length is 0
 unfoldable pub validSending : Slot → ℕ → Bool
 validSending s sent = (eqb (s .len) 0 || writtenSlot s) && (eqb (sent % 2) 0 && leb sent (writtenLength s))
 

@@ -5,7 +5,8 @@ ghost use mathlib.Core.Bool.{_&&_};
 ghost use Prim.Native.Nat.{_≤_};
 ghost use lib.Dec.{ltb};
 ghost use lib.ListN.{take, drop};
-ghost use Rattle.queues.specs.Written.{allWritten, writtenIf, sendsWhole, validSlots};
+ghost use Rattle.queues.specs.Written.{allWritten, validSlots};
+ghost use Rattle.queues.specs.Steps.{writtenIf, sendsWhole};
 
 // The packets that wait, beside the one being sent.
 const MOST_PACKETS: usize = 16;

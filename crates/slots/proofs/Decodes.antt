@@ -1,23 +1,22 @@
--- A slot that passes the test holds the bytes that a packet is written in: the packet that they read as. Assumes nothing.
-use mathlib.Core.Path.{_≡_, refl, sym, ap, _∙_}
+-- A slot that passes the walk is a written packet. Assumes nothing.
+use mathlib.Core.Path.{_≡_, refl, sym, _∙_}
 use mathlib.Core.Bool.{Bool, true, false, cond, not, _&&_, _||_, false≢true}
-use mathlib.Core.List.{List, [], _∷_, _++_, append-nil, append-assoc}
+use mathlib.Core.List.{List, [], _∷_, _++_, append-nil}
 use Prim.Native.Nat.{ℕ, zero, suc, _+_, _-_, _*_, _/_, _%_, _≤_, _<_}
 use native.Mathlib.Numerals.{add-one}
 use native.Mathlib.Omega.{arith}
-use borrow.Author.Tests.{eq-eqb, ne-eqb, eqb-true, eqb-false, leb-true, ltb-true, ltb-false, not-true}
+use borrow.Author.Tests.{eqb-true, eqb-false, leb-true, ltb-true, not-true}
 use lib.Dec.{eqb, leb, ltb}
-use lib.ListN.{length, getD, take, drop, take-append-drop, length-drop, length-take}
-use lib.Seq.{length-take-le, take-suc, drop-cons}
-use Rattle.model.specs.Said.{gave, after}
+use lib.ListN.{length, getD, take, drop, take-append-drop, length-drop}
+use lib.Seq.{length-take-le, take-suc}
 use Rattle.model.specs.Block.{Block, writtenBlock}
-use Rattle.model.specs.Packet.{Packet, packetLength, packetHeader, readPacket, writtenBlocks, writtenPacket, fill, blocksLength, allCarriable, carriable}
-use Rattle.model.specs.Mux.{started}
+use Rattle.model.specs.Packet.{Packet, packetLength, packetHeader, writtenBlocks, writtenPacket, fill, blocksLength, allCarriable}
 use Rattle.model.proofs.Cases.{by-test, both, and-both}
 use Rattle.model.proofs.Blocks.{Carriable, facts-carriable, written-short, written-long}
-use Rattle.model.proofs.Packets.{Valid, Shape, shape, blocks-length, length-some, plain-back}
-use Rattle.model.proofs.Sends.{triples-written}
-use Rattle.slots.specs.Slot.{writtenLength, writtenBytes, slotPacket, blockSpan, wholeBlocks, framedSlot, writtenSlot, Carries}
+use Rattle.model.proofs.Packets.{Valid, blocks-length, length-some}
+use Rattle.slots.specs.Slot.{writtenLength, writtenBytes, writtenSlot}
+use Rattle.slots.specs.Walk.{blockSpan, wholeBlocks, framedSlot, walkedSlot}
+use Rattle.slots.proofs.Written.{facts-written}
 use Rattle.slots.specs.declared.Slot.{Slot}
 
 -- blocks that bytes are the written form of
@@ -98,8 +97,8 @@ record Passed (s : Slot) : Type 0 where
   blocks : wholeBlocks 0 (drop 1 (take (s .len) (s .bytes))) ≡ true
 
 -- what the test says
-passed : (s : Slot) → writtenSlot s ≡ true → Passed s
-unfolding writtenSlot framedSlot
+passed : (s : Slot) → walkedSlot s ≡ true → Passed s
+unfolding walkedSlot framedSlot
 passed s e =
     let t = both (leb 3 (s .len)) _ e in
     let u = both (leb (s .len) 128) _ (t .1) in
@@ -129,7 +128,7 @@ filled-bytes n d h f =
     let g : getD d n 0 ≡ 0 = eqb-true (getD d n 0) 0 (rw e at f) in
     rw (z, add-one n, take-suc d n 0 (omega arith), g))
 
-module _ (s : Slot) (e : writtenSlot s ≡ true) where
+module _ (s : Slot) (e : walkedSlot s ≡ true) where
   -- the tests
   p : Passed s
   p = passed s e
@@ -188,29 +187,7 @@ module _ (s : Slot) (e : writtenSlot s ≡ true) where
       filled-bytes (s .len) (s .bytes) (p .there) (p .filled)
       ∙ rw (first-byte, length-is, h, d .same)
 
-  -- they read as the packet
-  packet-is : slotPacket s ≡ it
-  unfolding slotPacket
-  packet-is = rw (written, plain-back it valid)
-
-  -- it carries that packet
-  pub carried : Carries s
+  -- so it is a written packet
+  pub walked : writtenSlot s ≡ true
   unfolding it d
-  carried =
-      let h : Shape it = shape it valid some-block in
-      let l : length (writtenBytes s) ≡ 2 * ((s .len + 1) / 2) = ap length written ∙ h .even ∙ rw length-is in
-      record {
-        some = omega (arith, p .least);
-        most = p .most;
-        whole = omega arith;
-        triples = rw packet-is (triples-written it valid some-block ∙ ap started (sym written));
-        measured = rw packet-is length-is;
-      }
-
-  -- and the packet is one within the limits, written in the slot's bytes
-  pub carried-valid : Valid (slotPacket s)
-  carried-valid = rw packet-is valid
-
-  -- the bytes are those that it is written in
-  pub carried-bytes : writtenBytes s ≡ writtenPacket (slotPacket s)
-  carried-bytes = rw packet-is written
+  walked = facts-written s it valid some-block length-is written

@@ -1,21 +1,20 @@
 -- The bytes that a packet within the limits is written in pass the test of a slot. Assumes nothing.
 use mathlib.Core.Path.{_≡_, refl, sym, ap, _∙_}
-use mathlib.Core.Bool.{Bool, true, false, cond, not, _&&_, _||_}
+use mathlib.Core.Bool.{true, _||_}
 use mathlib.Core.List.{List, [], _∷_, _++_, append-assoc}
-use Prim.Native.Nat.{ℕ, zero, suc, _+_, _-_, _*_, _/_, _%_, _≤_, _<_}
+use Prim.Native.Nat.{ℕ, suc, _+_, _-_, _*_, _/_, _%_, _≤_, _<_}
 use native.Mathlib.Omega.{arith}
-use borrow.Author.Tests.{eq-eqb, ne-eqb, eqb-true, eqb-false, le-leb, ltb-true, ltb-false}
-use lib.Dec.{eqb, leb, ltb}
-use lib.ListN.{length, getD, take, drop, length-append}
+use borrow.Author.Tests.{eq-eqb, ne-eqb, eqb-false, le-leb, ltb-true, ltb-false}
+use lib.Dec.{eqb, ltb}
+use lib.ListN.{length, getD, take, length-append}
 use lib.Seq.{take-at, getD-at}
 use Rattle.model.specs.Block.{Block, writtenBlock}
-use Rattle.model.specs.Packet.{Packet, packetLength, packetHeader, writtenBlocks, writtenPacket, fill, blocksLength, allCarriable, carriable}
+use Rattle.model.specs.Packet.{Packet, packetLength, packetHeader, writtenBlocks, writtenPacket, fill, allCarriable, carriable}
 use Rattle.model.proofs.Cases.{by-test, both}
 use Rattle.model.proofs.Blocks.{Carriable, carriable-facts, written-short, written-long}
 use Rattle.model.proofs.Packets.{Valid, Shape, shape, blocks-length, length-some}
-use Rattle.slots.specs.Slot.{writtenLength, blockSpan, wholeBlocks, framedSlot, writtenSlot}
+use Rattle.slots.specs.Walk.{blockSpan, wholeBlocks, framedSlot, walkedSlot}
 use Rattle.slots.proofs.Spans.{span-short, span-long}
-use Rattle.slots.specs.declared.Slot.{Slot}
 
 -- bytes of the block before
 passes : (x d : List ℕ) → wholeBlocks (length x) (x ++ d) ≡ wholeBlocks 0 d
@@ -86,8 +85,8 @@ module _ (p : Packet) (v : Valid p) (some : 1 ≤ length (p .blocks)) (rest : Li
       rw (e, split, o, getD-at (packetHeader p ∷ writtenBlocks (p .blocks)) 0x00 rest 0 (packetLength p) body))
 
   -- "the written form of a nonempty packet"
-  pub written-passes : writtenSlot (record { len = packetLength p; bytes = writtenPacket p ++ rest }) ≡ true
-  unfolding writtenSlot framedSlot packetHeader writtenPacket
+  pub written-passes : walkedSlot (record { len = packetLength p; bytes = writtenPacket p ++ rest }) ≡ true
+  unfolding walkedSlot framedSlot packetHeader writtenPacket
   written-passes =
       let l : 3 ≤ packetLength p = omega (arith, h .least, h .even) in
       let a : getD (writtenPacket p ++ rest) 0 0 % 64 ≡ (packetLength p + 1) / 2 % 64 = omega arith in

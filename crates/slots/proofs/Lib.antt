@@ -1,3 +1,5 @@
 pub mod Spans
+pub mod Written
 pub mod Decodes
 pub mod Encodes
+pub mod Exact

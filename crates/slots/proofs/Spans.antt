@@ -1,16 +1,16 @@
 -- Written blocks, one after another: one law for each way out of the walk over them. Assumes nothing.
 use mathlib.Core.Path.{_≡_, refl, sym, ap, _∙_}
-use mathlib.Core.Bool.{Bool, true, false, cond, not, _&&_, _||_}
+use mathlib.Core.Bool.{Bool, true, false, not, _&&_, _||_}
 use mathlib.Core.List.{List, [], _∷_}
-use Prim.Native.Nat.{ℕ, zero, suc, _+_, _-_, _*_, _/_, _%_, _≤_, _<_}
+use Prim.Native.Nat.{ℕ, zero, suc, _+_, _-_, _/_, _%_, _≤_, _<_}
 use native.Mathlib.Nat.{add-zero}
 use native.Mathlib.Numerals.{add-one}
 use native.Mathlib.Omega.{arith}
 use borrow.Author.Tests.{eq-eqb, ne-eqb, le-leb, lt-leb, lt-ltb, le-ltb}
-use lib.Dec.{eqb, leb, ltb}
+use lib.Dec.{eqb, leb}
 use lib.ListN.{length, getD, take, drop, length-drop, drop-of-length-le}
-use lib.Seq.{drop-cons, drop-drop, getD-drop, getD-take, length-take-le}
-use Rattle.slots.specs.Slot.{blockSpan, wholeBlocks, framedSlot, writtenSlot}
+use lib.Seq.{drop-cons, drop-drop, getD-drop}
+use Rattle.slots.specs.Walk.{blockSpan, wholeBlocks, framedSlot, walkedSlot}
 use Rattle.slots.specs.declared.Slot.{Slot}
 
 -- the span of a block, by the tests on the way
@@ -97,19 +97,19 @@ whole-all d at h = rw (drop-of-length-le d {i = at} h)
 -- the tests of a slot
 module _ (s : Slot) where
   -- too short for a block
-  pub too-short : s .len < 3 → false ≡ writtenSlot s
-  unfolding writtenSlot
+  pub too-short : s .len < 3 → false ≡ walkedSlot s
+  unfolding walkedSlot
   too-short h = simp (lt-leb _ _ h)
 
   -- longer than any packet
-  pub too-long : 3 ≤ s .len → 128 < s .len → false ≡ writtenSlot s
-  unfolding writtenSlot
+  pub too-long : 3 ≤ s .len → 128 < s .len → false ≡ walkedSlot s
+  unfolding walkedSlot
   too-long a h = simp (le-leb _ _ a, lt-leb _ _ h)
 
   module _ (a : 3 ≤ s .len) (b : s .len ≤ 128) where
     -- the header tells another length
-    pub wrong-header : (getD (s .bytes) 0 0 % 64 ≡ (s .len + 1) / 2 % 64 → ⊥) → false ≡ writtenSlot s
-    unfolding writtenSlot framedSlot
+    pub wrong-header : (getD (s .bytes) 0 0 % 64 ≡ (s .len + 1) / 2 % 64 → ⊥) → false ≡ walkedSlot s
+    unfolding walkedSlot framedSlot
     wrong-header h = simp (le-leb _ _ a, le-leb _ _ b, ne-eqb _ _ h)
 
     module _ (h : getD (s .bytes) 0 0 % 64 ≡ (s .len + 1) / 2 % 64) (byte : getD (s .bytes) 0 0 < 256) where
@@ -118,13 +118,13 @@ module _ (s : Slot) where
       small = le-leb (getD (s .bytes) 0 0) 255 (omega arith)
 
       -- an odd length is not followed by 0x00
-      pub wrong-fill : s .len % 2 ≡ 1 → (getD (s .bytes) (s .len) 0 ≡ 0 → ⊥) → false ≡ writtenSlot s
-      unfolding writtenSlot framedSlot
+      pub wrong-fill : s .len % 2 ≡ 1 → (getD (s .bytes) (s .len) 0 ≡ 0 → ⊥) → false ≡ walkedSlot s
+      unfolding walkedSlot framedSlot
       wrong-fill o f = simp (le-leb _ _ a, le-leb _ _ b, eq-eqb _ _ h, small, ne-eqb (s .len % 2) 0 (λ z. omega arith), ne-eqb _ _ f)
 
       -- the blocks decide
-      pub by-blocks : {r : Bool} → length (s .bytes) ≡ 128 → (eqb (s .len % 2) 0 || eqb (getD (s .bytes) (s .len) 0) 0) ≡ true → r ≡ wholeBlocks 0 (drop 1 (take (s .len) (s .bytes))) → r ≡ writtenSlot s
-      unfolding writtenSlot framedSlot
+      pub by-blocks : {r : Bool} → length (s .bytes) ≡ 128 → (eqb (s .len % 2) 0 || eqb (getD (s .bytes) (s .len) 0) 0) ≡ true → r ≡ wholeBlocks 0 (drop 1 (take (s .len) (s .bytes))) → r ≡ walkedSlot s
+      unfolding walkedSlot framedSlot
       by-blocks full f e =
           let k : leb (s .len + s .len % 2) (length (s .bytes)) ≡ true = le-leb (s .len + s .len % 2) (length (s .bytes)) (omega arith) in
           e ∙ simp (le-leb _ _ a, le-leb _ _ b, eq-eqb _ _ h, small, f, k)

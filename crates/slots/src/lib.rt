@@ -2,7 +2,8 @@
 ghost use mathlib.Core.Path.{_≡_};
 ghost use Prim.Native.Nat.{_+_, _≤_};
 ghost use lib.ListN.{length, getD, take, drop};
-ghost use Rattle.slots.specs.Slot.{blockSpan, wholeBlocks, writtenSlot};
+ghost use Rattle.slots.specs.Slot.{writtenSlot};
+ghost use Rattle.slots.specs.Walk.{blockSpan, wholeBlocks};
 
 // The fewest bytes of a packet that is not empty.
 const LEAST_PACKET: usize = 3;

@@ -1,47 +1,49 @@
 -- What an answer of the multiplexer says of a state within its limits, and what the switches do. Assumes nothing.
-use mathlib.Core.Path.{_≡_, refl, sym}
+use mathlib.Core.Path.{_≡_, refl, sym, ap}
 use mathlib.Core.Bool.{Bool}
 use mathlib.Core.List.{[]}
 use native.Mathlib.Omega.{arith}
 use Rattle.model.specs.Said.{Outcome, gave, refused, checked}
+use Rattle.model.specs.Mux.{Mux, withPads}
 use Rattle.model.specs.Run.{pads, writes, call, others}
 use Rattle.journey.proofs.Calls.{quiet-pads}
 use Rattle.caption.specs.Answers.{saidRefusal}
 use Rattle.caption.proofs.Answers.{saidAnswer-injective}
 use Rattle.caption.specs.declared.Refusal.{Refusal}
 use Rattle.caption.specs.declared.Answer.the-variants as answer
-use Rattle.writer.specs.Writer.{means, validWriter}
-use Rattle.writer.specs.Calls.{Answers, withPadding}
-use Rattle.writer.proofs.Laws.{means-padding}
-use Rattle.writer.proofs.Kept.{Sound, padding-sound}
+use Rattle.writer.specs.Writer.{means, validWriter, stored}
+use Rattle.writer.specs.Calls.{Answers}
+use Rattle.writer.proofs.Stored.{grows-pads}
+use Rattle.writer.proofs.Kept.{Sound, sound-mux, stored-sound}
 use Rattle.writer.specs.declared.CCDataWriter.{CCDataWriter}
 use Rattle.writer.specs.declared.WriterAnswer.{WriterAnswer}
 use Rattle.theorems.specs.Items.{Items, noItems}
 use Rattle.theorems.specs.Writing.{ifAccepted}
+use Rattle.theorems.specs.Trip.{sendingOf}
 use Rattle.theorems.proofs.Passing.{passed-quiet}
 use Rattle.theorems.proofs.Following.{Moved, stays, moves}
 
 -- an answer, by what the call comes to
-module _ {o : Outcome CCDataWriter} {w : CCDataWriter} {r : WriterAnswer} (a : Answers o w r) where
+module _ {o : Outcome Mux} {f : Mux → CCDataWriter} {w : CCDataWriter} {r : WriterAnswer} (a : Answers o f w r) where
   -- it is accepted
-  pub given : (x : CCDataWriter) → o ≡ gave x → (r .answer ≡ answer.Accepted) × (r .writer ≡ x)
-  given x e = (saidAnswer-injective (r .answer) answer.Accepted (rw e at (a .answer)), rw e at (a .writer))
+  pub given : (x : Mux) → o ≡ gave x → (r .answer ≡ answer.Accepted) × ((means (r .writer) ≡ x) × (r .writer ≡ f x))
+  given x e = (saidAnswer-injective (r .answer) answer.Accepted (rw e at (a .answer)), (rw e at (a .means), rw e at (a .places)))
 
   -- it is refused
   denied : (why : Refusal) → o ≡ refused (saidRefusal why) → (r .answer ≡ answer.Refused why) × (r .writer ≡ w)
-  denied why e = (saidAnswer-injective (r .answer) (answer.Refused why) (rw e at (a .answer)), rw e at (a .writer))
+  denied why e = (saidAnswer-injective (r .answer) (answer.Refused why) (rw e at (a .answer)), rw e at (a .places))
 
   -- a refusal changes nothing
   pub stays-denied : {pad : Type 0} (is : Items) (why : Refusal) → o ≡ refused (saidRefusal why) → Moved w [] (ifAccepted (r .answer) is) (r .writer) pad
   stays-denied is why e = let d = denied why e in rw (d .0) (stays refl refl (d .1))
 
 -- the switches
-pub pads-moves : (w : CCDataWriter) (r : WriterAnswer) (x y : Bool) → Sound w → Answers (checked (validWriter w) (gave (withPadding x y w))) w r → Moved w [] noItems (r .writer) (Unit {0})
+pub pads-moves : (w : CCDataWriter) (r : WriterAnswer) (x y : Bool) → Sound w → Answers (checked (validWriter w) (gave (withPads x y (means w)))) (stored w) w r → Moved w [] noItems (r .writer) (Unit {0})
 unfolding call others
 pads-moves w r x y s a =
-    rw (given a (withPadding x y w) (rw (s .valid)) .1)
-    (moves (pads x y) (record {
-      last = sym (means-padding w x y);
+    let g = given a (withPads x y (means w)) (rw (s .valid)) .1 in
+    moves (pads x y) (record {
+      last = sym (g .0);
       frames = refl;
       packets = refl;
       pairs1 = refl;
@@ -50,6 +52,6 @@ pads-moves w r x y s a =
       rates = λ cs t. t;
       writes = λ cs. omega arith;
       quiet = λ e cs t. t;
-      passed = passed-quiet w (withPadding x y w) (quiet-pads x y (means w)) (sym (means-padding w x y)) refl refl;
-      sound = padding-sound w s x y;
-    }))
+      passed = passed-quiet w (r .writer) (quiet-pads x y (means w)) (sym (g .0)) refl (ap sendingOf (g .1));
+      sound = rw (g .1) (stored-sound w s (withPads x y (means w)) (grows-pads (means w) (sound-mux w s) x y));
+    })

@@ -33,7 +33,7 @@ use Rattle.writer.specs.Writer.{means}
 use Rattle.writer.specs.Calls.{frameLength, written}
 use Rattle.writer.proofs.Triples.{left-length}
 use Rattle.writer.proofs.Kept.{Sound, sound-ok}
-use Rattle.writer.proofs.Laws.{means-after, write-given}
+use Rattle.writer.proofs.Laws.{write-given}
 use Rattle.writer.specs.declared.CCDataWriter.{CCDataWriter}
 use Rattle.writer.specs.declared.WriterCount.{WriterCount}
 use Rattle.theorems.specs.Items.{Items, noItems}
@@ -41,7 +41,7 @@ use Rattle.theorems.specs.Allowed.{Lent, NewWriter, Write}
 use Rattle.theorems.specs.Writing.{Calls, Padded, Drained}
 use Rattle.theorems.specs.Bounds.{queueAt, pairsAt, SendsFour, AcceptsWrite, LeavesInTime, DrainsInTime}
 use Rattle.theorems.proofs.Following.{Follows}
-use Rattle.theorems.proofs.Frames.{Writes, no-frame, one-frame, wrote, write-does}
+use Rattle.theorems.proofs.Frames.{Writes, no-frame, one-frame, write-does}
 use Rattle.theorems.proofs.Sequences.{follows, from-fresh}
 
 -- the triples in a frame's bytes are the frame's
@@ -80,13 +80,13 @@ drained-back w s d =
 four-by : (w : CCDataWriter) (end : List ℕ) (r : WriterCount) → Sound w → (n : ℕ) → r .answer ≡ counted.Count n
     → ((b : Budgets) → runs.Accepted b → journey.SendsFour (means w) (writeFrame b (means w))) → Writes w end r → SendsFour w (take n end) (r .writer)
 four-by w end r s n e f (no-frame why k same) = absurd (false≢true (cc))
-four-by w end r s n e f (one-frame b accepted counts first next) =
+four-by w end r s n e f (one-frame b accepted counts first meant next) =
     let m = f b accepted in
     let z : n ≡ length (frameBytes (writeFrame b (means w) .frame)) = (cc) in
-    rw (next, z, first)
+    rw (z, first)
     (record {
       four = rw (frame-triples (writeFrame b (means w) .frame)) (m .four);
-      no-other = rw (frame-triples (writeFrame b (means w) .frame), means-after w (s .shaped) (s .valid) b) (m .no-other);
+      no-other = rw (frame-triples (writeFrame b (means w) .frame), meant) (m .no-other);
     })
 
 -- what is given is something
@@ -131,8 +131,8 @@ module _ {w₀ w : CCDataWriter} {fs₀ : List (List ℕ)} {is₀ : Items} (new 
   write-accepted κs rate out end r a given room =
       let s = reached .sound in
       counted-given (r .answer) (frameLength rate w) (written rate (now out) w)
-      (given-by (budgets (rate .numer) (rate .denom)) given (λ b e. write-given w (s .shaped) (s .valid) rate (now out) e (omega arith)))
-      (wrote κs w rate out end r a .answer)
+      (given-by (budgets (rate .numer) (rate .denom)) given (λ b e. ap isGiven (write-given w (s .valid) rate (now out) e (omega arith))))
+      (a .answer)
 
   -- so many accepted writes drain a multiplexer, if nothing more is accepted: twice as many as the pairs of either field, and a quarter of the
   -- packet triples

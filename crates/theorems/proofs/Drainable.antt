@@ -1,22 +1,25 @@
 -- Every sequence of calls goes on to one that ends drained, so that the round trip speaks of each of them. Assumes nothing.
-use mathlib.Core.Path.{_≡_, refl, ap}
+use mathlib.Core.Path.{_≡_, refl, ap, _∙_}
 use mathlib.Core.Bool.{true}
 use mathlib.Core.List.{List, [], _++_, append-assoc, append-nil}
 use Prim.Native.Nat.{ℕ, zero, suc, _+_, _*_}
 use native.Mathlib.Omega.{arith}
-use lib.ListN.{length, replicate}
+use lib.ListN.{length, drop, replicate}
 use contract.Lifetimes.{Lfts}
 use denote.Ref.{now}
 use Rattle.model.specs.Said.{gave, checked, isGiven}
-use Rattle.model.specs.Frame.{mostFrame}
+use Rattle.model.specs.Frame.{mostFrame, frameBytes}
 use Rattle.model.specs.Rate.{rounded, budgets}
+use Rattle.model.specs.Mux.{Mux, withPads, framed, writeFrame}
 use Rattle.caption.specs.declared.Answer.the-variants.{Accepted}
 use Rattle.caption.specs.declared.Counted.the-variants.{Count}
 use Rattle.caption.specs.declared.Framerate.{Framerate}
-use Rattle.writer.specs.Writer.{validWriter, afterFrame}
-use Rattle.writer.specs.Calls.{Answers, withPadding, budgetsAt, frameLength, written}
+use Rattle.writer.specs.Writer.{means, validWriter, stored, moved}
+use Rattle.writer.specs.Calls.{Answers, frameLength}
 use Rattle.writer.proofs.Laws.{write-given}
-use Rattle.writer.proofs.Kept.{Sound, padding-sound, after-sound}
+use Rattle.writer.proofs.Builds.{means-frame}
+use Rattle.writer.proofs.Stored.{Grows, grows-pads, means-stored}
+use Rattle.writer.proofs.Kept.{Sound, sound-ok, sound-order, sound-mux, stored-sound, moved-sound}
 use Rattle.writer.specs.declared.CCDataWriter.{CCDataWriter}
 use Rattle.writer.specs.declared.WriterAnswer.{WriterAnswer}
 use Rattle.writer.specs.declared.WriterCount.{WriterCount}
@@ -48,18 +51,22 @@ record Writable (κs : Lfts 1) (w : CCDataWriter) : Type 0 where
   result : WriterCount
   allowed : Write κs w rate out end result
   counts : result .answer ≡ Count (frameLength rate w)
-  next : result .writer ≡ afterFrame (budgetsAt rate) w
+  sound : Sound (result .writer)
+  same : result .writer .«output_cea608_padding» ≡ w .«output_cea608_padding»
 
 -- there is one
 writable : (κs : Lfts 1) (w : CCDataWriter) → Sound w → Writable κs w
+unfolding means writeFrame framed
 writable κs w s =
-    given-by (written rate (now out) w) (given-by (budgets (rate .numer) (rate .denom)) rate-given (λ b e. write-given w (s .shaped) (s .valid) rate (now out) e (omega arith)))
-    (λ x e. record {
-      end = lent (x .out);
-      result = record { answer = Count (frameLength rate w); writer = afterFrame (budgetsAt rate) w };
-      allowed = (rw e, (rw e, rw e));
+    given-by (budgets (rate .numer) (rate .denom)) rate-given
+    (λ b e. let g = write-given w (s .valid) rate (now out) e (omega arith) in
+    record {
+      end = lent (frameBytes (writeFrame b (means w) .frame) ++ drop (length (frameBytes (writeFrame b (means w) .frame))) (now out));
+      result = record { answer = Count (frameLength rate w); writer = moved w (writeFrame b (means w) .next) };
+      allowed = record { answer = rw g; means = rw g (means-frame w b (sound-ok w s) (sound-mux w s)); places = rw g; output = rw g };
       counts = refl;
-      next = refl;
+      sound = moved-sound w s b;
+      same = refl;
     })
 
 -- n writes, each accepted and with a padding on
@@ -72,11 +79,10 @@ record Written (n : ℕ) (w : CCDataWriter) : Type 0 where
 
 -- there are such
 written-all : (κs : Lfts 1) (n : ℕ) (w : CCDataWriter) → Sound w → w .«output_cea608_padding» ≡ true → Written n w
-unfolding afterFrame
 written-all κs zero w s on = record { frames = []; last = w; calls = no-call; padded = tt; number = refl }
 written-all κs (suc n) w s on =
     let k = writable κs w s in
-    let m = written-all κs n (k .result .writer) (rw (k .next) (after-sound w s (budgetsAt rate))) (rw (k .next) on) in
+    let m = written-all κs n (k .result .writer) (k .sound) (k .same ∙ on) in
     record {
       frames = frameIn (k .result .answer) (now (k .end)) ++ m .frames;
       last = m .last;
@@ -97,10 +103,12 @@ record Draining (w : CCDataWriter) : Type 0 where
 draining : {w₀ w : CCDataWriter} {fs₀ : List (List ℕ)} {is₀ : Items} (κs : Lfts 1) → NewWriter w₀ → Calls w₀ fs₀ is₀ w → Draining w
 draining {w} κs new before =
     let s = from-fresh new before .sound in
-    let on : WriterAnswer = record { answer = Accepted; writer = withPadding true (w .«output_padding») w } in
-    let allowed : Answers (checked (validWriter w) (gave (on .writer))) w on = record { answer = rw (s .valid); writer = rw (s .valid) } in
+    let x : Mux = withPads true (w .«output_padding») (means w) in
+    let g : Grows (means w) x = grows-pads (means w) (sound-mux w s) true (w .«output_padding») in
+    let on : WriterAnswer = record { answer = Accepted; writer = stored w x } in
+    let allowed : Answers (checked (validWriter w) (gave x)) (stored w) w on = record { answer = rw (s .valid); means = rw (s .valid) (means-stored w (sound-order w s) (sound-ok w s) x g); places = rw (s .valid) } in
     let n : ℕ = 2 * w .field1 .count + 2 * w .field2 .count + unsentOf w in
-    let m = written-all κs n (on .writer) (padding-sound w s true (w .«output_padding»)) refl in
+    let m = written-all κs n (on .writer) (stored-sound w s x g) refl in
     let c : Calls w (m .frames) noItems (m .last) = set-cea608-padding true on allowed (m .calls) in
     let k = m .number in
     record { frames = m .frames; last = m .last; calls = c; padded = m .padded; drained = writes-drain new before c (omega arith) (omega arith) (omega arith) }

@@ -9,24 +9,24 @@ use lib.ListN.{length, take, drop}
 use lib.Seq.{take-at}
 use contract.Lifetimes.{Lfts}
 use denote.Ref.{now}
-use Rattle.model.specs.Said.{gave, refused, after, mapped, saysWith, putInto, badRate}
+use Rattle.model.specs.Said.{gave, refused, putInto, badRate}
 use Rattle.model.specs.Frame.{frameBytes}
 use Rattle.model.specs.Rate.{Budgets, budgets, pairsAt, triplesAt, mostTriples}
 use Rattle.model.specs.Mux.{writeFrame, writeAt}
 use Rattle.model.specs.Run.{writes, call, others, Accepted}
 use Rattle.model.proofs.Cases.{by-test}
 use Rattle.model.proofs.Rates.{accepted-rate}
-use Rattle.caption.specs.Answers.{saidRefusal, saidCounted}
+use Rattle.caption.specs.Answers.{saidRefusal}
 use Rattle.caption.proofs.Answers.{saidCounted-injective}
 use Rattle.caption.specs.declared.Refusal.{Refusal}
 use Rattle.caption.specs.declared.Refusal.the-variants.{BadRate, OutShort}
 use Rattle.caption.specs.declared.Counted.the-variants as counted
 use Rattle.caption.specs.declared.Framerate.{Framerate}
-use Rattle.writer.specs.Writer.{means, afterFrame}
+use Rattle.writer.specs.Writer.{means, moved}
+use Rattle.writer.specs.Calls as promise
 use Rattle.writer.specs.Calls.{budgetsAt, frameLength, written}
 use Rattle.writer.proofs.Calls.{budgets-at}
-use Rattle.writer.proofs.Laws.{means-after}
-use Rattle.writer.proofs.Kept.{Sound, after-sound}
+use Rattle.writer.proofs.Kept.{Sound, moved-sound}
 use Rattle.writer.specs.declared.CCDataWriter.{CCDataWriter}
 use Rattle.writer.specs.declared.WriterCount.{WriterCount}
 use Rattle.theorems.specs.Items.{noItems}
@@ -40,26 +40,17 @@ budgets-by : {P : Type 0} (n d : ℕ) → (budgets n d ≡ refused badRate → P
 unfolding budgets
 budgets-by n d f g = by-test (eqb n 0 || (eqb (pairsAt n d) 0 || ltb mostTriples (triplesAt n d))) (λ e. f (rw e)) (λ e. g (record { pairs = pairsAt n d; triples = triplesAt n d }) (rw e))
 
--- what the contract of a write says
-pub record Wrote (w : CCDataWriter) (rate : Framerate) (out end : List ℕ) (r : WriterCount) : Type 0 where
-  pub answer : saidCounted (r .answer) ≡ saysWith (λ _. frameLength rate w ∷ []) (written rate out w)
-  pub writer : r .writer ≡ after w (mapped (λ _. afterFrame (budgetsAt rate) w) (written rate out w))
-  pub output : end ≡ after out (mapped (λ x. x .out) (written rate out w))
-
--- read off it
-pub wrote : (κs : Lfts 1) (w : CCDataWriter) (rate : Framerate) (out end : Lent) (r : WriterCount) → Write κs w rate out end r → Wrote w rate (now out) (now end) r
-wrote κs w rate out end r a = record { answer = a .0; writer = a .1 .0; output = a .1 .1 }
-
 -- a write is refused, and changes nothing; or it is accepted, and its frame is the model's at the rate's budgets
 pub data Writes (w : CCDataWriter) (end : List ℕ) (r : WriterCount) : Type 0 where
   no-frame : (why : Refusal) → r .answer ≡ counted.Refused why → r .writer ≡ w → Writes w end r
   one-frame : (b : Budgets) → Accepted b → r .answer ≡ counted.Count (length (frameBytes (writeFrame b (means w) .frame)))
-      → take (length (frameBytes (writeFrame b (means w) .frame))) end ≡ frameBytes (writeFrame b (means w) .frame) → r .writer ≡ afterFrame b w → Writes w end r
+      → take (length (frameBytes (writeFrame b (means w) .frame))) end ≡ frameBytes (writeFrame b (means w) .frame)
+      → means (r .writer) ≡ writeFrame b (means w) .next → r .writer ≡ moved w (writeFrame b (means w) .next) → Writes w end r
 
-module _ (w : CCDataWriter) (rate : Framerate) (out end : List ℕ) (r : WriterCount) (s : Sound w) (a : Wrote w rate out end r) where
+module _ (w : CCDataWriter) (rate : Framerate) (out end : List ℕ) (r : WriterCount) (s : Sound w) (a : promise.Writes rate out w r end) where
   -- a refusal
   refuses : (why : Refusal) → written rate out w ≡ refused (saidRefusal why) → Writes w end r
-  refuses why e = no-frame why (saidCounted-injective (r .answer) (counted.Refused why) (rw e at (a .answer))) (rw e at (a .writer))
+  refuses why e = no-frame why (saidCounted-injective (r .answer) (counted.Refused why) (rw e at (a .answer))) (rw e at (a .places))
 
   module _ (b : Budgets) (given : budgets (rate .numer) (rate .denom) ≡ gave b) where
     -- the frame
@@ -88,7 +79,7 @@ module _ (w : CCDataWriter) (rate : Framerate) (out end : List ℕ) (r : WriterC
           one-frame b (accepted-rate (rate .numer) (rate .denom) given)
           (saidCounted-injective (r .answer) (counted.Count (length bytes)) (rw (accepts, ← at-rate) at (a .answer)))
           (rw (rw accepts at (a .output)) (take-at bytes (drop (length bytes) out) (length bytes) refl))
-          (rw (accepts, ← at-rate) at (a .writer))
+          (rw accepts at (a .means)) (rw accepts at (a .places))
 
   -- in all
   writes-by : Writes w end r
@@ -99,16 +90,16 @@ module _ (w : CCDataWriter) (rate : Framerate) (out end : List ℕ) (r : WriterC
 
 -- by its contract
 pub write-does : (κs : Lfts 1) (w : CCDataWriter) (rate : Framerate) (out end : Lent) (r : WriterCount) → Sound w → Write κs w rate out end r → Writes w (now end) r
-write-does κs w rate out end r s a = writes-by w rate (now out) (now end) r s (wrote κs w rate out end r a)
+write-does κs w rate out end r s a = writes-by w rate (now out) (now end) r s a
 
 -- so a write is one of the model, or changes nothing
 pub write-moves : (w : CCDataWriter) (end : List ℕ) (r : WriterCount) → Sound w → Writes w end r → Moved w (frameIn (r .answer) end) noItems (r .writer) (PaddingAt (r .answer) w)
 unfolding call others means
 write-moves w end r s (no-frame why k e) = rw k (stays refl refl e)
-write-moves w end r s (one-frame b accepted counts first next) =
-    rw (counts, next)
+write-moves w end r s (one-frame b accepted counts first meant next) =
+    rw counts
     (moves (writes b) (record {
-      last = sym (means-after w (s .shaped) (s .valid) b);
+      last = sym meant;
       frames = ap (λ (l : List ℕ). l ∷ []) (sym first);
       packets = refl;
       pairs1 = refl;
@@ -117,6 +108,6 @@ write-moves w end r s (one-frame b accepted counts first next) =
       rates = λ cs t. (accepted, t);
       writes = λ cs. omega arith;
       quiet = λ e cs t. t;
-      passed = passed-after w s b;
-      sound = after-sound w s b;
+      passed = rw next (passed-after w s b);
+      sound = rw next (moved-sound w s b);
     }))

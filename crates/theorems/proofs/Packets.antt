@@ -1,11 +1,11 @@
 -- A packet that is pushed is a push of the model, or changes nothing. Assumes nothing.
-use mathlib.Core.Path.{_≡_, refl, sym, ap}
+use mathlib.Core.Path.{_≡_, refl, sym, ap, _∙_}
 use mathlib.Core.Bool.{true, false, _&&_}
 use mathlib.Core.List.{[], _∷_, _++_}
 use native.Mathlib.Omega.{arith}
 use lib.Dec.{eqb, leb}
 use lib.ListN.{length}
-use Rattle.model.specs.Said.{Outcome, gave, mapped, checked}
+use Rattle.model.specs.Said.{Outcome, gave, checked}
 use Rattle.model.specs.Packet.{Packet}
 use Rattle.model.specs.Mux.{Mux, withPackets, pushPacket, queued, mostPackets}
 use Rattle.model.specs.Run.{pushes, writes, call, others}
@@ -16,10 +16,10 @@ use Rattle.caption.specs.declared.Refusal.the-variants.{BadValue, Full}
 use Rattle.packet.specs.Packet.{packetOf, validDTVCC}
 use Rattle.packet.proofs.Holds.{within-facts, held-valid}
 use Rattle.packet.specs.declared.DTVCCPacket.{DTVCCPacket}
-use Rattle.writer.specs.Writer.{means, validWriter}
-use Rattle.writer.specs.Calls.{Answers, pushedPacket}
-use Rattle.writer.proofs.Packed.{means-packet}
-use Rattle.writer.proofs.Kept.{Sound, packet-sound}
+use Rattle.writer.specs.Writer.{means, validWriter, stored}
+use Rattle.writer.specs.Calls.{Answers}
+use Rattle.writer.proofs.Stored.{Grows, grows-packet, stored-self}
+use Rattle.writer.proofs.Kept.{Sound, sound-order, sound-mux, stored-sound}
 use Rattle.writer.specs.declared.CCDataWriter.{CCDataWriter}
 use Rattle.writer.specs.declared.WriterAnswer.{WriterAnswer}
 use Rattle.theorems.specs.Items.{Items, noItems, onePacket, ifNonempty}
@@ -41,10 +41,10 @@ module _ (w : CCDataWriter) (d : DTVCCPacket) (r : WriterAnswer) (s : Sound w) (
   p = packetOf d
 
   -- what the push comes to
-  abbrev comes : Outcome CCDataWriter
-  comes = checked (validWriter w && validDTVCC d) (mapped (λ _. pushedPacket p w) (pushPacket p (means w)))
+  abbrev comes : Outcome Mux
+  comes = checked (validWriter w && validDTVCC d) (pushPacket p (means w))
 
-  module _ (a : Answers comes w r) where
+  module _ (a : Answers comes (stored w) w r) where
     -- an item of the answer
     abbrev item : Items
     item = ifAccepted (r .answer) (ifNonempty p)
@@ -56,8 +56,8 @@ module _ (w : CCDataWriter) (d : DTVCCPacket) (r : WriterAnswer) (s : Sound w) (
 
       -- an empty one is not stored
       moves-empty : eqb (length (p .blocks)) 0 ≡ true → Moved w [] item (r .writer) (Unit {0})
-      unfolding pushPacket pushedPacket
-      moves-empty e = let g = given a w (rw (s .valid, v, e)) in rw (g .0, e) (stays refl refl (g .1))
+      unfolding pushPacket
+      moves-empty e = let g = given a (means w) (rw (s .valid, v, e)) in rw (g .0, e) (stays refl refl (g .1 .1 ∙ stored-self w (sound-order w s)))
 
       module _ (some : eqb (length (p .blocks)) 0 ≡ false) where
         -- no place is left
@@ -71,20 +71,15 @@ module _ (w : CCDataWriter) (d : DTVCCPacket) (r : WriterAnswer) (s : Sound w) (
           unfolding pushPacket queued
           put = rw (some, room)
 
-          -- the packet being sent stays
-          sending-same : sendingOf (pushedPacket p w) ≡ sendingOf w
-          unfolding pushedPacket
-          sending-same = rw some
-
           -- the packet is stored
           moves-stored : Moved w [] item (r .writer) (Unit {0})
           unfolding call others
           moves-stored =
-              let g = given a (pushedPacket p w) (rw (s .valid, v, put)) in
-              let last : call (pushes p) (means w) .last ≡ means (pushedPacket p w) =
-              rw put (sym (gives-at (λ (m : Mux). means (pushedPacket p w) ≡ m) (pushPacket p (means w)) put (means-packet w (s .shaped) (s .valid) p held))) in
+              let x : Mux = withPackets (means w .packets ++ (p ∷ [])) (means w) in
+              let g = given a x (rw (s .valid, v, put)) in
+              let last : call (pushes p) (means w) .last ≡ means (r .writer) = rw put (sym (g .1 .0)) in
               let packets : call (pushes p) (means w) .packets ≡ p ∷ [] = rw (put, some) in
-              rw (g .0, g .1, some)
+              rw (g .0, some)
               (moves (pushes p) (record {
                 last = last;
                 frames = refl;
@@ -95,8 +90,8 @@ module _ (w : CCDataWriter) (d : DTVCCPacket) (r : WriterAnswer) (s : Sound w) (
                 rates = λ cs t. t;
                 writes = λ cs. omega arith;
                 quiet = λ e cs t. absurd (packet-some p e);
-                passed = passed-quiet w (pushedPacket p w) (quiet-push p (means w)) last packets sending-same;
-                sound = gives-at (λ (m : Mux). Sound (pushedPacket p w)) (pushPacket p (means w)) put (packet-sound w s p held);
+                passed = passed-quiet w (r .writer) (quiet-push p (means w)) last packets (ap sendingOf (g .1 .1));
+                sound = rw (g .1 .1) (stored-sound w s x (gives-at (Grows (means w)) (pushPacket p (means w)) put (grows-packet (means w) (sound-mux w s) p (facts-valid p held))));
               }))
 
     -- in all

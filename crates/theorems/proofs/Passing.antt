@@ -5,8 +5,8 @@ use mathlib.Core.Bool.{Bool, true, false, cond}
 use mathlib.Core.List.{List, [], _∷_, _++_, append-assoc, append-nil}
 use Prim.Native.Nat.{ℕ, suc, _-_, _*_, _≤_, _<_}
 use native.Mathlib.Omega.{arith}
-use borrow.Author.Tests.{ne-eqb, le-leb, leb-true}
-use lib.Dec.{leb}
+use borrow.Author.Tests.{ne-eqb, eqb-true, le-leb, leb-true}
+use lib.Dec.{eqb, leb}
 use lib.ListN.{length, take, getD, length-append, length-map, List·getD-map}
 use lib.Seq.{getD-take, length-take-le}
 use Rattle.model.specs.Packet.{Packet}
@@ -19,12 +19,12 @@ use Rattle.journey.proofs.Carried.{Kept, chain}
 use Rattle.journey.proofs.Sending.{Begins, none-begun, one-begun, begins, sentBy}
 use Rattle.slots.specs.Slot.{noSlot, writtenLength, writtenBytes, slotPacket}
 use Rattle.slots.specs.declared.Slot.{Slot}
-use Rattle.writer.specs.Slots.{packetsOf, leftFrom, Queued, Held}
-use Rattle.writer.specs.Sending.{begun, restedSlot, restedSent}
-use Rattle.writer.specs.Writer.{means, afterFrame}
+use Rattle.writer.specs.Writer.{packetsOf, leftFrom, means, moved}
+use Rattle.writer.specs.Sending.{Queued, Held, begun}
 use Rattle.writer.proofs.Triples.{left-length}
-use Rattle.writer.proofs.Laws.{means-after}
-use Rattle.writer.proofs.Kept.{Sound, sound-ok}
+use Rattle.writer.proofs.Moved.{begun-at}
+use Rattle.writer.proofs.Builds.{means-frame}
+use Rattle.writer.proofs.Kept.{Sound, sound-ok, sound-mux}
 use Rattle.writer.specs.declared.CCDataWriter.{CCDataWriter}
 use Rattle.theorems.specs.Trip.{sendingOf}
 
@@ -64,9 +64,10 @@ passed-one p false r = passed-none (p ∷ r)
 abbrev restIn : Slot → ℕ → List Packet
 restIn s sent = cond (leb (writtenLength s) sent) [] (slotPacket s ∷ [])
 
--- it is the same where the slot is let go
-rest-rested : (s : Slot) (sent : ℕ) → restIn (restedSlot s sent) (restedSent s sent) ≡ restIn s sent
-rest-rested s sent = by-test (leb (writtenLength s) sent) (λ e. rw e) (λ e. rw (e, e))
+-- it is the same where the slot is let go, once none of its triples is left
+rest-rested : (s : Slot) (k : ℕ) → (let none = eqb k 0 in restIn (record { len = cond none 0 (s .len); bytes = s .bytes }) (cond none 0 (writtenLength s - 2 * k)) ≡ restIn s (writtenLength s - 2 * k))
+rest-rested s k =
+    by-test (eqb k 0) (λ e. let z : k ≡ 0 = eqb-true k 0 e in rw (e, le-leb (writtenLength s) (writtenLength s - 2 * k) (omega arith))) (λ e. rw e)
 
 -- what stands behind others
 getD-behind : (a : List Packet) (p : Packet) (r : List Packet) (d : Packet) → getD (a ++ (p ∷ r)) (length a) d ≡ p
@@ -135,9 +136,8 @@ module _ (w : CCDataWriter) (s : Sound w) (b : Budgets) where
   slot = begun (w .packets) (w .sending) 0 (w .«packet_count» - length (x .packets))
 
   -- the packet that is being sent then
-  sending-after : sendingOf (afterFrame b w) ≡ restIn slot (writtenLength slot - 2 * length (x .sending))
-  unfolding afterFrame
-  sending-after = rest-rested slot (writtenLength slot - 2 * length (x .sending))
+  sending-after : sendingOf (moved w x) ≡ restIn slot (writtenLength slot - 2 * length (x .sending))
+  sending-after = rw (begun-at (w .packets) (w .sending) (w .«packet_count» - length (x .packets))) (rest-rested slot (length (x .sending)))
 
   -- by what the model sends
   passed-model : Passed (thereIn w) [] (restIn slot (writtenLength slot - 2 * length (x .sending)) ++ x .packets)
@@ -149,5 +149,5 @@ module _ (w : CCDataWriter) (s : Sound w) (b : Budgets) where
       (begins (countDue b t - length (turned (turnsDue (b .pairs) t) t .out)) (t .sending) (t .packets))
 
   -- in all
-  pub passed-after : Passed (thereIn w) [] (thereIn (afterFrame b w))
-  passed-after = rw (sending-after, means-after w (s .shaped) (s .valid) b) passed-model
+  pub passed-after : Passed (thereIn w) [] (thereIn (moved w x))
+  passed-after = rw (sending-after, means-frame w b (sound-ok w s) (sound-mux w s)) passed-model

@@ -4,9 +4,7 @@ use mathlib.Core.List.{List, [], _++_}
 use Prim.Native.Nat.{ℕ}
 use denote.Ref.{now}
 use Rattle.model.specs.Mux.{freshMux}
-use Rattle.writer.specs.Writer.{means}
-use Rattle.writer.specs.Calls.{fresh}
-use Rattle.writer.proofs.Laws.{means-fresh}
+use Rattle.writer.specs.Writer.{means, fresh}
 use Rattle.writer.proofs.Kept.{Sound, fresh-sound}
 use Rattle.writer.specs.declared.CCDataWriter.{CCDataWriter}
 use Rattle.theorems.specs.Items.{Items, andThen}
@@ -42,5 +40,5 @@ none-sending = refl
 -- from a fresh one
 pub from-fresh : {w₀ w : CCDataWriter} {fs : List (List ℕ)} {is : Items} → NewWriter w₀ → (c : Calls w₀ fs is w) → Follows freshMux [] fs is w (Padded c)
 from-fresh {w₀} new c =
-    let e : w₀ ≡ fresh = new in
-    rw (ap means e ∙ means-fresh, ap sendingOf e ∙ none-sending) at (follows c (rw e fresh-sound))
+    let e : w₀ ≡ fresh = new .1 in
+    rw (new .0, ap sendingOf e ∙ none-sending) at (follows c (rw e fresh-sound))

@@ -1,20 +1,21 @@
 -- What the flat bytes of a queue are in the model: a pair pushed stands last, a pair popped stood first. Assumes nothing.
 use mathlib.Core.Path.{_≡_, refl, sym, ap, _∙_}
-use mathlib.Core.Bool.{Bool, true, false, cond, not, _&&_}
+use mathlib.Core.Bool.{Bool, true, false}
 use mathlib.Core.List.{List, [], _∷_, _++_, append-assoc}
 use Prim.Native.Nat.{ℕ, zero, suc, _+_, _-_, _*_, _/_, _%_, _≤_, _<_}
-use native.Mathlib.Nat.{add-comm}
+use native.Mathlib.Nat.{add-comm, zero-add}
 use native.Mathlib.Numerals.{add-one}
 use native.Mathlib.Omega.{arith}
-use borrow.Author.Tests.{le-ltb, lt-ltb, le-leb, lt-leb, ltb-true, ltb-false}
-use lib.Dec.{leb, ltb}
-use lib.ListN.{length, take, drop, getD, set, length-set, length-append, length-take, length-drop}
-use lib.Seq.{drop-cons, take-suc, getD-append-add, getD-drop, set-at, length-take-le, take-at, drop-drop, sets-eq}
-use Rattle.model.specs.Said.{Said, Outcome, gave, refused, after, says, checked, badValue, full, accepted}
+use borrow.Author.Tests.{le-leb, lt-leb}
+use lib.Dec.{leb}
+use lib.ListN.{length, take, drop, getD, set, length-append, length-drop, take-append-drop}
+use lib.Seq.{drop-cons, take-suc, getD-append-add, getD-drop, set-at, length-take-le, take-at, sets, sets-eq, length-sets}
+use Rattle.model.specs.Said.{Said, Outcome, after, says, mapped, checked, badValue, full, accepted}
 use Rattle.model.specs.Frame.{Pair, pair}
 use Rattle.model.specs.Mux.{isNull, pushPair, queued, mostQueued}
-use Rattle.model.proofs.Cases.{by-test, by-cond, both}
-use Rattle.turns.specs.Queue.{pairsOf, queueOf, slid, pushed, takes, pushedPair, popped, poppedTimes, downTo}
+use Rattle.service.proofs.Runs.{sets-append, sets-front}
+use Rattle.turns.specs.Queue.{pairsOf, queueOf, pairBytes, queueOver}
+use Rattle.turns.specs.Step.{slid, pushed, popped, poppedTimes, downTo}
 use Rattle.turns.specs.declared.PairQueue.{PairQueue}
 
 -- moving down, one place more
@@ -43,6 +44,11 @@ module _ {A : Type 0} (d : A) (k : ℕ) (l : List A) (m : ℕ) where
   unfolding slid
   slid-length h = simp (length-append, length-drop, front-length h) (omega arith)
 
+  -- the same, laid over the places from the first on
+  pub slid-over : m + k ≤ length l → sets l 0 (take m (drop k l)) ≡ slid k m l
+  unfolding slid
+  slid-over h = let f = front-length h in sets-eq (take m (drop k l)) l 0 (omega arith) ∙ rw (f, zero-add m)
+
 -- nothing has moved yet
 pub slid-none : {A : Type 0} (k : ℕ) (l : List A) → l ≡ slid k 0 l
 unfolding slid
@@ -64,12 +70,30 @@ pairs-length [] = refl
 pairs-length (a ∷ []) = refl
 pairs-length (a ∷ b ∷ l) = omega (arith, pairs-length l)
 
--- a pair behind whole pairs
-pairs-last : (l : List ℕ) (a b : ℕ) → length l % 2 ≡ 0 → pairsOf (l ++ (a ∷ b ∷ [])) ≡ pairsOf l ++ (pair a b ∷ [])
-unfolding pairsOf
-pairs-last [] a b e = refl
-pairs-last (x ∷ []) a b e = absurd (omega arith)
-pairs-last (x ∷ y ∷ l) a b e = ap (λ (ps : List Pair). pair x y ∷ ps) (pairs-last l a b (omega arith))
+-- whole pairs, and their bytes
+pairs-bytes : (l : List ℕ) → length l % 2 ≡ 0 → pairBytes (pairsOf l) ≡ l
+unfolding pairsOf pairBytes
+pairs-bytes [] e = refl
+pairs-bytes (x ∷ []) e = absurd (omega arith)
+pairs-bytes (x ∷ y ∷ l) e = ap (λ (r : List ℕ). x ∷ y ∷ r) (pairs-bytes l (omega arith))
+
+-- the bytes of pairs, and the pairs
+bytes-pairs : (ps : List Pair) → pairsOf (pairBytes ps) ≡ ps
+unfolding pairsOf pairBytes
+bytes-pairs [] = refl
+bytes-pairs (pair a b ∷ ps) = ap (λ (r : List Pair). pair a b ∷ r) (bytes-pairs ps)
+
+-- pairs behind pairs
+bytes-append : (ps qs : List Pair) → pairBytes (ps ++ qs) ≡ pairBytes ps ++ pairBytes qs
+unfolding pairBytes
+bytes-append [] qs = refl
+bytes-append (pair a b ∷ ps) qs = ap (λ (r : List ℕ). a ∷ b ∷ r) (bytes-append ps qs)
+
+-- a pair is two bytes
+bytes-length : (ps : List Pair) → length (pairBytes ps) ≡ 2 * length ps
+unfolding pairBytes
+bytes-length [] = refl
+bytes-length (pair a b ∷ ps) = omega (arith, bytes-length ps)
 
 -- a queue within its limits
 pub record Sized (q : PairQueue) : Type 0 where
@@ -81,14 +105,36 @@ pub queue-none : (q : PairQueue) → q .count ≡ 0 → queueOf q ≡ []
 unfolding queueOf pairsOf
 queue-none q e = rw e
 
+-- a queue whose pairs are there
+module _ (q : PairQueue) (h : 2 * q .count ≤ length (q .bytes)) where
+  -- their bytes
+  taken : length (take (2 * q .count) (q .bytes)) ≡ 2 * q .count
+  taken = length-take-le (2 * q .count) (q .bytes) h
+
+  -- as many pairs as are counted
+  pub count-length : length (queueOf q) ≡ q .count
+  unfolding queueOf
+  count-length = omega (arith, taken, pairs-length (take (2 * q .count) (q .bytes)))
+
+  -- the bytes of the pairs that are queued
+  queue-bytes : pairBytes (queueOf q) ≡ take (2 * q .count) (q .bytes)
+  unfolding queueOf
+  queue-bytes = pairs-bytes (take (2 * q .count) (q .bytes)) (omega (arith, taken))
+
+  -- the pairs that are queued are in their places
+  pub over-same : queueOver q (queueOf q) ≡ q
+  unfolding queueOver
+  over-same =
+      rw (count-length, queue-bytes, sets-front (q .bytes) (take (2 * q .count) (q .bytes)) (omega (arith, taken)), taken, take-append-drop (2 * q .count) (q .bytes))
+
 module _ (q : PairQueue) (s : Sized q) where
+  -- its pairs are there
+  there : 2 * q .count ≤ length (q .bytes)
+  there = omega (arith, s .few, s .flat)
+
   -- as many pairs as are counted
   pub queue-length : length (queueOf q) ≡ q .count
-  unfolding queueOf
-  queue-length =
-      let f = s .few in
-      let e : length (take (2 * q .count) (q .bytes)) ≡ 2 * q .count = length-take-le (2 * q .count) (q .bytes) (omega (arith, s .flat)) in
-      omega (arith, pairs-length (take (2 * q .count) (q .bytes)))
+  queue-length = count-length q there
 
   -- a queue stays within its limits
   pub sized-popped : Sized (popped q)
@@ -105,17 +151,30 @@ module _ (q : PairQueue) (s : Sized q) where
       two-more (q .bytes) (2 * q .count) (omega arith) (omega arith)
       ∙ rw (e, slid-front 0 2 (q .bytes) (2 * q .count - 2) (omega arith))
 
-  -- a pair stored stands last
-  pub queue-pushed : (a b : ℕ) → q .count < 64 → queueOf (pushed q a b) ≡ queueOf q ++ (pair a b ∷ [])
-  unfolding queueOf
-  queue-pushed a b h =
+  -- one more pair stands behind them
+  pub over-pushed : (a b : ℕ) → q .count < 64 → queueOver q (queueOf q ++ (pair a b ∷ [])) ≡ pushed q a b
+  unfolding queueOver pairBytes
+  over-pushed a b h =
       let g = s .flat in
       let n : ℕ = 2 * q .count in
-      let e : 2 * (q .count + 1) ≡ n + 2 = omega arith in
       let l : length (take n (q .bytes)) ≡ n = length-take-le n (q .bytes) (omega arith) in
-      let m : length (take n (q .bytes) ++ (a ∷ b ∷ [])) ≡ n + 2 = simp (length-append, l) in
-      rw (e, add-one n, sets-eq (a ∷ b ∷ []) (q .bytes) n (omega arith), take-at (take n (q .bytes) ++ (a ∷ b ∷ [])) (drop (n + 2) (q .bytes)) (n + 2) m)
-      (pairs-last (take n (q .bytes)) a b (omega arith))
+      let c : length (queueOf q ++ (pair a b ∷ [])) ≡ q .count + 1 = simp (length-append, queue-length) in
+      let z : sets (q .bytes) 0 (take n (q .bytes)) ≡ q .bytes = sets-front (q .bytes) (take n (q .bytes)) (omega arith) ∙ rw l (take-append-drop n (q .bytes)) in
+      rw (c, bytes-append (queueOf q) (pair a b ∷ []), queue-bytes q there, sets-append (take n (q .bytes)) (a ∷ b ∷ []) (q .bytes) 0, z, l, zero-add n, add-one n)
+
+  -- pairs in the places of the queue
+  module _ (ps : List Pair) (few : length ps ≤ 64) where
+    -- are queued
+    pub over-queue : queueOf (queueOver q ps) ≡ ps
+    unfolding queueOf queueOver
+    over-queue =
+        let b = bytes-length ps in
+        rw (sets-front (q .bytes) (pairBytes ps) (omega (arith, s .flat)), take-at (pairBytes ps) (drop (length (pairBytes ps)) (q .bytes)) (2 * length ps) b) (bytes-pairs ps)
+
+    -- within the limits
+    pub over-sized : Sized (queueOver q ps)
+    unfolding queueOver
+    over-sized = record { few = few; flat = length-sets (q .bytes) 0 (pairBytes ps) ∙ s .flat }
 
 -- pairs that leave one after another
 pub queue-times : (k : ℕ) (q : PairQueue) → Sized q → k ≤ q .count → queueOf (poppedTimes k q) ≡ drop k (queueOf q)
@@ -140,60 +199,49 @@ sized-times (suc k) q s = sized-times k (popped q) (sized-popped q s)
 pub queue-down : (n : ℕ) (q : PairQueue) → Sized q → queueOf (downTo n q) ≡ drop (q .count - n) (queueOf q)
 queue-down n q s = queue-times (q .count - n) q s (omega arith)
 
--- no conjunction with what is false
-and-false : (x : Bool) → x && false ≡ false
-and-false true = refl
-and-false false = refl
+-- what comes down to the model's pairs, which stood last, holds these
+pub queue-back : (q : PairQueue) (r : List Pair) → Sized q → (length r ≤ length (queueOf q)) × (r ≡ drop (length (queueOf q) - length r) (queueOf q)) → queueOf (downTo (length r) q) ≡ r
+queue-back q r s (h, e) = queue-down (length r) q s ∙ rw (queue-length q s) at (sym e)
+
+-- the pairs of a queue in the places of another
+pub over-bytes : (q p : PairQueue) → Sized p → {d : List ℕ} → d ≡ sets (q .bytes) 0 (take (2 * p .count) (p .bytes)) → _≡_ {A = PairQueue} (record { bytes = d; count = p .count }) (queueOver q (queueOf p))
+unfolding queueOver
+over-bytes q p s {d} e = rw (e, queue-length p s, queue-bytes p (there p s))
 
 -- One law for each way out of a push, in the order of the tests.
 module _ (q : PairQueue) (a b : ℕ) where
-  -- what the push is to say, and the queue that it is to leave
+  -- what the push comes to
+  abbrev outcome : Outcome (List Pair)
+  outcome = checked (leb (q .count) mostQueued) (pushPair (pair a b) (queueOf q))
+
+  -- what it is to say, and the queue that it is to leave
   abbrev Pushed : Said → PairQueue → Type 0
-  Pushed said r = (said ≡ says (checked (leb (q .count) mostQueued) (pushPair (pair a b) (queueOf q)))) × (r ≡ pushedPair q a b)
+  Pushed said r = (said ≡ says outcome) × (r ≡ after q (mapped (queueOver q) outcome))
 
   -- more pairs than places
   pub push-over : 64 < q .count → Pushed badValue q
-  unfolding pushedPair
-  push-over h = (simp (lt-leb _ _ h), simp (le-ltb (q .count) 64 (omega arith)))
+  push-over h = (simp (lt-leb _ _ h), simp (lt-leb _ _ h))
 
   -- the pair that is dropped
-  pub push-null : {n : Bool} → q .count ≤ 64 → n ≡ isNull (pair a b) → n ≡ true → Pushed (accepted []) q
-  unfolding pushPair pushedPair
-  push-null h e t = let i : isNull (pair a b) ≡ true = sym e ∙ t in (simp (le-leb _ _ h, i), simp i (cc (and-false (ltb (q .count) 64))))
+  pub push-null : {n : Bool} → Sized q → n ≡ isNull (pair a b) → n ≡ true → Pushed (accepted []) q
+  unfolding pushPair
+  push-null s e t =
+      let i : isNull (pair a b) ≡ true = sym e ∙ t in
+      (simp (le-leb _ _ (s .few), i), simp (le-leb _ _ (s .few), i, over-same q (there q s)))
 
   -- no place left
   pub push-full : {n : Bool} → Sized q → n ≡ isNull (pair a b) → n ≡ false → q .count ≡ 64 → Pushed full q
-  unfolding pushPair pushedPair queued
+  unfolding pushPair queued
   push-full s e t h =
       let i : isNull (pair a b) ≡ false = sym e ∙ t in
-      (simp (le-leb (q .count) 64 (omega arith), i, queue-length q s, le-leb 64 (q .count) (omega arith)), simp (le-ltb (q .count) 64 (omega arith)))
+      let f : leb 64 (q .count) ≡ true = le-leb 64 (q .count) (omega arith) in
+      (simp (le-leb _ _ (s .few), i, queue-length q s, f), simp (le-leb _ _ (s .few), i, queue-length q s, f))
 
   -- a place is left
   pub push-free : {n : Bool} {r : PairQueue} → Sized q → n ≡ isNull (pair a b) → n ≡ false → (q .count ≡ 64 → ⊥) → r ≡ pushed q a b → Pushed (accepted []) r
-  unfolding pushPair pushedPair queued
+  unfolding pushPair queued
   push-free s e t h p =
       let i : isNull (pair a b) ≡ false = sym e ∙ t in
       let f : q .count < 64 = omega (arith, s .few) in
-      (simp (le-leb (q .count) 64 (omega arith), i, queue-length q s, lt-leb 64 (q .count) f), simp (p, lt-ltb (q .count) 64 f, i))
-
--- what a push does to a queue within its limits is what it does in the model: it refuses and leaves the queue, or gives the queue
-pub push-cases : {P : Type 0} (q : PairQueue) (a b : ℕ) → Sized q
-    → (pushPair (pair a b) (queueOf q) ≡ refused full → pushedPair q a b ≡ q → P)
-    → (pushPair (pair a b) (queueOf q) ≡ gave (queueOf (pushedPair q a b)) → P) → P
-unfolding pushPair pushedPair queued
-push-cases q a b s over put =
-    by-test (isNull (pair a b))
-    (λ i. put (simp (i, and-false (ltb (q .count) 64))))
-    (λ i. by-test (ltb (q .count) 64)
-    (λ e. let h : q .count < 64 = ltb-true (q .count) 64 e in
-    put (simp (i, e, queue-length q s, lt-leb 64 (q .count) h) (ap gave (sym (queue-pushed q s a b h)))))
-    (λ e. let h : 64 ≤ q .count = ltb-false (q .count) 64 e in
-    over (simp (i, queue-length q s, le-leb 64 (q .count) h)) (simp (i, e))))
-
--- a push keeps the limits
-pub sized-pushed : (q : PairQueue) (a b : ℕ) → Sized q → Sized (pushedPair q a b)
-unfolding pushedPair
-sized-pushed q a b s =
-    by-cond Sized (takes q a b)
-    (λ e. record { few = omega (arith, ltb-true (q .count) 64 (both (ltb (q .count) 64) (not (isNull (pair a b))) e .0)); flat = simp length-set (s .flat) })
-    (λ _. s)
+      let g : leb 64 (q .count) ≡ false = lt-leb 64 (q .count) f in
+      (simp (le-leb _ _ (s .few), i, queue-length q s, g), rw (le-leb _ _ (s .few), i, queue-length q s, g, over-pushed q s a b f) p)

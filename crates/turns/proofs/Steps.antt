@@ -1,23 +1,22 @@
 -- The turns: what a turn does to the queues and the frame is what the model's turn does. Assumes nothing.
-use mathlib.Core.Path.{_≡_, refl, sym, ap, _∙_}
-use mathlib.Core.Bool.{Bool, true, false, cond, not, _&&_}
-use mathlib.Core.List.{List, [], _∷_, _++_, append-nil}
-use Prim.Native.Nat.{ℕ, zero, suc, _+_, _-_, _*_, _≤_, _<_}
-use native.Mathlib.Nat.{add-zero, add-assoc}
-use native.Mathlib.Numerals.{add-one}
+use mathlib.Core.Path.{_≡_, refl, _∙_}
+use mathlib.Core.Bool.{Bool, true, false, cond, not}
+use mathlib.Core.List.{List, [], _∷_, _++_}
+use Prim.Native.Nat.{ℕ, zero, suc, _-_, _*_, _≤_, _<_}
+use native.Mathlib.Nat.{add-zero}
 use native.Mathlib.Omega.{arith}
-use borrow.Author.Tests.{ltb-true, ltb-false, leb-true, le-leb, lt-leb, le-ltb, lt-ltb}
-use lib.Dec.{leb, ltb}
-use lib.ListN.{length, drop, getD, set, length-append}
+use borrow.Author.Tests.{ltb-true, ltb-false, le-leb, lt-leb}
+use lib.Dec.{ltb}
+use lib.ListN.{length, drop}
 use Rattle.model.specs.Frame.{Pair, pair, Triple, tri, flat}
-use Rattle.model.specs.Mux.{Turned, turn1, turn2, mostQueued}
-use Rattle.model.proofs.Cases.{by-test, by-cond, both}
+use Rattle.model.specs.Mux.{Turned, turn1, turn2}
+use Rattle.model.proofs.Cases.{by-test, by-cond}
 use Rattle.model.proofs.Frames.{flat-length}
-use Rattle.frames.specs.Frame.{appended}
 use Rattle.frames.proofs.Stores.{appended-flat}
-use Rattle.turns.specs.Queue.{queueOf, popped, poppedTimes, downTo}
-use Rattle.turns.specs.Turn.{Fits, fits, rest, under, triple1, triple2, sent1, sent2, taken, turnsFrom, takenFrom}
-use Rattle.turns.proofs.Queues.{Sized, queue-none, queue-some, queue-length, sized-popped}
+use Rattle.turns.specs.Queue.{queueOf}
+use Rattle.turns.specs.Turn.{fits, taken, turnsFrom, takenFrom}
+use Rattle.turns.specs.Step.{popped, poppedTimes, downTo, Fits, rest, triple1, triple2, sent1, sent2, stepped, laidOver}
+use Rattle.turns.proofs.Queues.{Sized, queue-none, queue-some, queue-length, queue-back, sized-popped, count-times}
 use Rattle.turns.specs.declared.PairQueue.{PairQueue}
 use Rattle.turns.specs.declared.Turns.{Turns}
 
@@ -149,17 +148,17 @@ few2 pad p =
 
 module _ (t : Turns) (s : Sized (t .field1)) (z : Sized (t .field2)) (pad : Bool) where
   -- no turn is left
-  pub none-left1 : (n : ℕ) → n ≡ 0 → t .«field2_next» ≡ false → t ≡ taken t (turn1 n pad (queueOf (t .field1)) (queueOf (t .field2)))
+  pub none-left1 : (n : ℕ) → n ≡ 0 → t .«field2_next» ≡ false → t ≡ stepped t (turn1 n pad (queueOf (t .field1)) (queueOf (t .field2)))
   unfolding turn1 flat
   none-left1 n e f = rw (e, down-all (t .field1) s, down-all (t .field2) z, add-zero (t .frame .len), f)
 
   -- the same for field 2
-  pub none-left2 : (n : ℕ) → n ≡ 0 → t .«field2_next» ≡ true → t ≡ taken t (turn2 n pad (queueOf (t .field1)) (queueOf (t .field2)))
+  pub none-left2 : (n : ℕ) → n ≡ 0 → t .«field2_next» ≡ true → t ≡ stepped t (turn2 n pad (queueOf (t .field1)) (queueOf (t .field2)))
   unfolding turn1 flat
   none-left2 n e f = rw (e, down-all (t .field1) s, down-all (t .field2) z, add-zero (t .frame .len), f)
 
   -- one field 1 turn, and then the others
-  more1 : (n : ℕ) → taken (sent1 pad t) (turn2 n pad (queueOf (rest (t .field1))) (queueOf (t .field2))) ≡ taken t (turn1 (suc n) pad (queueOf (t .field1)) (queueOf (t .field2)))
+  more1 : (n : ℕ) → stepped (sent1 pad t) (turn2 n pad (queueOf (rest (t .field1))) (queueOf (t .field2))) ≡ stepped t (turn1 (suc n) pad (queueOf (t .field1)) (queueOf (t .field2)))
   more1 n =
       let r : Turned = turn2 n pad (queueOf (rest (t .field1))) (queueOf (t .field2)) in
       let l = leaves2 n pad (queueOf (rest (t .field1))) (queueOf (t .field2)) in
@@ -167,7 +166,7 @@ module _ (t : Turns) (s : Sized (t .field1)) (z : Sized (t .field2)) (pad : Bool
       rw (step1 (t .field1) (t .field2) s z n pad, down-rest (length (r .queue1)) (t .field1) k, appended-flat (t .frame) (triple1 pad (t .field1) (t .field2)) (r .out))
 
   -- one field 2 turn, and then the others
-  more2 : (n : ℕ) → taken (sent2 pad t) (turn1 n pad (queueOf (t .field1)) (queueOf (rest (t .field2)))) ≡ taken t (turn2 (suc n) pad (queueOf (t .field1)) (queueOf (t .field2)))
+  more2 : (n : ℕ) → stepped (sent2 pad t) (turn1 n pad (queueOf (t .field1)) (queueOf (rest (t .field2)))) ≡ stepped t (turn2 (suc n) pad (queueOf (t .field1)) (queueOf (t .field2)))
   more2 n =
       let r : Turned = turn1 n pad (queueOf (t .field1)) (queueOf (rest (t .field2))) in
       let l = leaves1 n pad (queueOf (t .field1)) (queueOf (rest (t .field2))) in
@@ -175,12 +174,12 @@ module _ (t : Turns) (s : Sized (t .field1)) (z : Sized (t .field2)) (pad : Bool
       rw (step2 (t .field1) (t .field2) s z n pad, down-rest (length (r .queue2)) (t .field2) k, appended-flat (t .frame) (triple2 pad (t .field2)) (r .out))
 
   -- a turn, and then those that are left
-  pub turn-more1 : (n : ℕ) → 1 ≤ n → taken (sent1 pad t) (turn2 (n - 1) pad (queueOf (sent1 pad t .field1)) (queueOf (t .field2))) ≡ taken t (turn1 n pad (queueOf (t .field1)) (queueOf (t .field2)))
+  pub turn-more1 : (n : ℕ) → 1 ≤ n → stepped (sent1 pad t) (turn2 (n - 1) pad (queueOf (sent1 pad t .field1)) (queueOf (t .field2))) ≡ stepped t (turn1 n pad (queueOf (t .field1)) (queueOf (t .field2)))
   turn-more1 zero h = absurd (omega arith)
   turn-more1 (suc n) h = let e : suc n - 1 ≡ n = omega arith in rw e (more1 n)
 
   -- the same for field 2
-  pub turn-more2 : (n : ℕ) → 1 ≤ n → taken (sent2 pad t) (turn1 (n - 1) pad (queueOf (t .field1)) (queueOf (sent2 pad t .field2))) ≡ taken t (turn2 n pad (queueOf (t .field1)) (queueOf (t .field2)))
+  pub turn-more2 : (n : ℕ) → 1 ≤ n → stepped (sent2 pad t) (turn1 (n - 1) pad (queueOf (t .field1)) (queueOf (sent2 pad t .field2))) ≡ stepped t (turn2 n pad (queueOf (t .field1)) (queueOf (t .field2)))
   turn-more2 zero h = absurd (omega arith)
   turn-more2 (suc n) h = let e : suc n - 1 ≡ n = omega arith in rw e (more2 n)
 
@@ -235,17 +234,28 @@ module _ (t : Turns) (n : ℕ) (pad : Bool) where
       let k : n ≤ 31 = omega (arith, f .room) in
       simp (le-leb _ _ (f .first), le-leb _ _ (f .second), le-leb _ _ k, le-leb (t .frame .len) (95 - 3 * n) (omega (arith, f .room)))
 
-  -- field 1 has the next turn
-  pub from1 : {r : Turns} → Fits t n → t .«field2_next» ≡ false → r ≡ taken t (turn1 n pad (queueOf (t .field1)) (queueOf (t .field2)))
-      → r ≡ cond (fits t n) (takenFrom n pad t) t
-  unfolding turnsFrom
-  from1 f e z = z ∙ rw (fit f, e)
+  module _ (f : Fits t n) (one : Sized (t .field1)) (two : Sized (t .field2)) {s r : Turns} where
+    -- what the model's turns leave stands where it is said to stand
+    laid-taken : (m : Turned) → Leaves n (queueOf (t .field1)) (queueOf (t .field2)) m → s ≡ stepped t m → r ≡ laidOver t s → r ≡ taken t m
+    laid-taken m l e g = g ∙ rw (e, queue-back (t .field1) (m .queue1) one (l .back1), queue-back (t .field2) (m .queue2) two (l .back2))
 
-  -- field 2 has the next turn
-  pub from2 : {r : Turns} → Fits t n → t .«field2_next» ≡ true → r ≡ taken t (turn2 n pad (queueOf (t .field1)) (queueOf (t .field2)))
-      → r ≡ cond (fits t n) (takenFrom n pad t) t
-  unfolding turnsFrom
-  from2 f e z = z ∙ rw (fit f, e)
+    -- field 1 has the next turn
+    pub from1 : t .«field2_next» ≡ false → s ≡ stepped t (turn1 n pad (queueOf (t .field1)) (queueOf (t .field2))) → r ≡ laidOver t s → r ≡ cond (fits t n) (takenFrom n pad t) t
+    unfolding turnsFrom
+    from1 e z g = laid-taken _ (leaves1 n pad (queueOf (t .field1)) (queueOf (t .field2))) z g ∙ rw (fit f, e)
+
+    -- field 2 has the next turn
+    pub from2 : t .«field2_next» ≡ true → s ≡ stepped t (turn2 n pad (queueOf (t .field1)) (queueOf (t .field2))) → r ≡ laidOver t s → r ≡ cond (fits t n) (takenFrom n pad t) t
+    unfolding turnsFrom
+    from2 e z g = laid-taken _ (leaves2 n pad (queueOf (t .field1)) (queueOf (t .field2))) z g ∙ rw (fit f, e)
+
+  -- no more pairs are left than there were
+  pub stepped-few : Fits t n → (m : Turned) (s : Turns) → s ≡ stepped t m → (s .field1 .count ≤ 64) × (s .field2 .count ≤ 64)
+  stepped-few f m s e =
+      rw e (
+        omega (arith, f .first, count-times (t .field1 .count - length (m .queue1)) (t .field1)),
+        omega (arith, f .second, count-times (t .field2 .count - length (m .queue2)) (t .field2)),
+      )
 
 -- the next turn is remembered as the other field's
 pub not-not : (b : Bool) → not (not b) ≡ b

@@ -1,2 +1,3 @@
 pub mod Queue
 pub mod Turn
+pub mod Step

@@ -2,17 +2,18 @@
 use caption::Answer;
 use caption::Refusal;
 use frames::Frame;
+use service::put_bytes;
 ghost use mathlib.Core.Path.{_≡_};
 ghost use mathlib.Core.Bool.{true, false, cond};
-ghost use mathlib.Core.List.{[], _∷_};
 ghost use Prim.Native.Nat.{_+_, _*_, _≤_, _<_};
 ghost use lib.Dec.{leb};
-ghost use Rattle.model.specs.Said.{says, checked};
+ghost use Rattle.model.specs.Said.{says, after, mapped, checked};
 ghost use Rattle.model.specs.Frame.{pair};
 ghost use Rattle.model.specs.Mux.{isNull, pushPair, turn1, turn2, mostQueued};
 ghost use Rattle.caption.specs.Answers.{saidAnswer};
-ghost use Rattle.turns.specs.Queue.{queueOf, pushed, pushedPair, popped};
-ghost use Rattle.turns.specs.Turn.{Fits, fits, sent1, sent2, taken, takenFrom};
+ghost use Rattle.turns.specs.Queue.{queueOf, queueOver};
+ghost use Rattle.turns.specs.Turn.{fits, takenFrom};
+ghost use Rattle.turns.specs.Step.{popped, Fits, sent1, sent2, stepped, laidOver};
 
 // The places of a field's queue.
 const MOST_QUEUED: usize = 64;
@@ -39,7 +40,7 @@ impl PairQueue {
     // Pushes a pair: 0x80,0x80 is accepted and dropped, even on a full queue.
     pub fn push(mut self, a: u8, b: u8) -> QueuePush
         ensures { λ r. ⌜ saidAnswer (r .answer) ≡ says (checked (leb (self .count) mostQueued) (pushPair (pair a b) (queueOf self))) ⌝ }
-        ensures { λ r. ⌜ r .queue ≡ pushedPair self a b ⌝ }
+        ensures { λ r. ⌜ r .queue ≡ after self (mapped (queueOver self) (checked (leb (self .count) mostQueued) (pushPair (pair a b) (queueOf self)))) ⌝ }
     {
         let n = self.count;
         if MOST_QUEUED < n {
@@ -87,6 +88,20 @@ impl PairQueue {
             count: n - 1,
         }
     }
+
+    // The pairs of another queue in the places of this one; what stands behind them stays.
+    fn over(self, left: PairQueue) -> PairQueue
+        requires { ⌜ left .count ≤ mostQueued ⌝ }
+        ensures { λ r. ⌜ r ≡ queueOver self (queueOf left) ⌝ }
+    {
+        let from = left.bytes;
+        let mut bytes = self.bytes;
+        put_bytes(&mut bytes, 0, &from[0..2 * left.count]);
+        PairQueue {
+            bytes,
+            count: left.count,
+        }
+    }
 }
 
 // Whether a pair is 0x80,0x80: nothing to send.
@@ -128,9 +143,27 @@ impl Turns {
             return self;
         }
         if self.field2_next {
-            return field2_turn(self, pad, turns);
+            return lay_over(self, field2_turn(self, pad, turns));
         }
-        field1_turn(self, pad, turns)
+        lay_over(self, field1_turn(self, pad, turns))
+    }
+}
+
+// What turns leave, with the queues in the places of those that were there.
+fn lay_over(old: Turns, t: Turns) -> Turns
+    requires { ⌜ (t .field1 .count ≤ mostQueued) × (t .field2 .count ≤ mostQueued) ⌝ }
+    ensures { λ r. ⌜ r ≡ laidOver old t ⌝ }
+{
+    let q = old.field1;
+    let p = old.field2;
+    let field1 = q.over(t.field1);
+    let field2 = p.over(t.field2);
+    let frame = t.frame;
+    Turns {
+        field1,
+        field2,
+        field2_next: t.field2_next,
+        frame,
     }
 }
 
@@ -220,7 +253,7 @@ fn send2(t: Turns, pad: bool) -> Turns
 // A field 1 turn, and then a field 2 turn, while turns are left.
 fn field1_turn(t: Turns, pad: bool, left: usize) -> Turns
     requires { ⌜ Fits t left × (t .«field2_next» ≡ false) ⌝ }
-    ensures { λ r. ⌜ r ≡ taken t (turn1 left pad (queueOf (t .field1)) (queueOf (t .field2))) ⌝ }
+    ensures { λ r. ⌜ r ≡ stepped t (turn1 left pad (queueOf (t .field1)) (queueOf (t .field2))) ⌝ }
 {
     if left == 0 {
         return t;
@@ -232,7 +265,7 @@ fn field1_turn(t: Turns, pad: bool, left: usize) -> Turns
 // A field 2 turn, and then a field 1 turn, while turns are left.
 fn field2_turn(t: Turns, pad: bool, left: usize) -> Turns
     requires { ⌜ Fits t left × (t .«field2_next» ≡ true) ⌝ }
-    ensures { λ r. ⌜ r ≡ taken t (turn2 left pad (queueOf (t .field1)) (queueOf (t .field2))) ⌝ }
+    ensures { λ r. ⌜ r ≡ stepped t (turn2 left pad (queueOf (t .field1)) (queueOf (t .field2))) ⌝ }
 {
     if left == 0 {
         return t;

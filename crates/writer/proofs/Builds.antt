@@ -1,31 +1,30 @@
 -- A frame that is built is the model's frame, and the state after it is what the model leaves. Assumes nothing.
 use mathlib.Core.Path.{_≡_, refl, sym, ap, _∙_}
-use mathlib.Core.Bool.{Bool, true, false, cond, not}
-use mathlib.Core.List.{List, [], _∷_, _++_, append-assoc}
-use Prim.Native.Nat.{ℕ, zero, suc, _+_, _-_, _*_, _/_, _%_, _≤_, _<_, min, max}
+use mathlib.Core.Bool.{true, cond}
+use mathlib.Core.List.{List, [], _++_, append-assoc}
+use Prim.Native.Nat.{ℕ, _+_, _-_, _*_, _%_, _≤_, min}
 use native.Mathlib.Omega.{arith}
-use lib.ListN.{length, take, drop, replicate, length-append, length-map}
-use lib.Seq.{length-take-le}
-use Rattle.model.specs.Packet.{Packet}
-use Rattle.model.specs.Frame.{Triple, tri, Pair, flat}
+use lib.ListN.{length, take}
+use Rattle.model.specs.Frame.{Triple, flat}
 use Rattle.model.specs.Rate.{Budgets}
-use Rattle.model.specs.Mux.{Mux, Turned, turn1, turn2, turned, turnsDue, countDue, triplesQueued, Sent, send, padding, framed, writeFrame}
+use Rattle.model.specs.Mux.{Mux, Turned, turned, turnsDue, countDue, triplesQueued, Sent, padding, framed, writeFrame, validMux}
 use Rattle.model.proofs.Cases.{by-cond}
 use Rattle.model.proofs.Frames.{flat-length}
+use Rattle.model.proofs.MuxStates.{write-valid}
 use Rattle.frames.specs.Frame.{headed, appended, fillers}
 use Rattle.frames.proofs.Stores.{appended-flat}
-use Rattle.turns.specs.Queue.{queueOf}
-use Rattle.turns.specs.Turn.{Fits, fits, taken, turnsFrom, takenFrom}
-use Rattle.turns.proofs.Queues.{Sized, queue-length}
+use Rattle.turns.specs.Turn.{fits, taken, turnsFrom, takenFrom}
+use Rattle.slots.specs.Slot.{writtenBytes}
+use Rattle.writer.specs.Writer.{packetsOf, leftFrom, means, moved}
+use Rattle.writer.specs.Sending.{stands, sentFrom}
+use Rattle.writer.specs.Making.{Ok, madeOf, joined, laid, Builds, turnsOf, triplesIn, padded, filled, startOf, turnsOn, Room}
+use Rattle.turns.proofs.Queues.{queue-length}
 use Rattle.turns.proofs.Steps.{Leaves, leaves1, leaves2, fit}
 use Rattle.frames.specs.declared.Frame.{Frame}
 use Rattle.turns.specs.declared.Turns.{Turns}
-use Rattle.slots.specs.Slot.{slotPacket, writtenBytes}
-use Rattle.writer.specs.Slots.{packetsOf, leftFrom}
-use Rattle.writer.specs.Sending.{stands, sentFrom}
-use Rattle.writer.specs.Writer.{means, Ok, madeOf, joined, leftBy, afterFrame, laid, Builds, turnsOf, triplesIn, padded, filled, startOf, turnsOn, Room}
-use Rattle.writer.proofs.Sends.{send-fewer}
-use Rattle.writer.proofs.Fills.{send-few, sent-next, sent-slot}
+use Rattle.writer.proofs.Valid.{Shaped, Order}
+use Rattle.writer.proofs.Moved as moved
+use Rattle.writer.proofs.Fills.{sent-next, sent-slot}
 use Rattle.writer.specs.declared.Sending.{Sending}
 use Rattle.writer.specs.declared.CCDataWriter.{CCDataWriter}
 use Rattle.writer.specs.declared.Made.{Made}
@@ -52,6 +51,27 @@ module _ (b : Budgets) (s : Mux) (within : b .pairs ≤ b .triples) where
   pub count-least : turnsDue (b .pairs) s ≤ countDue b s
   unfolding countDue
   count-least = let m = turns-most (b .pairs) s in by-cond (λ (n : ℕ). turnsDue (b .pairs) s ≤ n) (s .padOut) (λ _. omega arith) (λ _. omega arith)
+
+-- what a frame leaves means what the model leaves, and stays in order
+module _ (w : CCDataWriter) (b : Budgets) (ok : Ok w) (v : validMux (means w) ≡ true) where
+  -- the packet triples of the frame
+  m : ℕ
+  m = countDue b (means w) - length (turned (turnsDue (b .pairs) (means w)) (means w) .out)
+
+  -- it means that
+  pub means-frame : means (moved w (writeFrame b (means w) .next)) ≡ writeFrame b (means w) .next
+  unfolding means writeFrame framed m
+  means-frame = moved.means-moved w ok m (writeFrame b (means w) .next) refl refl (write-valid b (means w) v)
+
+  -- in order
+  pub order-frame : Order w → Order (moved w (writeFrame b (means w) .next))
+  unfolding means writeFrame framed m
+  order-frame = moved.order-moved w ok m (writeFrame b (means w) .next) refl refl (write-valid b (means w) v)
+
+  -- with arrays of their lengths
+  pub shaped-frame : Shaped (moved w (writeFrame b (means w) .next))
+  unfolding means writeFrame framed m
+  shaped-frame = moved.shaped-moved w ok m (writeFrame b (means w) .next) refl refl (write-valid b (means w) v)
 
 module _ (w : CCDataWriter) (b : Budgets) (ok : Ok w) (within : b .pairs ≤ b .triples) (most : b .triples ≤ 31) where
   -- the turns and the count
@@ -116,22 +136,12 @@ module _ (w : CCDataWriter) (b : Budgets) (ok : Ok w) (within : b .pairs ≤ b .
 
   -- the packet triples
   abbrev sends : Sent
-  sends = send (count - length (turns .out)) (leftFrom (w .sent) (writtenBytes (w .sending))) (packetsOf (take (w .«packet_count») (w .packets)))
+  sends = moved.sends w ok (count - length (turns .out))
 
   -- the code's packet triples are the model's
   sends-are : sentFrom (w .packets) (w .«packet_count») (startOf w frame) (count - triplesIn frame) ≡ stands (w .packets) (w .«packet_count») (startOf w frame) sends
   unfolding sentFrom
   sends-are = let e : triplesIn frame ≡ length (turns .out) = omega (arith, frame-length) in rw e
-
-  -- no packet comes back
-  fewer : length (sends .packets) ≤ w .«packet_count»
-  fewer =
-      omega (
-        arith,
-        send-fewer (count - length (turns .out)) (leftFrom (w .sent) (writtenBytes (w .sending))) (packetsOf (take (w .«packet_count») (w .packets))),
-        length-map (take (w .«packet_count») (w .packets)) slotPacket,
-        length-take-le (w .«packet_count») (w .packets) (omega (arith, ok .queued .few, ok .queued .places)),
-      )
 
   -- the whole frame
   abbrev fillings : List Triple
@@ -165,11 +175,11 @@ module _ (w : CCDataWriter) (b : Budgets) (ok : Ok w) (within : b .pairs ≤ b .
     frame-are = rw (g, e, sends-are, whole (appended frame (flat (sends .out))) refl)
 
     -- the state is what the model leaves
-    writer-are : joined w (madeOf t s) ≡ afterFrame b w
-    unfolding filled stands afterFrame means writeFrame framed padding
+    writer-are : joined w (madeOf t s) ≡ moved w (writeFrame b (means w) .next)
+    unfolding filled stands means writeFrame framed padding
     writer-are =
-        let k : w .«packet_count» - (w .«packet_count» - length (sends .packets)) ≡ length (sends .packets) = omega (arith, fewer) in
-        rw (g, e, sends-are, k)
+        let k : w .«packet_count» - (w .«packet_count» - length (sends .packets)) ≡ length (sends .packets) = omega (arith, moved.fewer w ok (count - length (turns .out))) in
+        rw (g, e, sends-are, k) (sym (moved.moved-is w ok (count - length (turns .out)) (writeFrame b (means w) .next) refl refl))
 
     -- frame and state are what the model says
     pub built-are : Builds b w (madeOf t s)

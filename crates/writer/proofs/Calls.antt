@@ -1,60 +1,69 @@
 -- One law for each way out of a call. Assumes nothing.
 use mathlib.Core.Path.{_≡_, refl, sym, ap, _∙_}
-use mathlib.Core.Bool.{Bool, true, false, cond, not, _&&_, _||_}
+use mathlib.Core.Bool.{Bool, true, false, cond, _||_}
 use mathlib.Core.List.{List, [], _∷_, _++_}
-use Prim.Native.Nat.{ℕ, zero, suc, _+_, _-_, _*_, _≤_, _<_}
+use Prim.Native.Nat.{ℕ, _+_, _-_, _*_, _≤_, _<_}
 use native.Mathlib.Omega.{arith}
 use borrow.Author.Tests.{lt-ltb, le-ltb, le-leb}
 use lib.Dec.{eqb, leb, ltb}
-use lib.ListN.{length, take, drop, replicate, take-append-drop, length-append, length-take, length-replicate}
-use lib.Seq.{sets, sets-eq, take-at}
-use Rattle.model.specs.Said.{Said, Outcome, gave, refused, accepted, says, saysWith, after, checked, measured, mapped, putInto, badValue, badRate, outShort}
+use lib.ListN.{length, take, drop, replicate, take-append-drop, length-append, length-replicate}
+use lib.Seq.{sets-eq, take-at}
+use Rattle.model.specs.Said.{Outcome, gave, refused, accepted, says, saysWith, after, checked, measured, mapped, putInto, badValue, badRate}
 use Rattle.model.specs.Frame as model
-use Rattle.model.specs.Frame.{Pair, pair, Triple, tri, flat, frameBytes}
+use Rattle.model.specs.Frame.{Cea608, field1, field2, Pair, pair, Triple, tri, flat, frameBytes}
 use Rattle.model.specs.Rate.{Budgets, pairsAt, triplesAt, mostTriples, budgets}
-use Rattle.model.specs.Mux.{Mux, Turned, turned, turnsDue, countDue, Sent, send, padding, framed, Written, writeFrame, writeAt, pushPair, pushCea608}
+use Rattle.model.specs.Mux.{Mux, Turned, turned, turnsDue, countDue, Sent, send, padding, framed, writeFrame, writeAt, withPads, withQueues, flushMux, pushPair, pushCea608}
 use Rattle.model.specs.Duration.{pairsDuration, bytesDuration, lengthsOf, bytesLeft, field1Duration, field2Duration, packetDuration}
-use Rattle.model.proofs.Cases.{by-test, by-cond}
+use Rattle.model.proofs.Cases.{by-cond, Gives}
 use Rattle.model.proofs.Frames.{flat-length, frame-length}
-use Rattle.model.proofs.Rates.{Sane, accepted-sane}
-use Rattle.caption.specs.Answers.{saidRefusal, saidAnswer, saidCounted}
-use Rattle.caption.specs.Rates.{saidBudgets, pairsThenTriples, budgetsOf}
-use Rattle.caption.specs.Pairs.{cea608Of}
+use Rattle.model.proofs.Rates.{accepted-sane}
+use Rattle.caption.specs.Answers.{saidRefusal, saidAnswer}
+use Rattle.caption.specs.Rates.{saidBudgets, pairsThenTriples}
 use Rattle.caption.proofs.Rates.{budgets-meant}
 use Rattle.caption.specs.declared.Answer.{Answer}
 use Rattle.caption.specs.declared.Answer.the-variants as answer
-use Rattle.caption.specs.declared.Refusal.the-variants.{BadValue}
+use Rattle.caption.specs.declared.Refusal.{Refusal}
+use Rattle.caption.specs.declared.Refusal.the-variants.{BadValue, BadRate, OutShort}
 use Rattle.caption.specs.declared.Cea608.the-variants.{Field1, Field2}
 use Rattle.caption.specs.declared.Framerate.{Framerate}
 use Rattle.caption.specs.declared.Budgets as caption
-use Rattle.caption.specs.declared.Budgets.the-variants.{Of, BadRate}
-use Rattle.frames.specs.Frame.{headed, appended, emitted}
+use Rattle.caption.specs.declared.Budgets.the-variants.{Of, BadRate as NoBudgets}
+use Rattle.frames.specs.Frame.{headed, emitted}
 use Rattle.frames.proofs.Stores.{emitted-whole}
-use Rattle.turns.specs.Queue.{queueOf, slid, pushedPair}
-use Rattle.turns.proofs.Queues.{Sized, queue-length, push-cases}
+use Rattle.turns.specs.Queue.{queueOf, queueOver}
+use Rattle.turns.specs.Step.{slid}
+use Rattle.slots.specs.Slot.{writtenBytes}
+use Rattle.writer.specs.Writer.{packetsOf, leftFrom, means, validWriter, stored, emptied}
+use Rattle.writer.specs.Calls.{Answers, budgetsAt, frameLength, written, Writes}
+use Rattle.writer.specs.Making.{Ok, laid, unmadeOf, joined, Builds, withPadding, withFields, pairOutcome, Makes}
+use Rattle.turns.proofs.Queues.{queue-length}
 use Rattle.frames.specs.declared.Frame.{Frame}
 use Rattle.turns.specs.declared.PairQueue.{PairQueue}
-use Rattle.slots.specs.Slot.{writtenBytes}
 use Rattle.slots.specs.declared.Slot.{Slot}
 use Rattle.caption.specs.declared.Counted.{Counted}
-use Rattle.writer.specs.Slots.{packetsOf, leftFrom}
-use Rattle.writer.specs.Writer.{means, validWriter, Ok, laid, unmadeOf, joined, Builds, afterFrame}
-use Rattle.writer.specs.Calls.{Answers, withFields, pushedTo, budgetsAt, frameLength, written, Wrote, Makes}
+use Rattle.caption.specs.declared.Counted.the-variants as counted
 use Rattle.writer.proofs.Fills.{send-few}
-use Rattle.writer.proofs.Builds.{leaves, count-most, count-least}
+use Rattle.writer.proofs.Valid.{Shaped, Order, valid-order, valid-ok, valid-mux}
+use Rattle.writer.proofs.Builds.{leaves, count-most, count-least, means-frame}
+use Rattle.writer.proofs.Stored.{Grows, grows-pads, grows-pair, stored-pads, stored-first, stored-second, means-stored, means-emptied}
 use Rattle.writer.specs.declared.CCDataWriter.{CCDataWriter}
-use Rattle.writer.specs.declared.WriterAnswer.{WriterAnswer}
 use Rattle.writer.specs.declared.Made.{Made}
+
+-- an answer, by what it says and where the state stands, if the places of what the model gives mean it
+pub answered : (o : Outcome Mux) {f : Mux → CCDataWriter} {w y : CCDataWriter} {r : Answer} → saidAnswer r ≡ says o → y ≡ after w (mapped f o) → Gives (λ (x : Mux). means (f x) ≡ x) o
+    → Answers o f w (record { answer = r; writer = y })
+answered (gave x) a e g = record { answer = a; means = ap means e ∙ g; places = e }
+answered (refused why) a e g = record { answer = a; means = ap means e; places = e }
 
 -- a state outside its limits, and one within them
 module _ (w : CCDataWriter) {v : Bool} (e : v ≡ validWriter w) where
   -- a state outside its limits is refused
-  pub refused-value : (o : Outcome CCDataWriter) → v ≡ false → Answers (checked (validWriter w) o) w (record { answer = answer.Refused BadValue; writer = w })
-  refused-value o f = let z : validWriter w ≡ false = sym e ∙ f in record { answer = rw z; writer = rw z }
+  pub refused-value : (o : Outcome Mux) (f : Mux → CCDataWriter) → v ≡ false → Answers (checked (validWriter w) o) f w (record { answer = answer.Refused BadValue; writer = w })
+  refused-value o f z = rw (sym e ∙ z) (record { answer = refl; means = refl; places = refl })
 
   -- one within them is accepted
-  pub accepted-value : (x y : CCDataWriter) → v ≡ true → y ≡ x → Answers (checked (validWriter w) (gave x)) w (record { answer = answer.Accepted; writer = y })
-  accepted-value x y t q = let z : validWriter w ≡ true = sym e ∙ t in record { answer = rw z; writer = rw z q }
+  pub accepted-value : (x : Mux) (f : Mux → CCDataWriter) (y : CCDataWriter) → v ≡ true → y ≡ f x → means (f x) ≡ x → Answers (checked (validWriter w) (gave x)) f w (record { answer = answer.Accepted; writer = y })
+  accepted-value x f y t q m = rw (sym e ∙ t) (answered (gave x) refl q m)
 
   -- a number asked of it is given
   pub measured-value : (n m : ℕ) → v ≡ true → m ≡ n → accepted (m ∷ []) ≡ measured (validWriter w) n
@@ -64,36 +73,77 @@ module _ (w : CCDataWriter) {v : Bool} (e : v ≡ validWriter w) where
   pub refused-measure : (n : ℕ) → v ≡ false → badValue ≡ measured (validWriter w) n
   refused-measure n f = let z : validWriter w ≡ false = sym e ∙ f in rw z
 
--- what a mapped outcome says, and what it leaves
+-- what a mapped outcome says
 says-mapped : {A B : Type 0} (f : A → B) (o : Outcome A) → says (mapped f o) ≡ says o
 says-mapped f (gave x) = refl
 says-mapped f (refused why) = refl
 
--- a pair pushed to field 1, and to field 2
-module _ (w : CCDataWriter) {v : Bool} (e : v ≡ validWriter w) (t : v ≡ true) (a b : ℕ) (r : Answer) (p : PairQueue) where
-  module _ (s : Sized (w .field1)) where
-    -- to field 1
-    pub pushed-first : saidAnswer r ≡ says (checked (leb (w .field1 .count) 64) (pushPair (pair a b) (queueOf (w .field1)))) → p ≡ pushedPair (w .field1) a b
-        → Answers (checked (validWriter w) (mapped (λ _. pushedTo (Field1 a b) w) (pushCea608 (cea608Of (Field1 a b)) (means w)))) w (record { answer = r; writer = withFields p (w .field2) w })
-    unfolding pushCea608 means
-    pushed-first x z =
-        let y : validWriter w ≡ true = sym e ∙ t in
-        let k : leb (w .field1 .count) 64 ≡ true = le-leb _ _ (s .few) in
-        push-cases (w .field1) a b s
-        (λ over same. record { answer = x ∙ rw (k, y, over); writer = rw (y, over, z, same) })
-        (λ put. record { answer = x ∙ rw (k, y, put); writer = rw (y, put, z) })
+-- the calls that change the switches and the queues, on a state within its limits
+module _ (w : CCDataWriter) (h : Shaped w) {v : Bool} (e : v ≡ validWriter w) (t : v ≡ true) where
+  -- it is within its limits
+  valid : validWriter w ≡ true
+  valid = sym e ∙ t
 
-  module _ (s : Sized (w .field2)) where
+  -- its places are in order
+  order : Order w
+  order = valid-order w h valid
+
+  -- the limits as facts
+  ok : Ok w
+  ok = valid-ok w h valid
+
+  -- the switches
+  pub switched : (a b : Bool) (y : CCDataWriter) → y ≡ withPadding a b w → Answers (checked (validWriter w) (gave (withPads a b (means w)))) (stored w) w (record { answer = answer.Accepted; writer = y })
+  switched a b y z = accepted-value w e (withPads a b (means w)) (stored w) y t (z ∙ sym (stored-pads w order a b)) (means-stored w order ok _ (grows-pads (means w) (valid-mux w h valid) a b))
+
+  -- flush
+  pub flushes : (y : CCDataWriter) → y ≡ emptied w (flushMux (means w)) → Answers (checked (validWriter w) (gave (flushMux (means w)))) (emptied w) w (record { answer = answer.Accepted; writer = y })
+  flushes y z = accepted-value w e (flushMux (means w)) (emptied w) y t z (means-emptied w)
+
+  -- a pair that goes to its field's queue
+  pushes : (y : Cea608) {r : Answer} {x : CCDataWriter} → saidAnswer r ≡ says (pushCea608 y (means w)) → x ≡ after w (mapped (stored w) (pushCea608 y (means w)))
+      → Answers (checked (validWriter w) (pushCea608 y (means w))) (stored w) w (record { answer = r; writer = x })
+  pushes y a z = rw valid (answered (pushCea608 y (means w)) a z (given-means (pushCea608 y (means w)) (grows-pair (means w) (valid-mux w h valid) y)))
+    where
+      -- what it gives is meant
+      given-means : (o : Outcome Mux) → Gives (Grows (means w)) o → Gives (λ (x : Mux). means (stored w x) ≡ x) o
+      given-means (gave x) g = means-stored w order ok x g
+      given-means (refused why) g = tt
+
+  -- where the queues stand after it
+  first-stands : (o : Outcome (List Pair)) → withFields (after (w .field1) (mapped (queueOver (w .field1)) o)) (w .field2) w ≡ after w (mapped (stored w) (mapped (λ q. withQueues q (queueOf (w .field2)) (means w)) o))
+  first-stands (gave q) = sym (stored-first w order q)
+  first-stands (refused why) = refl
+
+  -- the same for field 2
+  second-stands : (o : Outcome (List Pair)) → withFields (w .field1) (after (w .field2) (mapped (queueOver (w .field2)) o)) w ≡ after w (mapped (stored w) (mapped (λ q. withQueues (queueOf (w .field1)) q (means w)) o))
+  second-stands (gave q) = sym (stored-second w order q)
+  second-stands (refused why) = refl
+
+  module _ (a b : ℕ) (r : Answer) (p : PairQueue) where
+    -- a pair pushed to field 1
+    pub pushed-first : saidAnswer r ≡ says (checked (leb (w .field1 .count) 64) (pushPair (pair a b) (queueOf (w .field1))))
+        → p ≡ after (w .field1) (mapped (queueOver (w .field1)) (checked (leb (w .field1 .count) 64) (pushPair (pair a b) (queueOf (w .field1)))))
+        → Answers (pairOutcome (Field1 a b) w) (stored w) w (record { answer = r; writer = withFields p (w .field2) w })
+    unfolding means pushCea608
+    pushed-first x z =
+        let k : leb (w .field1 .count) 64 ≡ true = le-leb _ _ (ok .first .few) in
+        let o : Outcome (List Pair) = pushPair (pair a b) (queueOf (w .field1)) in
+        let u : saidAnswer r ≡ says o = rw k at x in
+        let n : p ≡ after (w .field1) (mapped (queueOver (w .field1)) o) = rw k at z in
+        pushes (field1 (pair a b)) (u ∙ sym (says-mapped _ o)) (rw n (first-stands o))
+
     -- to field 2
-    pub pushed-second : saidAnswer r ≡ says (checked (leb (w .field2 .count) 64) (pushPair (pair a b) (queueOf (w .field2)))) → p ≡ pushedPair (w .field2) a b
-        → Answers (checked (validWriter w) (mapped (λ _. pushedTo (Field2 a b) w) (pushCea608 (cea608Of (Field2 a b)) (means w)))) w (record { answer = r; writer = withFields (w .field1) p w })
-    unfolding pushCea608 means
+    pub pushed-second : saidAnswer r ≡ says (checked (leb (w .field2 .count) 64) (pushPair (pair a b) (queueOf (w .field2))))
+        → p ≡ after (w .field2) (mapped (queueOver (w .field2)) (checked (leb (w .field2 .count) 64) (pushPair (pair a b) (queueOf (w .field2)))))
+        → Answers (pairOutcome (Field2 a b) w) (stored w) w (record { answer = r; writer = withFields (w .field1) p w })
+    unfolding means pushCea608
     pushed-second x z =
-        let y : validWriter w ≡ true = sym e ∙ t in
-        let k : leb (w .field2 .count) 64 ≡ true = le-leb _ _ (s .few) in
-        push-cases (w .field2) a b s
-        (λ over same. record { answer = x ∙ rw (k, y, over); writer = rw (y, over, z, same) })
-        (λ put. record { answer = x ∙ rw (k, y, put); writer = rw (y, put, z) })
+        let k : leb (w .field2 .count) 64 ≡ true = le-leb _ _ (ok .second .few) in
+        let o : Outcome (List Pair) = pushPair (pair a b) (queueOf (w .field2)) in
+        let u : saidAnswer r ≡ says o = rw k at x in
+        let n : p ≡ after (w .field2) (mapped (queueOver (w .field2)) o) = rw k at z in
+        pushes (field2 (pair a b)) (u ∙ sym (says-mapped _ o)) (rw n (second-stands o))
 
 -- the durations
 module _ (w : CCDataWriter) (ok : Ok w) where
@@ -154,20 +204,20 @@ budgets-at n d b = by (eqb n 0 || (eqb (pairsAt n d) 0 || ltb mostTriples (tripl
 -- writing a frame
 module _ (w : CCDataWriter) (rate : Framerate) (out : List ℕ) {v : Bool} (e : v ≡ validWriter w) where
   -- on a refusal all stays as it was
-  wrote-refused : (why : Said) → written rate out w ≡ refused why → Wrote rate out w why w out
-  wrote-refused why z = rw z (refl, (refl, refl))
+  wrote-refused : (why : Refusal) → written rate out w ≡ refused (saidRefusal why) → Writes rate out w (record { answer = counted.Refused why; writer = w }) out
+  wrote-refused why z = record { answer = rw z; means = rw z; places = rw z; output = rw z }
 
   module _ (t : v ≡ true) where
     -- the state is valid
-    valid : validWriter w ≡ true
-    valid = sym e ∙ t
+    within : validWriter w ≡ true
+    within = sym e ∙ t
 
     -- "BadRate"
-    pub wrote-rate : (r : caption.Budgets) → saidBudgets r ≡ saysWith pairsThenTriples (budgets (rate .numer) (rate .denom)) → r ≡ BadRate → Wrote rate out w badRate w out
+    pub wrote-rate : (r : caption.Budgets) → saidBudgets r ≡ saysWith pairsThenTriples (budgets (rate .numer) (rate .denom)) → r ≡ NoBudgets → Writes rate out w (record { answer = counted.Refused BadRate; writer = w }) out
     unfolding written writeAt
     wrote-rate r m z =
         let b : budgets (rate .numer) (rate .denom) ≡ refused badRate = sym (rw z at (budgets-meant (rate .numer) (rate .denom) r m)) in
-        wrote-refused badRate (rw (valid, b))
+        wrote-refused BadRate (rw (within, b))
 
     module _ (r : caption.Budgets) (p n : ℕ) (m : saidBudgets r ≡ saysWith pairsThenTriples (budgets (rate .numer) (rate .denom))) (z : r ≡ Of p n) where
       -- the budgets
@@ -201,29 +251,34 @@ module _ (w : CCDataWriter) (rate : Framerate) (out : List ℕ) {v : Bool} (e : 
             omega (arith, length-is, frame-length (writeFrame b (means w) .frame), few-triples b (means w) (sane .0), count-most b (means w) (sane .0), sane)
 
         -- "OutShort"
-        pub wrote-short : length out < f .frame .len → Wrote rate out w (outShort (f .frame .len)) w out
+        pub wrote-short : length out < f .frame .len → Writes rate out w (record { answer = counted.Refused (OutShort (f .frame .len)); writer = w }) out
         unfolding written writeAt putInto
         wrote-short h =
-            rw length-is (wrote-refused (outShort (length bytes)) (rw (valid, given, lt-ltb (length out) (length bytes) (omega (arith, length-is)))))
+            rw length-is (wrote-refused (OutShort (length bytes)) (rw (within, given, lt-ltb (length out) (length bytes) (omega (arith, length-is)))))
 
         -- the write is accepted
         wrote : f .frame .len ≤ length out → written rate out w ≡ gave (record { out = bytes ++ drop (length bytes) out; next = writeFrame b (means w) .next })
         unfolding written writeAt putInto
-        wrote h = rw (valid, given, le-ltb (length out) (length bytes) (omega (arith, length-is)))
+        wrote h = rw (within, given, le-ltb (length out) (length bytes) (omega (arith, length-is)))
 
         -- the frame is in the output
-        pub wrote-done : f .frame .len ≤ length out → Wrote rate out w (saidCounted (f .answer)) (joined w f) (emitted (f .frame) out)
+        pub wrote-done : Shaped w → f .frame .len ≤ length out → Writes rate out w (record { answer = f .answer; writer = joined w f }) (emitted (f .frame) out)
         unfolding frameLength
-        wrote-done h =
+        wrote-done shaped h =
             let k : length (writeFrame b (means w) .frame .triples) ≤ 31 = omega (arith, few-triples b (means w) (sane .0), count-most b (means w) (sane .0), sane) in
             let d : take (f .frame .len) (f .frame .bytes) ≡ bytes = rw (made .frame) (laid-bytes (writeFrame b (means w) .frame) k) in
             let o : emitted (f .frame) out ≡ bytes ++ drop (length bytes) out = sym (emitted-whole (f .frame) out frame-few h) ∙ rw (d, length-is) in
-            rw (wrote h, made .answer, made .writer, o, length-is, ← at) (refl, (refl, refl))
+            record {
+              answer = rw (wrote h, made .answer, length-is, ← at);
+              means = rw (wrote h, made .writer) (means-frame w b (valid-ok w shaped within) (valid-mux w shaped within));
+              places = rw (wrote h) (made .writer);
+              output = rw (wrote h) o;
+            }
 
   -- "11 comes first"
-  pub wrote-value : v ≡ false → Wrote rate out w badValue w out
+  pub wrote-value : v ≡ false → Writes rate out w (record { answer = counted.Refused BadValue; writer = w }) out
   unfolding written
-  wrote-value f = let z : validWriter w ≡ false = sym e ∙ f in wrote-refused badValue (rw z)
+  wrote-value f = let z : validWriter w ≡ false = sym e ∙ f in wrote-refused BadValue (rw z)
 
 -- no packet has left
 pub unslid : (n : ℕ) (l : List Slot) → slid 0 n l ≡ l
@@ -236,7 +291,7 @@ unfolding emitted
 unemitted out = rw (le-leb 0 (length out) (omega arith))
 
 -- where no frame is written the state and the output stay as they were
-pub unmade-makes : (w : CCDataWriter) (rate : Framerate) (room : ℕ) (m : Made) (a : Counted) → m ≡ unmadeOf w a → ((out : List ℕ) → length out ≡ room → Wrote rate out w (saidCounted a) w out) → Makes rate room w m
+pub unmade-makes : (w : CCDataWriter) (rate : Framerate) (room : ℕ) (m : Made) (a : Counted) → m ≡ unmadeOf w a → ((out : List ℕ) → length out ≡ room → Writes rate out w (record { answer = a; writer = w }) out) → Makes rate room w m
 unmade-makes w rate room m a e h =
     let z : w .«packet_count» - 0 ≡ w .«packet_count» = omega arith in
     rw e (

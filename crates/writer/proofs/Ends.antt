@@ -1,20 +1,18 @@
 -- What the model's packet triples leave: the last packets of the queue, and the last triples of the packet begun last. Assumes nothing.
-use mathlib.Core.Path.{_≡_, refl, sym, ap, _∙_}
-use mathlib.Core.Bool.{Bool, true, false, cond}
-use mathlib.Core.List.{List, [], _∷_, _++_, map}
-use Prim.Native.Nat.{ℕ, zero, suc, _+_, _-_, _*_, _/_, _%_, _≤_, _<_}
+use mathlib.Core.Path.{_≡_, refl, sym, _∙_}
+use mathlib.Core.List.{List, [], _∷_}
+use Prim.Native.Nat.{ℕ, zero, suc, _+_, _-_, _*_, _/_, _≤_, _<_}
 use native.Mathlib.Omega.{arith}
-use borrow.Author.Tests.{eq-eqb, ne-eqb, eqb-true, eqb-false, le-leb, lt-leb, leb-true, leb-false}
-use lib.Dec.{eqb, leb}
+use borrow.Author.Tests.{ne-eqb, leb-true, leb-false}
+use lib.Dec.{leb}
 use lib.ListN.{length, take, drop, getD, length-drop, drop-of-length-le, length-map}
-use lib.Seq.{drop-nil}
-use Rattle.model.specs.Packet.{Packet}
 use Rattle.model.specs.Frame.{Triple}
-use Rattle.model.specs.Mux.{packetTriples, started, Sent, behind, send}
+use Rattle.model.specs.Mux.{started, Sent, behind, send}
 use Rattle.model.proofs.Cases.{by-test}
-use Rattle.slots.specs.Slot.{noSlot, writtenLength, writtenBytes, slotPacket, Carries}
-use Rattle.writer.specs.Slots.{packetsOf, leftFrom, Held}
-use Rattle.writer.specs.Sending.{begun, restedSlot, restedSent}
+use Rattle.slots.specs.Slot.{noSlot, writtenLength, writtenBytes, slotPacket}
+use Rattle.slots.specs.Walk.{Carries}
+use Rattle.writer.specs.Writer.{packetsOf, leftFrom}
+use Rattle.writer.specs.Sending.{Held, begun, restedSlot, restedSent}
 use Rattle.writer.proofs.Triples.{left-length, left-drop, left-end}
 use Rattle.writer.proofs.Sends.{send-over, send-under, send-last, held-begun}
 use Rattle.slots.specs.declared.Slot.{Slot}

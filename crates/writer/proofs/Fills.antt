@@ -1,12 +1,12 @@
 -- Packet triples and padding up to the count: how long the frame gets, and where sending stands. Assumes nothing.
-use mathlib.Core.Path.{_≡_, refl, sym, ap, _∙_}
+use mathlib.Core.Path.{_≡_, ap, _∙_}
 use mathlib.Core.Bool.{Bool, true, false, cond}
-use mathlib.Core.List.{List, [], _∷_, _++_}
-use Prim.Native.Nat.{ℕ, zero, suc, _+_, _-_, _*_, _/_, _%_, _≤_, _<_, min}
+use mathlib.Core.List.{List, [], _∷_}
+use Prim.Native.Nat.{ℕ, _+_, _-_, _*_, _≤_}
 use native.Mathlib.Omega.{arith}
-use borrow.Author.Tests.{eqb-false, leb-true, leb-false}
+use borrow.Author.Tests.{eqb-false, leb-false}
 use lib.Dec.{eqb, leb}
-use lib.ListN.{length, take, drop, getD, length-append, length-take}
+use lib.ListN.{length, take, drop, length-append, length-take}
 use Rattle.model.specs.Packet.{Packet}
 use Rattle.model.specs.Frame.{Triple, flat}
 use Rattle.model.specs.Mux.{packetTriples, Sent, send}
@@ -15,10 +15,10 @@ use Rattle.model.proofs.Frames.{flat-length}
 use Rattle.frames.specs.Frame.{appended, fits, fillers}
 use Rattle.frames.proofs.Stores.{appended-nil, fits-true}
 use Rattle.frames.specs.declared.Frame.{Frame}
-use Rattle.slots.specs.Slot.{noSlot, writtenBytes}
-use Rattle.writer.specs.Slots.{packetsOf, leftFrom, Queued, Held}
-use Rattle.writer.specs.Sending.{stands, sentFrom}
-use Rattle.writer.specs.Writer.{triplesIn, padded, filled, Room}
+use Rattle.slots.specs.Slot.{writtenBytes}
+use Rattle.writer.specs.Writer.{packetsOf, leftFrom}
+use Rattle.writer.specs.Sending.{Queued, Held, stands, sentFrom}
+use Rattle.writer.specs.Making.{triplesIn, filled, Room}
 use Rattle.slots.specs.declared.Slot.{Slot}
 use Rattle.writer.specs.declared.Sending.{Sending}
 

@@ -1,26 +1,20 @@
 -- What a caller may rely on: a fresh state is within the limits with arrays of their lengths, and every call leaves such a state in such a
 -- state. Assumes nothing.
-use mathlib.Core.Path.{_≡_, refl, _∙_}
-use mathlib.Core.Bool.{Bool, true, cond}
-use mathlib.Core.List.{List}
-use Prim.Native.Nat.{ℕ, _+_, _≤_}
-use lib.Dec.{eqb}
-use lib.ListN.{length, set, length-set}
-use Rattle.model.specs.Said.{Outcome, gave, refused, mapped, after, checked}
-use Rattle.model.specs.Packet.{Packet}
+use mathlib.Core.Path.{_≡_, refl, sym, ap, _∙_}
+use mathlib.Core.Bool.{Bool, true}
 use Rattle.model.specs.Rate.{Budgets}
-use Rattle.model.specs.Mux.{Mux, pushPacket}
-use Rattle.model.proofs.Cases.{by-cond, Gives}
-use Rattle.model.proofs.Packets.{Valid}
-use Rattle.caption.specs.declared.Cea608.{Cea608}
-use Rattle.caption.specs.declared.Cea608.the-variants.{Field1, Field2}
-use Rattle.turns.proofs.Queues.{sized-pushed}
-use Rattle.writer.specs.Writer.{means, validWriter, Ok, afterFrame}
-use Rattle.writer.specs.Calls.{fresh, withPadding, pushedTo, pushedPacket, flushed}
-use Rattle.writer.proofs.Valid.{Shaped, valid-ok}
-use Rattle.writer.proofs.Means.{ok-frame}
-use Rattle.writer.proofs.Laws.{valid-fresh, valid-padding, valid-flushed, valid-pushed, valid-after}
-use Rattle.writer.proofs.Packed.{valid-packet}
+use Rattle.model.specs.Mux.{Mux, validMux, withPads, writeFrame, flushMux}
+use Rattle.model.proofs.Cases.{both, and-both}
+use Rattle.model.proofs.MuxStates as model
+use Rattle.model.proofs.MuxStates.{fresh-mux, flush-mux, write-valid}
+use Rattle.turns.specs.Queue.{pairBytes, queueOver}
+use Rattle.queues.specs.Written.{allWritten, validSending}
+use Rattle.writer.specs.Writer.{means, inOrder, validWriter, fresh, stored, emptied, moved}
+use Rattle.writer.specs.Making.{Ok, withPadding}
+use Rattle.writer.proofs.Valid.{Shaped, Order, order-facts, facts-order, facts-valid, valid-order, valid-ok, valid-mux}
+use Rattle.writer.proofs.Builds.{means-frame, order-frame, shaped-frame}
+use Rattle.writer.proofs.Stored.{Grows, stored-pads, means-stored, order-stored, shaped-stored, means-emptied, order-emptied}
+use Rattle.writer.proofs.Laws.{means-fresh}
 use Rattle.writer.specs.declared.CCDataWriter.{CCDataWriter}
 
 -- a state within the limits, its arrays of their lengths
@@ -30,12 +24,33 @@ pub record Sound (w : CCDataWriter) : Type 0 where
 
 -- a fresh state
 pub fresh-sound : Sound fresh
-unfolding fresh
-fresh-sound = record { valid = valid-fresh; shaped = record { packets = refl; first = refl; second = refl } }
+unfolding fresh queueOver pairBytes validWriter inOrder validSending allWritten
+fresh-sound =
+    record {
+      valid = rw means-fresh fresh-mux;
+      shaped = record { packets = refl; first = refl; second = refl };
+    }
 
--- the lengths of the arrays, from the limits as facts
-shaped-ok : (w : CCDataWriter) → Ok w → Shaped w
-shaped-ok w ok = record { packets = ok .queued .places; first = ok .first .flat; second = ok .second .flat }
+-- the switches of a state within its limits, set twice
+module _ (w : CCDataWriter) (v : validWriter w ≡ true) (a b : Bool) where
+  -- its places are in order, and mean a multiplexer within its limits
+  parts : Order w × (validMux (means w) ≡ true)
+  unfolding validWriter
+  parts = let t = both (inOrder w) (validMux (means w)) v in (order-facts w (t .0), t .1)
+
+  -- it stays within its limits
+  pub pads-valid : validWriter (stored w (withPads a b (means w))) ≡ true
+  unfolding validWriter inOrder means
+  pads-valid =
+      ap validWriter (stored-pads w (parts .0) a b) ∙ and-both (inOrder w) (validMux (withPads a b (means w))) (facts-order w (parts .0)) (model.pads-valid a b (means w) (parts .1))
+
+  -- the second time counts
+  pub pads-again : (c : Bool) → stored (stored w (withPads a b (means w))) (withPads a c (means (stored w (withPads a b (means w))))) ≡ stored w (withPads a c (means w))
+  unfolding validWriter
+  pads-again c =
+      let x : CCDataWriter = stored w (withPads a b (means w)) in
+      let o : Order x = order-facts x (both (inOrder x) (validMux (means x)) pads-valid .0) in
+      stored-pads x o a c ∙ ap (withPadding a c) (stored-pads w (parts .0) a b) ∙ sym (stored-pads w (parts .0) a c)
 
 -- each call of a state that is sound
 module _ (w : CCDataWriter) (s : Sound w) where
@@ -43,49 +58,32 @@ module _ (w : CCDataWriter) (s : Sound w) where
   pub sound-ok : Ok w
   sound-ok = valid-ok w (s .shaped) (s .valid)
 
-  -- the switches
-  pub padding-sound : (a b : Bool) → Sound (withPadding a b w)
-  padding-sound a b =
-      record {
-        valid = valid-padding w a b ∙ s .valid;
-        shaped = record { packets = s .shaped .packets; first = s .shaped .first; second = s .shaped .second };
-      }
+  -- its places are in order
+  pub sound-order : Order w
+  sound-order = valid-order w (s .shaped) (s .valid)
+
+  -- the multiplexer that it means is within its limits
+  pub sound-mux : validMux (means w) ≡ true
+  sound-mux = valid-mux w (s .shaped) (s .valid)
+
+  -- places in order that mean a multiplexer within its limits
+  sound-by : (y : CCDataWriter) (x : Mux) → Order y → Shaped y → means y ≡ x → validMux x ≡ true → Sound y
+  sound-by y x o h m v = record { valid = facts-valid y o (rw m v); shaped = h }
+
+  -- a switch or a push
+  pub stored-sound : (x : Mux) → Grows (means w) x → Sound (stored w x)
+  stored-sound x g =
+      sound-by (stored w x) x (order-stored w sound-order sound-ok x g) (shaped-stored w sound-order sound-ok x g) (means-stored w sound-order sound-ok x g) (g .valid)
 
   -- flush
-  pub flushed-sound : Sound (flushed w)
-  flushed-sound =
-      record {
-        valid = valid-flushed w;
-        shaped = record { packets = s .shaped .packets; first = s .shaped .first; second = s .shaped .second };
-      }
-
-  -- a pair
-  pub pushed-sound : (c : Cea608) → Sound (pushedTo c w)
-  pushed-sound c = record { valid = valid-pushed w (s .shaped) (s .valid) c; shaped = shaped c }
-    where
-      -- by its field
-      shaped : (c : Cea608) → Shaped (pushedTo c w)
-      shaped (Field1 a b) =
-          record { packets = s .shaped .packets; first = sized-pushed (w .field1) a b (sound-ok .first) .flat; second = s .shaped .second }
-      shaped (Field2 a b) =
-          record { packets = s .shaped .packets; first = s .shaped .first; second = sized-pushed (w .field2) a b (sound-ok .second) .flat }
-
-  -- a packet that is accepted
-  pub packet-sound : (p : Packet) → Valid p → Gives (λ (m : Mux). Sound (pushedPacket p w)) (pushPacket p (means w))
-  unfolding pushedPacket
-  packet-sound p k = both-given (pushPacket p (means w)) (valid-packet w (s .shaped) (s .valid) p k)
-    where
-      -- the array of slots keeps its length
-      shaped : Shaped (pushedPacket p w)
-      shaped =
-          by-cond Shaped (eqb (length (p .blocks)) 0) (λ _. s .shaped)
-          (λ _. record { packets = length-set (w .packets) (w .«packet_count») _ ∙ s .shaped .packets; first = s .shaped .first; second = s .shaped .second })
-
-      -- of each outcome
-      both-given : (o : Outcome Mux) → Gives (λ (m : Mux). validWriter (pushedPacket p w) ≡ true) o → Gives (λ (m : Mux). Sound (pushedPacket p w)) o
-      both-given (gave m) v = record { valid = v; shaped = shaped }
-      both-given (refused why) v = v
+  pub emptied-sound : Sound (emptied w (flushMux (means w)))
+  unfolding queueOver pairBytes
+  emptied-sound =
+      sound-by (emptied w (flushMux (means w))) (flushMux (means w)) (order-emptied w)
+      (record { packets = s .shaped .packets; first = s .shaped .first; second = s .shaped .second }) (means-emptied w) (flush-mux (means w))
 
   -- a frame
-  pub after-sound : (b : Budgets) → Sound (afterFrame b w)
-  after-sound b = record { valid = valid-after w (s .shaped) (s .valid) b; shaped = shaped-ok (afterFrame b w) (ok-frame w sound-ok b) }
+  pub moved-sound : (b : Budgets) → Sound (moved w (writeFrame b (means w) .next))
+  moved-sound b =
+      sound-by (moved w (writeFrame b (means w) .next)) (writeFrame b (means w) .next) (order-frame w b sound-ok sound-mux sound-order)
+      (shaped-frame w b sound-ok sound-mux) (means-frame w b sound-ok sound-mux) (write-valid b (means w) sound-mux)

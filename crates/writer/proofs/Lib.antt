@@ -1,13 +1,13 @@
 pub mod Triples
 pub mod Sends
 pub mod Fills
-pub mod Builds
 pub mod Ends
-pub mod Means
 pub mod Valid
+pub mod Moved
+pub mod Builds
+pub mod Stored
 pub mod Calls
 pub mod Moves
 pub mod Packs
 pub mod Laws
-pub mod Packed
 pub mod Kept

@@ -1,12 +1,12 @@
 -- The slots of the queue that move down once others have left, one by one. Assumes nothing.
-use mathlib.Core.Path.{_≡_, refl, sym, ap, _∙_}
+use mathlib.Core.Path.{_≡_, sym, _∙_}
 use mathlib.Core.List.{List}
 use Prim.Native.Nat.{ℕ, _+_, _≤_, _<_}
 use native.Mathlib.Omega.{arith}
 use lib.ListN.{length, getD, set}
-use Rattle.turns.specs.Queue.{slid}
-use Rattle.turns.proofs.Queues.{slid-more, slid-none}
+use Rattle.turns.specs.Step.{slid}
 use Rattle.slots.specs.Slot.{noSlot}
+use Rattle.turns.proofs.Queues.{slid-more, slid-none}
 use Rattle.slots.specs.declared.Slot.{Slot}
 use Rattle.writer.proofs.Calls.{unslid}
 

@@ -1,20 +1,18 @@
 -- A packet that is pushed: one law for each way out, and what its slot is in the model. Assumes nothing.
 use mathlib.Core.Path.{_≡_, refl, sym, ap, _∙_}
-use mathlib.Core.Bool.{Bool, true, false, cond, not, _&&_, false≢true}
-use mathlib.Core.List.{List, [], _∷_, _++_, map}
-use Prim.Native.Nat.{ℕ, zero, suc, _+_, _-_, _*_, _/_, _%_, _≤_, _<_}
-use native.Mathlib.Numerals.{add-one}
+use mathlib.Core.Bool.{Bool, true, false, false≢true}
+use mathlib.Core.List.{List, [], _∷_, _++_}
+use Prim.Native.Nat.{ℕ, _+_, _≤_}
 use native.Mathlib.Omega.{arith}
 use borrow.Author.Tests.{eq-eqb, ne-eqb, eqb-true, eqb-false, le-leb, lt-leb, le-ltb}
 use lib.Dec.{eqb, leb, ltb}
-use lib.ListN.{length, take, drop, set, replicate, length-map, length-replicate}
-use lib.Seq.{take-at, take-suc-set, length-take-le}
-use Rattle.model.specs.Said.{Said, Outcome, gave, refused, accepted, after, checked, measured, mapped, saysWith, putInto, badValue}
-use Rattle.model.specs.Packet.{Packet, packetLength, writtenPacket, readPacket}
-use Rattle.model.specs.Mux.{pushPacket, queued}
-use Rattle.model.proofs.Cases.{by-test}
-use Rattle.model.proofs.Packets.{Valid, Shape, shape, length-some, length-empty, plain-back}
-use Rattle.caption.specs.Answers.{saidRefusal, saidCounted}
+use lib.ListN.{length, drop, set, replicate}
+use Rattle.model.specs.Said.{gave, measured, putInto}
+use Rattle.model.specs.Packet.{Packet, packetLength, writtenPacket}
+use Rattle.model.specs.Mux.{Mux, withPackets, pushPacket, queued}
+use Rattle.model.proofs.Cases.{by-test, gives-at}
+use Rattle.model.proofs.Packets.{facts-valid, Shape, shape, length-some, length-empty}
+use Rattle.caption.specs.Answers.{saidCounted}
 use Rattle.caption.proofs.Answers.{saidCounted-injective}
 use Rattle.caption.specs.declared.Counted.{Counted}
 use Rattle.caption.specs.declared.Counted.the-variants as counted
@@ -24,13 +22,16 @@ use Rattle.caption.specs.declared.Refusal.{Refusal}
 use Rattle.caption.specs.declared.Refusal.the-variants.{BadValue, Full}
 use Rattle.service.specs.Service.{Writes}
 use Rattle.packet.specs.Packet.{packetOf, validDTVCC}
-use Rattle.packet.proofs.Holds.{Places, Within, within-facts, held-valid}
+use Rattle.packet.proofs.Holds.{Places, within-facts, held-valid}
 use Rattle.packet.specs.declared.DTVCCPacket.{DTVCCPacket}
-use Rattle.slots.specs.Slot.{writtenLength, writtenBytes, slotPacket}
+use Rattle.writer.specs.Writer.{means, validWriter, slotOf, stored}
+use Rattle.writer.specs.Calls.{Answers}
+use Rattle.writer.specs.Making as making
+use Rattle.writer.specs.Making.{Ok, packetOutcome, Stores}
+use Rattle.writer.proofs.Valid.{Shaped, Order, valid-order, valid-ok, valid-mux}
+use Rattle.writer.proofs.Stored.{Grows, grows-packet, packets-length, stored-self, stored-packet, means-stored}
+use Rattle.writer.proofs.Calls.{answered}
 use Rattle.slots.specs.declared.Slot.{Slot}
-use Rattle.writer.specs.Slots.{packetsOf}
-use Rattle.writer.specs.Writer.{means, validWriter, Ok}
-use Rattle.writer.specs.Calls.{Answers, slotOf, withPackets, pushedPacket, packetOutcome, Stores}
 use Rattle.writer.specs.declared.CCDataWriter.{CCDataWriter}
 use Rattle.writer.specs.declared.Placed.{Placed}
 
@@ -56,56 +57,56 @@ some-blocks p n =
     by-test (eqb (length (p .blocks)) 0) (λ t. absurd (n (length-empty p (eqb-true _ _ t)))) (λ t. omega (arith, eqb-false (length (p .blocks)) 0 t))
 
 -- a state outside its limits
-pub refused-both : (w : CCDataWriter) {v : Bool} → v ≡ validWriter w → v ≡ false → (d : DTVCCPacket)
-    → Answers (checked (validWriter w && validDTVCC d) (mapped (λ _. pushedPacket (packetOf d) w) (pushPacket (packetOf d) (means w)))) w (record { answer = answer.Refused BadValue; writer = w })
-refused-both w e f d = let z : validWriter w ≡ false = sym e ∙ f in record { answer = rw z; writer = rw z }
+pub refused-both : (w : CCDataWriter) {v : Bool} → v ≡ validWriter w → v ≡ false → (d : DTVCCPacket) → Answers (packetOutcome d w) (stored w) w (record { answer = answer.Refused BadValue; writer = w })
+refused-both w e f d = let z : validWriter w ≡ false = sym e ∙ f in rw z (record { answer = refl; means = refl; places = refl })
 
 -- the ways out
 module _ (w : CCDataWriter) {v : Bool} (e : v ≡ validWriter w) (t : v ≡ true) (d : DTVCCPacket) where
-  -- what the push comes to
-  abbrev Pushes : Outcome CCDataWriter
-  Pushes = checked (validWriter w && validDTVCC d) (mapped (λ _. pushedPacket (packetOf d) w) (pushPacket (packetOf d) (means w)))
-
   -- the state is valid
   valid : validWriter w ≡ true
   valid = sym e ∙ t
 
   -- a packet outside the limits
-  pub refused-packet : validDTVCC d ≡ false → Answers Pushes w (record { answer = answer.Refused BadValue; writer = w })
-  refused-packet f = record { answer = rw (valid, f); writer = rw (valid, f) }
+  pub refused-packet : validDTVCC d ≡ false → Answers (packetOutcome d w) (stored w) w (record { answer = answer.Refused BadValue; writer = w })
+  refused-packet f = rw (valid, f) (record { answer = refl; means = refl; places = refl })
 
-  module _ (g : validDTVCC d ≡ true) where
+  module _ (g : validDTVCC d ≡ true) (shaped : Shaped w) where
+    -- its places are in order
+    order : Order w
+    order = valid-order w shaped valid
+
+    -- the limits as facts
+    ok : Ok w
+    ok = valid-ok w shaped valid
+
     -- an empty packet
-    pub accepted-empty : packetLength (packetOf d) ≡ 0 → Answers Pushes w (record { answer = answer.Accepted; writer = w })
-    unfolding pushPacket pushedPacket
-    accepted-empty z = let k = eq-eqb _ _ (empty-blocks (packetOf d) z) in record { answer = rw (valid, g, k); writer = rw (valid, g, k) }
+    pub accepted-empty : packetLength (packetOf d) ≡ 0 → Answers (packetOutcome d w) (stored w) w (record { answer = answer.Accepted; writer = w })
+    unfolding pushPacket
+    accepted-empty z =
+        rw (valid, g, eq-eqb _ _ (empty-blocks (packetOf d) z)) (answered (gave (means w)) refl (sym (stored-self w order)) (ap means (stored-self w order)))
 
-    module _ (ok : Ok w) (n : packetLength (packetOf d) ≡ 0 → ⊥) where
+    module _ (n : packetLength (packetOf d) ≡ 0 → ⊥) where
       -- the packet is not empty
       some : eqb (length (packetOf d .blocks)) 0 ≡ false
       some = ne-eqb (length (packetOf d .blocks)) 0 (λ z. omega (arith, some-blocks (packetOf d) n))
 
-      -- as many packets as are counted
-      places : length (means w .packets) ≡ w .«packet_count»
-      unfolding means
-      places =
-          length-map (take (w .«packet_count») (w .packets)) slotPacket
-          ∙ length-take-le (w .«packet_count») (w .packets) (omega (arith, ok .queued .few, ok .queued .places))
-
       -- no place left
-      pub refused-full : w .«packet_count» ≡ 16 → Answers Pushes w (record { answer = answer.Refused Full; writer = w })
+      pub refused-full : w .«packet_count» ≡ 16 → Answers (packetOutcome d w) (stored w) w (record { answer = answer.Refused Full; writer = w })
       unfolding pushPacket queued
       refused-full z =
-          let k : leb 16 (length (means w .packets)) ≡ true = le-leb 16 (length (means w .packets)) (omega (arith, places)) in
-          record { answer = rw (valid, g, some, k); writer = rw (valid, g, some, k) }
+          let k : leb 16 (length (means w .packets)) ≡ true = le-leb 16 (length (means w .packets)) (omega (arith, packets-length w order)) in
+          rw (valid, g, some, k) (record { answer = refl; means = refl; places = refl })
 
       -- a place is left
-      pub accepted-packet : (w .«packet_count» ≡ 16 → ⊥) → (s : Slot) → s ≡ slotOf (packetOf d)
-          → Answers Pushes w (record { answer = answer.Accepted; writer = withPackets (w .«packet_count» + 1) (set (w .packets) (w .«packet_count») s) w })
-      unfolding pushPacket queued pushedPacket
-      accepted-packet z s q =
-          let k : leb 16 (length (means w .packets)) ≡ false = lt-leb 16 (length (means w .packets)) (omega (arith, places, ok .queued .few)) in
-          record { answer = rw (valid, g, some, k); writer = rw (valid, g, some, k, q) }
+      pub accepted-packet : Places d → (w .«packet_count» ≡ 16 → ⊥) → (s : Slot) → s ≡ slotOf (packetOf d)
+          → Answers (packetOutcome d w) (stored w) w (record { answer = answer.Accepted; writer = making.withPackets (w .«packet_count» + 1) (set (w .packets) (w .«packet_count») s) w })
+      unfolding pushPacket queued
+      accepted-packet p z s q =
+          let k : leb 16 (length (means w .packets)) ≡ false = lt-leb 16 (length (means w .packets)) (omega (arith, packets-length w order, ok .queued .few)) in
+          let x : Mux = withPackets (means w .packets ++ (packetOf d ∷ [])) (means w) in
+          let put : pushPacket (packetOf d) (means w) ≡ gave x = rw (some, k) in
+          let grown : Grows (means w) x = gives-at (Grows (means w)) _ put (grows-packet (means w) (valid-mux w shaped valid) (packetOf d) (facts-valid (packetOf d) (held-valid d (within-facts d g) p))) in
+          rw (valid, g, some, k, q) (answered (gave x) refl (sym (stored-packet w order (packetOf d))) (means-stored w order ok x grown))
 
 -- the bytes that were written
 pub written-bytes : (d : DTVCCPacket) (p : Places d) (v : validDTVCC d ≡ true) → (packetLength (packetOf d) ≡ 0 → ⊥) → (r : Counted) (out : List ℕ)
@@ -119,7 +120,7 @@ written-bytes d p v n r out w len l =
 
 -- a packet that gets no slot
 pub unplaced-stores : (w : CCDataWriter) (d : DTVCCPacket) (r : Placed) (a : Answer) → (r .answer ≡ a) × (r .stored ≡ false)
-    → Answers (packetOutcome d w) w (record { answer = a; writer = w }) → Stores d w r
+    → Answers (packetOutcome d w) (stored w) w (record { answer = a; writer = w }) → Stores d w r
 unplaced-stores w d r a (e, f) h =
     record {
       room = λ t. absurd (false≢true (sym f ∙ t));

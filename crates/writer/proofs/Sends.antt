@@ -1,14 +1,13 @@
 -- Where sending stands after the model's packet triples: packet by packet, as the model goes. Assumes nothing.
-use mathlib.Core.Path.{_≡_, refl, sym, ap, _∙_}
-use mathlib.Core.Bool.{Bool, true, false, cond}
-use mathlib.Core.List.{List, [], _∷_, _++_}
-use Prim.Native.Nat.{ℕ, zero, suc, _+_, _-_, _*_, _/_, _%_, _≤_, _<_, min}
+use mathlib.Core.Path.{_≡_, refl, sym, _∙_}
+use mathlib.Core.List.{List, [], _∷_}
+use Prim.Native.Nat.{ℕ, suc, _+_, _-_, _*_, _/_, _≤_, _<_, min}
 use native.Mathlib.Numerals.{add-one}
 use native.Mathlib.Omega.{arith}
-use borrow.Author.Tests.{eq-eqb, ne-eqb, eqb-true, eqb-false, le-leb, lt-leb, leb-true, leb-false}
+use borrow.Author.Tests.{eq-eqb, ne-eqb, eqb-true, le-leb, lt-leb, leb-true, leb-false}
 use lib.Dec.{eqb, leb}
 use lib.ListN.{length, take, drop, getD, length-drop, length-map}
-use lib.Seq.{take-all, slice-cons, slice-empty, length-slice, drop-nil, take-nil}
+use lib.Seq.{take-all, slice-cons, slice-empty, length-slice}
 use Rattle.model.specs.Packet.{Packet}
 use Rattle.model.specs.Frame.{Triple, flat}
 use Rattle.model.specs.Mux.{packetTriples, started, Sent, behind, send, triplesQueued}
@@ -17,9 +16,10 @@ use Rattle.model.proofs.Cases.{by-test, by-cond}
 use Rattle.frames.specs.Frame.{appended}
 use Rattle.frames.proofs.Stores.{appended-flat}
 use Rattle.frames.specs.declared.Frame.{Frame}
-use Rattle.slots.specs.Slot.{noSlot, writtenLength, writtenBytes, slotPacket, Carries}
-use Rattle.writer.specs.Slots.{packetsOf, leftFrom, Queued, Held}
-use Rattle.writer.specs.Sending.{begun, stands, sentFrom, movedBy, finished}
+use Rattle.slots.specs.Slot.{noSlot, writtenLength, writtenBytes, slotPacket}
+use Rattle.slots.specs.Walk.{Carries}
+use Rattle.writer.specs.Writer.{packetsOf, leftFrom}
+use Rattle.writer.specs.Sending.{Queued, Held, begun, stands, sentFrom, finished}
 use Rattle.writer.proofs.Triples.{left-length, put-length}
 use Rattle.slots.specs.declared.Slot.{Slot}
 use Rattle.writer.specs.declared.Sending.{Sending}

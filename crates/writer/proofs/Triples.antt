@@ -1,16 +1,15 @@
 -- The triples that carry a packet's bytes: the next one, how many there are, and what is left after some. Assumes nothing.
 use mathlib.Core.Path.{_≡_, refl, sym, ap, _∙_}
-use mathlib.Core.Bool.{Bool, true, false, cond, _&&_}
-use mathlib.Core.List.{List, [], _∷_, _++_, append-assoc}
-use Prim.Native.Nat.{ℕ, zero, suc, _+_, _-_, _*_, _/_, _%_, _≤_, _<_, min}
+use mathlib.Core.Bool.{cond, _&&_}
+use mathlib.Core.List.{List, [], _∷_}
+use Prim.Native.Nat.{ℕ, zero, suc, _+_, _-_, _*_, _/_, _≤_}
 use native.Mathlib.Nat.{add-zero}
-use native.Mathlib.Numerals.{add-one}
 use native.Mathlib.Omega.{arith}
-use borrow.Author.Tests.{eq-eqb, ne-eqb, eqb-true, eqb-false}
+use borrow.Author.Tests.{ne-eqb, eqb-true}
 use lib.Dec.{eqb}
-use lib.ListN.{length, take, drop, getD, set, length-set, length-drop, length-take}
-use lib.Seq.{sets, length-sets, getD-drop, getD-take, drop-drop, drop-nil, take-nil, take-all, take-suc, drop-cons, set-at, length-take-le}
-use Rattle.model.specs.Frame.{Triple, tri, flat}
+use lib.ListN.{length, take, drop, getD, length-drop, length-take}
+use lib.Seq.{getD-drop, getD-take, drop-drop, drop-nil, length-take-le}
+use Rattle.model.specs.Frame.{tri, flat}
 use Rattle.model.specs.Mux.{started, continued}
 use Rattle.model.proofs.Cases.{by-test}
 use Rattle.model.proofs.Frames.{flat-length}
@@ -18,7 +17,8 @@ use Rattle.frames.specs.Frame.{appended, mark, triplesAt, fits, carries}
 use Rattle.frames.proofs.Stores.{fits-true, carries-true}
 use Rattle.frames.specs.declared.Frame.{Frame}
 use Rattle.slots.specs.Slot.{writtenLength, writtenBytes}
-use Rattle.writer.specs.Slots.{leftFrom, Held}
+use Rattle.writer.specs.Writer.{leftFrom}
+use Rattle.writer.specs.Sending.{Held}
 use Rattle.slots.specs.declared.Slot.{Slot}
 
 -- the next triple of a packet that was begun

@@ -1,21 +1,28 @@
--- A state that passes its test is within its limits. Assumes nothing.
-use mathlib.Core.Path.{_≡_, _∙_}
+-- The places in order are those of a multiplexer within its limits: the test of the places is the whole test. Assumes nothing.
+use mathlib.Core.Path.{_≡_, refl, _∙_}
 use mathlib.Core.Bool.{Bool, true, false, _&&_, _||_}
 use mathlib.Core.List.{List, [], _∷_}
-use Prim.Native.Nat.{ℕ, zero, suc, _%_, _≤_, _<_}
+use Prim.Native.Nat.{ℕ, zero, suc, _*_, _%_, _≤_, _<_}
 use native.Mathlib.Omega.{arith}
 use borrow.Author.Tests.{eqb-true, le-leb, lt-leb, leb-true}
 use lib.Dec.{eqb, leb}
-use lib.ListN.{length, take, getD}
+use lib.ListN.{length, take, getD, length-map}
 use lib.Seq.{length-take-le, getD-take}
-use Rattle.model.proofs.Cases.{by-test, both}
-use Rattle.slots.proofs.Decodes.{carried}
-use Rattle.slots.specs.Slot.{noSlot, writtenLength, writtenBytes, writtenSlot, Carries}
+use Rattle.model.specs.Packet.{allPackets}
+use Rattle.model.specs.Mux.{storable, validMux}
+use Rattle.model.proofs.Cases.{by-test, both, and-both}
+use Rattle.model.proofs.MuxStates.{facts-mux}
+use Rattle.turns.proofs.Queues.{queue-length}
+use Rattle.slots.specs.Slot.{noSlot, writtenLength, writtenBytes, slotPacket, writtenSlot}
+use Rattle.slots.specs.Walk.{Carries}
+use Rattle.slots.proofs.Written.{carried, carried-storable}
+use Rattle.slots.specs.declared.Slot.{Slot}
 use Rattle.queues.specs.Written.{allWritten, validSending, validSlots}
 use Rattle.queues.proofs.Written.{and-false}
-use Rattle.writer.specs.Slots.{Held}
-use Rattle.writer.specs.Writer.{validWriter, Ok}
-use Rattle.slots.specs.declared.Slot.{Slot}
+use Rattle.writer.specs.Writer.{packetsOf, means, inOrder, validWriter}
+use Rattle.writer.specs.Sending.{Held}
+use Rattle.writer.specs.Making.{Ok}
+use Rattle.writer.proofs.Triples.{left-length}
 use Rattle.writer.specs.declared.CCDataWriter.{CCDataWriter}
 
 -- each slot passes
@@ -24,6 +31,12 @@ unfolding allWritten
 all-each [] e i h = absurd (omega arith)
 all-each (s ∷ l) e zero h = both (writtenSlot s) (allWritten l) e .0
 all-each (s ∷ l) e (suc i) h = all-each l (both (writtenSlot s) (allWritten l) e .1) i (omega arith)
+
+-- each packet may be queued
+all-storable : (l : List Slot) → allWritten l ≡ true → allPackets storable (packetsOf l) ≡ true
+unfolding allWritten allPackets
+all-storable [] e = refl
+all-storable (s ∷ l) e = let t = both (writtenSlot s) (allWritten l) e in and-both _ _ (carried-storable s (t .0)) (all-storable l (t .1))
 
 -- a packet being sent that passes its test is within the limits
 pub held-facts : (s : Slot) (sent : ℕ) → validSending s sent ≡ true → Held s sent
@@ -43,40 +56,102 @@ pub record Shaped (w : CCDataWriter) : Type 0 where
   pub first : length (w .field1 .bytes) ≡ 128
   pub second : length (w .field2 .bytes) ≡ 128
 
+-- the parts of the test of the places
+pub record Order (w : CCDataWriter) : Type 0 where
+  pub packets : w .«packet_count» ≤ length (w .packets)
+  pub first : 2 * w .field1 .count ≤ length (w .field1 .bytes)
+  pub second : 2 * w .field2 .count ≤ length (w .field2 .bytes)
+  pub sending : validSending (w .sending) (w .sent) ≡ true
+  pub slots : allWritten (take (w .«packet_count») (w .packets)) ≡ true
+
 module _ (w : CCDataWriter) where
-  -- too many pairs of field 1
-  pub over-first : 64 < w .field1 .count → false ≡ validWriter w
-  unfolding validWriter
-  over-first b = simp (lt-leb _ _ b, and-false (leb (w .«packet_count») 16))
-
-  -- too many pairs of field 2
-  pub over-second : w .field1 .count ≤ 64 → 64 < w .field2 .count → false ≡ validWriter w
-  unfolding validWriter
-  over-second b d = simp (le-leb _ _ b, lt-leb _ _ d, and-false (leb (w .«packet_count») 16))
-
-  -- the slots decide
-  pub by-slots : {r : Bool} → w .field1 .count ≤ 64 → w .field2 .count ≤ 64 → r ≡ validSlots (w .sending) (w .sent) (w .packets) (w .«packet_count») → r ≡ validWriter w
-  unfolding validWriter validSlots
-  by-slots b d f = f ∙ simp (le-leb _ _ b, le-leb _ _ d)
-
-  -- what passes the test is within the limits
-  pub valid-ok : Shaped w → validWriter w ≡ true → Ok w
-  unfolding validWriter
-  valid-ok h e =
-      let t = both (leb (w .«packet_count») 16) _ e in
-      let u = both (leb (w .field1 .count) 64) _ (t .1) in
-      let v = both (leb (w .field2 .count) 64) _ (u .1) in
+  -- what the test says
+  pub order-facts : inOrder w ≡ true → Order w
+  unfolding inOrder
+  order-facts e =
+      let t = both (leb (w .«packet_count») (length (w .packets))) _ e in
+      let u = both (leb (2 * w .field1 .count) (length (w .field1 .bytes))) _ (t .1) in
+      let v = both (leb (2 * w .field2 .count) (length (w .field2 .bytes))) _ (u .1) in
       let x = both (validSending (w .sending) (w .sent)) (allWritten (take (w .«packet_count») (w .packets))) (v .1) in
-      let few : w .«packet_count» ≤ 16 = leb-true _ _ (t .0) in
-      let l : length (take (w .«packet_count») (w .packets)) ≡ w .«packet_count» = length-take-le (w .«packet_count») (w .packets) (omega (arith, h .packets)) in
-      record {
-        queued = record {
-          few = few;
-          places = h .packets;
-          each = λ i k. carried (getD (w .packets) i noSlot)
-              (rw (getD-take (w .«packet_count») (w .packets) i noSlot k) at (all-each (take (w .«packet_count») (w .packets)) (x .1) i (omega arith)));
-        };
-        held = held-facts (w .sending) (w .sent) (x .0);
-        first = record { few = leb-true _ _ (u .0); flat = h .first };
-        second = record { few = leb-true _ _ (v .0); flat = h .second };
-      }
+      record { packets = leb-true _ _ (t .0); first = leb-true _ _ (u .0); second = leb-true _ _ (v .0); sending = x .0; slots = x .1 }
+
+  -- and what passes it
+  pub facts-order : Order w → inOrder w ≡ true
+  unfolding inOrder
+  facts-order o = simp (le-leb _ _ (o .packets), le-leb _ _ (o .first), le-leb _ _ (o .second), o .sending, o .slots)
+
+  module _ (h : Shaped w) where
+    -- places in order are within the limits
+    pub order-ok : Order w → Ok w
+    order-ok o =
+        let l : length (take (w .«packet_count») (w .packets)) ≡ w .«packet_count» = length-take-le (w .«packet_count») (w .packets) (o .packets) in
+        record {
+          queued = record {
+            few = omega (arith, o .packets, h .packets);
+            places = h .packets;
+            each = λ i k. carried (getD (w .packets) i noSlot)
+                (rw (getD-take (w .«packet_count») (w .packets) i noSlot k) at (all-each (take (w .«packet_count») (w .packets)) (o .slots) i (omega arith)));
+          };
+          held = held-facts (w .sending) (w .sent) (o .sending);
+          first = record { few = omega (arith, o .first, h .first); flat = h .first };
+          second = record { few = omega (arith, o .second, h .second); flat = h .second };
+        }
+
+    -- so the multiplexer that they mean is
+    pub order-mux : Order w → validMux (means w) ≡ true
+    unfolding means
+    order-mux o =
+        let ok = order-ok o in
+        let n : length (packetsOf (take (w .«packet_count») (w .packets))) ≡ w .«packet_count» =
+        length-map (take (w .«packet_count») (w .packets)) slotPacket ∙ length-take-le (w .«packet_count») (w .packets) (o .packets) in
+        facts-mux (means w) (record {
+          packets = omega (arith, n, ok .queued .few);
+          stored = all-storable (take (w .«packet_count») (w .packets)) (o .slots);
+          sending = omega (arith, left-length (w .sending) (w .sent) (ok .held), ok .held .most);
+          queue1 = omega (arith, queue-length (w .field1) (ok .first), ok .first .few);
+          queue2 = omega (arith, queue-length (w .field2) (ok .second), ok .second .few);
+        })
+
+    -- the test of the places is the whole test
+    pub order-valid : inOrder w ≡ validWriter w
+    unfolding validWriter
+    order-valid = by-test (inOrder w) (λ e. rw (e, order-mux (order-facts e))) (λ e. rw e)
+
+    -- too many pairs of field 1
+    pub over-first : 64 < w .field1 .count → false ≡ validWriter w
+    unfolding inOrder
+    over-first b = simp (lt-leb (2 * w .field1 .count) (length (w .field1 .bytes)) (omega (arith, h .first)), and-false (leb (w .«packet_count») (length (w .packets)))) refl ∙ order-valid
+
+    -- too many pairs of field 2
+    pub over-second : w .field1 .count ≤ 64 → 64 < w .field2 .count → false ≡ validWriter w
+    unfolding inOrder
+    over-second a b =
+        simp (le-leb (2 * w .field1 .count) (length (w .field1 .bytes)) (omega (arith, h .first)), lt-leb (2 * w .field2 .count) (length (w .field2 .bytes)) (omega (arith, h .second)), and-false (leb (w .«packet_count») (length (w .packets)))) refl
+        ∙ order-valid
+
+    -- the slots decide
+    pub by-slots : {r : Bool} → w .field1 .count ≤ 64 → w .field2 .count ≤ 64 → r ≡ validSlots (w .sending) (w .sent) (w .packets) (w .«packet_count») → r ≡ validWriter w
+    unfolding inOrder validSlots
+    by-slots b d f =
+        f
+        ∙ simp (le-leb (2 * w .field1 .count) (length (w .field1 .bytes)) (omega (arith, h .first)), le-leb (2 * w .field2 .count) (length (w .field2 .bytes)) (omega (arith, h .second)), h .packets) refl
+        ∙ order-valid
+
+    -- a state within its limits, by its parts
+    module _ (e : validWriter w ≡ true) where
+      -- its places are in order
+      pub valid-order : Order w
+      valid-order = order-facts (order-valid ∙ e)
+
+      -- the limits as facts
+      pub valid-ok : Ok w
+      valid-ok = order-ok valid-order
+
+      -- the multiplexer that it means is within its limits
+      pub valid-mux : validMux (means w) ≡ true
+      valid-mux = order-mux valid-order
+
+  -- places in order that mean a multiplexer within its limits
+  pub facts-valid : Order w → validMux (means w) ≡ true → validWriter w ≡ true
+  unfolding validWriter
+  facts-valid o v = and-both _ _ (facts-order o) v

@@ -1,4 +1,4 @@
-pub mod Slots
-pub mod Sending
 pub mod Writer
 pub mod Calls
+pub mod Sending
+pub mod Making

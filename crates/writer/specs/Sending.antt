@@ -1,17 +1,31 @@
--- The packet triples of a frame: where sending stands after them. Document 01, "Writing frames". Assumes nothing.
-use mathlib.Core.Bool.{Bool, cond}
-use mathlib.Core.List.{List, [], _∷_}
-use Prim.Native.Nat.{ℕ, _+_, _-_, _*_, _/_, min}
+-- The packet triples of a frame, slot by slot. No public contract reaches this file. Document 01, "Writing frames". Assumes nothing.
+use mathlib.Core.Path.{_≡_}
+use mathlib.Core.Bool.{cond}
+use mathlib.Core.List.{List}
+use Prim.Native.Nat.{ℕ, _+_, _-_, _*_, _/_, _%_, _≤_, _<_, min}
 use lib.Dec.{eqb, leb}
-use lib.ListN.{length, getD, take, drop, replicate}
-use Rattle.model.specs.Frame.{Triple, tri, flat}
+use lib.ListN.{length, getD, take, drop}
+use Rattle.model.specs.Frame.{flat}
 use Rattle.model.specs.Mux.{Sent, send}
 use Rattle.frames.specs.Frame.{appended}
-use Rattle.frames.specs.declared.Frame.{Frame}
 use Rattle.slots.specs.Slot.{noSlot, writtenLength, writtenBytes}
-use Rattle.writer.specs.Slots.{packetsOf, leftFrom}
+use Rattle.slots.specs.Walk.{Carries}
+use Rattle.writer.specs.Writer.{packetsOf, leftFrom}
 use Rattle.slots.specs.declared.Slot.{Slot}
 use Rattle.writer.specs.declared.Sending.{Sending}
+
+-- the slots of the queue hold packets as they are written
+pub record Queued (l : List Slot) (count : ℕ) : Type 0 where
+  pub few : count ≤ 16
+  pub places : length l ≡ 16
+  pub each : (i : ℕ) → i < count → Carries (getD l i noSlot)
+
+-- the packet being sent, of which `sent` bytes have left
+pub record Held (s : Slot) (sent : ℕ) : Type 0 where
+  pub most : s .len ≤ 128
+  pub whole : length (writtenBytes s) ≡ writtenLength s
+  pub even : sent % 2 ≡ 0
+  pub within : sent ≤ writtenLength s
 
 -- the slot being sent once `next` of the queue have been begun, where `slot` was it when `from` had been
 abbrev pub begun : List Slot → Slot → ℕ → ℕ → Slot

@@ -13,25 +13,20 @@ use slots::Slot;
 use turns::PairQueue;
 use turns::Turns;
 ghost use mathlib.Core.Path.{_≡_};
-ghost use mathlib.Core.Bool.{cond, _&&_};
-ghost use mathlib.Core.List.{[], _∷_, _++_};
-ghost use Prim.Native.Nat.{ℕ, _+_, _-_, _*_, _/_, _%_, _≤_, _<_, min, max};
+ghost use mathlib.Core.Bool.{true, false, cond, _&&_};
+ghost use Prim.Native.Nat.{_+_, _-_, _*_, _/_, _%_, _≤_, _<_, min, max};
 ghost use lib.ListN.{length, take};
-ghost use lib.Seq.{sets};
-ghost use Rattle.model.specs.Said.{gave, saysWith, measured, checked, mapped, after};
-ghost use Rattle.model.specs.Frame.{flat};
-ghost use Rattle.model.specs.Mux.{triplesQueued, pushPacket, pushCea608};
-ghost use Rattle.packet.specs.Packet.{packetOf, validDTVCC};
+ghost use Rattle.model.specs.Said.{gave, measured, checked};
+ghost use Rattle.model.specs.Mux.{freshMux, withPads, flushMux, triplesQueued, pushPacket, pushCea608};
 ghost use Rattle.model.specs.Duration.{pairsDuration, bytesDuration, lengthsOf, field1Duration, field2Duration, packetDuration};
-ghost use Rattle.caption.specs.Answers.{saidAnswer, saidCounted, saidTruth};
+ghost use Rattle.caption.specs.Answers.{saidTruth};
 ghost use Rattle.caption.specs.Pairs.{cea608Of};
-ghost use Rattle.writer.specs.Calls.{Answers, saidMicros, fresh, withPadding, withFields, flushed, pushedPacket, pushedTo, pairOutcome, Stores, budgetsAt, written, frameLength, Makes};
-ghost use mathlib.Core.Bool.{true, false};
-ghost use Rattle.turns.specs.Queue.{slid};
+ghost use Rattle.packet.specs.Packet.{packetOf, validDTVCC};
 ghost use Rattle.slots.specs.Slot.{writtenBytes};
-ghost use Rattle.writer.specs.Slots.{packetsOf, leftFrom, Queued, Held};
-ghost use Rattle.writer.specs.Writer.{means, Ok, validWriter, afterFrame, madeOf, unmadeOf, Builds, turnsOf, padded, filled, Room};
-ghost use Rattle.writer.specs.Sending.{sentFrom, finished, restedSlot, restedSent};
+ghost use Rattle.writer.specs.Writer.{packetsOf, leftFrom, means, validWriter, fresh, stored, emptied};
+ghost use Rattle.writer.specs.Calls.{saidMicros, Answers, Writes};
+ghost use Rattle.writer.specs.Sending.{Queued, Held, sentFrom, finished};
+ghost use Rattle.writer.specs.Making.{Ok, madeOf, unmadeOf, Builds, turnsOf, filled, Room, withFields, pairOutcome, Stores, Makes};
 
 // The packets that wait, beside the one being sent.
 const MOST_PACKETS: usize = 16;
@@ -389,7 +384,7 @@ impl CCDataWriter {
 
     // A multiplexer with nothing queued, and no padding.
     pub fn new() -> CCDataWriter
-        ensures { λ r. ⌜ r ≡ fresh ⌝ }
+        ensures { λ r. ⌜ (means r ≡ freshMux) × (r ≡ fresh) ⌝ }
     {
         let slot = Slot {
             len: 0,
@@ -414,7 +409,7 @@ impl CCDataWriter {
 
     // Whether to output padding CEA-608 bytes where not enough has been pushed.
     pub fn set_output_cea608_padding(self, output_cea608_padding: bool) -> WriterAnswer
-        ensures { λ r. ⌜ Answers (checked (validWriter self) (gave (withPadding «output_cea608_padding» (self .«output_padding») self))) self r ⌝ }
+        ensures { λ r. ⌜ Answers (checked (validWriter self) (gave (withPads «output_cea608_padding» (self .«output_padding») (means self)))) (stored self) self r ⌝ }
     {
         if self.is_valid() {
             let mut writer = self;
@@ -442,7 +437,7 @@ impl CCDataWriter {
 
     // Whether to output padding triples up to the most that a frame holds.
     pub fn set_output_padding(self, output_padding: bool) -> WriterAnswer
-        ensures { λ r. ⌜ Answers (checked (validWriter self) (gave (withPadding (self .«output_cea608_padding») «output_padding» self))) self r ⌝ }
+        ensures { λ r. ⌜ Answers (checked (validWriter self) (gave (withPads (self .«output_cea608_padding») «output_padding» (means self)))) (stored self) self r ⌝ }
     {
         if self.is_valid() {
             let mut writer = self;
@@ -497,7 +492,7 @@ impl CCDataWriter {
 
     // Pushes a packet: it is written into the first free slot. An empty one is accepted, even when full, and not stored.
     pub fn push_packet(self, packet: DTVCCPacket) -> WriterAnswer
-        ensures { λ r. ⌜ Answers (checked (validWriter self && validDTVCC packet) (mapped (λ _. pushedPacket (packetOf packet) self) (pushPacket (packetOf packet) (means self)))) self r ⌝ }
+        ensures { λ r. ⌜ Answers (checked (validWriter self && validDTVCC packet) (pushPacket (packetOf packet) (means self))) (stored self) self r ⌝ }
     {
         let mut packets = self.packets;
         let mut count = self.packet_count;
@@ -531,7 +526,7 @@ impl CCDataWriter {
     // The queues after a pair, which goes to its field's.
     fn queue_pair(self, valid: bool, cea608: Cea608) -> Pushed
         requires { ⌜ valid ≡ validWriter self ⌝ }
-        ensures { λ r. ⌜ Answers (pairOutcome cea608 self) self (record { answer = r .answer; writer = withFields (r .field1) (r .field2) self }) ⌝ }
+        ensures { λ r. ⌜ Answers (pairOutcome cea608 self) (stored self) self (record { answer = r .answer; writer = withFields (r .field1) (r .field2) self }) ⌝ }
     {
         let field1 = self.field1;
         let field2 = self.field2;
@@ -569,7 +564,7 @@ impl CCDataWriter {
     // The state after a pair.
     fn push_pair(self, valid: bool, cea608: Cea608) -> WriterAnswer
         requires { ⌜ valid ≡ validWriter self ⌝ }
-        ensures { λ r. ⌜ Answers (pairOutcome cea608 self) self r ⌝ }
+        ensures { λ r. ⌜ Answers (pairOutcome cea608 self) (stored self) self r ⌝ }
     {
         let pushed = self.queue_pair(valid, cea608);
         let answer = pushed.answer;
@@ -595,7 +590,7 @@ impl CCDataWriter {
 
     // Pushes a CEA-608 byte pair.
     pub fn push_cea608(self, cea608: Cea608) -> WriterAnswer
-        ensures { λ r. ⌜ Answers (checked (validWriter self) (mapped (λ _. pushedTo cea608 self) (pushCea608 (cea608Of cea608) (means self)))) self r ⌝ }
+        ensures { λ r. ⌜ Answers (checked (validWriter self) (pushCea608 (cea608Of cea608) (means self))) (stored self) self r ⌝ }
     {
         let valid = self.is_valid();
         self.push_pair(valid, cea608)
@@ -603,7 +598,7 @@ impl CCDataWriter {
 
     // Drops what is queued, and the packet being sent.
     pub fn flush(self) -> WriterAnswer
-        ensures { λ r. ⌜ Answers (checked (validWriter self) (gave (flushed self))) self r ⌝ }
+        ensures { λ r. ⌜ Answers (checked (validWriter self) (gave (flushMux (means self)))) (emptied self) self r ⌝ }
     {
         if self.is_valid() {
             let mut sending = self.sending;
@@ -666,9 +661,7 @@ impl CCDataWriter {
 
     // Writes the next frame at a rate: 608 pairs by turns, then packet triples.
     pub fn write(self, rate: Framerate, out: &mut [u8]) -> WriterCount
-        ensures { λ r. ⌜ saidCounted (r .answer) ≡ saysWith (λ _. frameLength rate self ∷ []) (written rate (now (out .entry)) self) ⌝ }
-        ensures { λ r. ⌜ r .writer ≡ after self (mapped (λ _. afterFrame (budgetsAt rate) self) (written rate (now (out .entry)) self)) ⌝ }
-        ensures { λ r. ⌜ now (out .exit) ≡ after (now (out .entry)) (mapped (λ x. x .out) (written rate (now (out .entry)) self)) ⌝ }
+        ensures { λ r. ⌜ Writes rate (now (out .entry)) self r (now (out .exit)) ⌝ }
     {
         let mut packets = self.packets;
         let valid = self.is_valid();
@@ -686,20 +679,18 @@ impl CCDataWriter {
         let sending = made.slot;
         let field1 = made.field1;
         let field2 = made.field2;
-        WriterCount {
-            answer,
-            writer: CCDataWriter {
-                output_cea608_padding: self.output_cea608_padding,
-                output_padding: self.output_padding,
-                packet_count: count,
-                packets,
-                sending,
-                sent: made.sent,
-                field1,
-                field2,
-                field2_next: made.field2_next,
-            },
-        }
+        let writer = CCDataWriter {
+            output_cea608_padding: self.output_cea608_padding,
+            output_padding: self.output_padding,
+            packet_count: count,
+            packets,
+            sending,
+            sent: made.sent,
+            field1,
+            field2,
+            field2_next: made.field2_next,
+        };
+        WriterCount { answer, writer }
     }
 }
 
@@ -729,8 +720,16 @@ fn bytes_left(packets: [Slot; 16], count: usize, slot: Slot, sent: usize) -> usi
     let mut i: usize = 0;
     while i < count {
         let s = packets[i];
-        sum += s.len;
+        sum += length_in(s);
         i += 1;
     }
     sum
+}
+
+// The length of the packet in a slot.
+fn length_in(held: Slot) -> usize
+    requires { ⌜ held .len ≤ 128 ⌝ }
+    ensures { λ r. ⌜ r ≡ held .len ⌝ }
+{
+    held.len
 }

@@ -4,7 +4,7 @@ use native.Mathlib.Omega.{arith}
 use lib.ListN.{length}
 use borrow.Author.Tests.{not-true}
 use borrow.Author.Needs.{needs}
-use Rattle.queues.specs.Written.{writtenIf}
+use Rattle.queues.specs.Steps.{writtenIf}
 use Rattle.queues.proofs.Written.{length-mapped, test-passes, row-short, row-fails, row-rest}
 use Prim.Native.Nat.{ℕ, _<_}
 use borrow.Fn.Kinds.{In}

@@ -4,7 +4,7 @@ use Prim.Native.Nat.{_+_, _-_, _≤_, _<_}
 use native.Mathlib.Omega.{arith}
 use lib.ListN.{length, getD, take, drop}
 use lib.Seq.{length-take-le, getD-take}
-use Rattle.slots.specs.Slot.{blockSpan, wholeBlocks}
+use Rattle.slots.specs.Walk.{blockSpan, wholeBlocks}
 use Rattle.slots.proofs.Spans.{whole-none, whole-short, whole-next, whole-all}
 use borrow.Author.Needs.{needs}
 use Rattle.slots.proofs.blocks_whole.Statement.{statement}

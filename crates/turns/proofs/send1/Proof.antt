@@ -2,7 +2,7 @@ use native.Mathlib.Omega.{arith}
 -- `turns::send1` meets its contract: one test for each way out. Assumes nothing.
 use borrow.Author.Tests.{lt-ltb, le-ltb}
 use Rattle.model.specs.Frame.{flat}
-use Rattle.turns.specs.Turn.{rest, triple1}
+use Rattle.turns.specs.Step.{rest, triple1}
 use Rattle.frames.proofs.Stores.{appended-nil, fits-true}
 use borrow.Author.Needs.{needs}
 use Rattle.turns.proofs.send1.Statement.{statement}

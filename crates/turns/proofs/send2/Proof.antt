@@ -1,7 +1,7 @@
 -- `turns::send2` meets its contract: one test for each way out. Assumes nothing.
 use borrow.Author.Tests.{lt-ltb, le-ltb}
 use Rattle.model.specs.Frame.{flat}
-use Rattle.turns.specs.Turn.{rest, triple2}
+use Rattle.turns.specs.Step.{rest, triple2}
 use Rattle.frames.proofs.Stores.{appended-nil, fits-true}
 use borrow.Author.Needs.{needs}
 use Rattle.turns.proofs.send2.Statement.{statement}

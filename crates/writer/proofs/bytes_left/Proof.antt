@@ -4,7 +4,7 @@ use Prim.Native.Nat.{_+_, _-_, _*_, _≤_}
 use native.Mathlib.Omega.{arith}
 use lib.ListN.{length, take, drop}
 use Rattle.model.specs.Duration.{lengthsOf}
-use Rattle.writer.specs.Slots.{packetsOf}
+use Rattle.writer.specs.Writer.{packetsOf}
 use Rattle.writer.proofs.Triples.{left-length}
 use Rattle.writer.proofs.Sends.{lengths-more, lengths-none}
 use borrow.Author.Needs.{needs}
@@ -12,6 +12,7 @@ use Rattle.writer.proofs.bytes_left.Statement.{statement}
 use Rattle.writer.proofs.bytes_left.Tie as tie
 use Rattle.writer.proofs.bytes_left.Reads as reads
 use Rattle.writer.proofs.bytes_left.Lts as lts
+use Rattle.writer.proofs.length_in.Reads as length-in-reads
 
 abbrev Inv-loop : tie.InvT-loop
 Inv-loop count sent packets sum₀ i₀ sum i = (i ≤ count) × (sum ≤ 192 + 128 * i) × (sum + lengthsOf (packetsOf (drop i (take count packets))) ≡ sum₀ + lengthsOf (packetsOf (take count packets)))
@@ -37,8 +38,11 @@ mul-s c = search needs
 array-copy-out-s : tie.Need-array-copy-out-s Inv-loop μ-loop
 array-copy-out-s c = search needs
 
+length-in-requires : tie.Need-length-in-requires Inv-loop μ-loop
+length-in-requires c κs = c .before .before .before .before .before .pre .0 .each (c .before .before .loop .i) (c .before .loop-test .taken) .most
+
 add-sum-2 : tie.Need-add-sum-2 Inv-loop μ-loop
-add-sum-2 c = let s = c .before .before .before .before .before .before in omega (arith, s .pre .0 .few, s .pre .0 .each (c .before .before .before .loop .i) (c .before .before .loop-test .taken) .most)
+add-sum-2 c = let s = c .before .before .before .before .before .before in omega (arith, c .length-in .ensures, s .pre .0 .few, s .pre .0 .each (c .before .before .before .loop .i) (c .before .before .loop-test .taken) .most)
 
 add-i : tie.Need-add-i Inv-loop μ-loop
 add-i c = search needs
@@ -50,7 +54,7 @@ loop-again : tie.Need-loop-again Inv-loop μ-loop
 loop-again c = let s = c .before .before .before .before .before .before in
     let i = c .before .before .before .loop .i in
     let k = s .pre .0 .each i (c .before .before .loop-test .taken) in
-    (omega arith, omega (arith, k .most), omega (arith, lengths-more (s .args .t1) (s .args .count) (s .pre .0) i (c .before .before .loop-test .taken)))
+    (omega arith, omega (arith, c .length-in .ensures, k .most), omega (arith, c .length-in .ensures, lengths-more (s .args .t1) (s .args .count) (s .pre .0) i (c .before .before .loop-test .taken)))
 
 returns : tie.Need-returns Inv-loop μ-loop
 returns c = let s = c .before .before .before .before in
@@ -70,6 +74,7 @@ bytes-left-spec =
     loop-holds
     mul-s
     array-copy-out-s
+    length-in-requires
     add-sum-2
     add-i
     loop-less

@@ -1,7 +1,7 @@
 -- `writer::fill` meets its contract: the packet triples leave room for the padding. Assumes nothing.
 use mathlib.Core.Path.{_≡_, refl, sym}
 use native.Mathlib.Omega.{arith}
-use Rattle.writer.specs.Writer.{Room}
+use Rattle.writer.specs.Making.{Room}
 use Rattle.writer.proofs.Fills.{sent-room, filled-on, filled-off}
 use borrow.Author.Needs.{needs}
 use Rattle.writer.proofs.fill.Statement.{statement}

@@ -3,7 +3,7 @@ use mathlib.Core.Path.{_≡_, refl}
 use Prim.Native.Nat.{_-_}
 use native.Mathlib.Omega.{arith}
 use lib.ListN.{length}
-use Rattle.writer.specs.Slots.{Queued}
+use Rattle.writer.specs.Sending.{Queued}
 use Rattle.writer.proofs.Triples.{carried}
 use Rattle.writer.proofs.Sends.{Running, running-more, running-within, running-last}
 use borrow.Author.Needs.{needs}

@@ -1,4 +1,6 @@
-use Rattle.slots.specs.Slot.{noSlot, Carries}
+use Rattle.slots.specs.Slot.{noSlot}
+use Rattle.slots.specs.Walk.{Carries}
+use Rattle.writer.specs.Writer.{packetsOf}
 use Rattle.writer.proofs.Triples.{left-length}
 use Rattle.writer.proofs.Sends.{unsent-more, unsent-none}
 use lib.ListN.{getD}
@@ -9,7 +11,6 @@ use Prim.Native.Nat.{_+_, _-_, _*_, _≤_}
 use native.Mathlib.Omega.{arith}
 use lib.ListN.{length, take, drop}
 use Rattle.model.specs.Mux.{triplesQueued}
-use Rattle.writer.specs.Slots.{packetsOf}
 use borrow.Author.Needs.{needs}
 use Rattle.writer.proofs.unsent.Statement.{statement}
 use Rattle.writer.proofs.unsent.Tie as tie

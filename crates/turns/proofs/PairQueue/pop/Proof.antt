@@ -3,7 +3,7 @@ use mathlib.Core.Path.{_≡_}
 use Prim.Native.Nat.{_+_, _*_, _-_, _≤_, _<_}
 use native.Mathlib.Omega.{arith}
 use lib.ListN.{length}
-use Rattle.turns.specs.Queue.{slid}
+use Rattle.turns.specs.Step.{slid}
 use Rattle.turns.proofs.Queues.{slid-none, slid-more}
 use borrow.Author.Needs.{needs}
 use Rattle.turns.proofs.PairQueue.pop.Statement.{statement}

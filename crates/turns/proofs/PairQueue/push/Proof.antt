@@ -16,7 +16,7 @@ is-null-requires : tie.Need-is-null-requires
 is-null-requires c κs = search needs
 
 returns-2 : tie.Need-returns-2
-returns-2 c = push-null (c .before .before .before .args .t1) _ _ (omega arith) (c .before .is-null .ensures) (c .if2 .taken)
+returns-2 c = push-null (c .before .before .before .args .t1) _ _ (record { few = omega arith; flat = search needs }) (c .before .is-null .ensures) (c .if2 .taken)
 
 returns-3 : tie.Need-returns-3
 returns-3 c = push-full (c .before .before .before .before .args .t1) _ _ (record { few = omega arith; flat = search needs }) (c .before .before .is-null .ensures) (c .before .if2 .left) (c .if3 .taken)

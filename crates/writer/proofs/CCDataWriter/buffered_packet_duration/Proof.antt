@@ -1,7 +1,7 @@
 -- `writer::CCDataWriter::buffered_packet_duration` meets its contract. Assumes nothing.
 use mathlib.Core.Path.{_≡_, sym, _∙_}
 use lib.ListN.{length}
-use Rattle.writer.specs.Writer.{Ok}
+use Rattle.writer.specs.Making.{Ok}
 use Rattle.queues.proofs.Written.{length-mapped}
 use Rattle.writer.proofs.Valid.{valid-ok}
 use Rattle.writer.proofs.Calls.{measured-value, refused-measure, packet-duration}

@@ -1,6 +1,8 @@
 -- `writer::CCDataWriter::flush` meets its contract. Assumes nothing.
-use mathlib.Core.Path.{refl}
-use Rattle.writer.proofs.Calls.{refused-value, accepted-value}
+use mathlib.Core.Path.{sym}
+use Rattle.queues.proofs.Written.{length-mapped}
+use Rattle.writer.proofs.Stored.{flushed-is}
+use Rattle.writer.proofs.Calls.{refused-value, flushes}
 use borrow.Author.Needs.{needs}
 use Rattle.writer.proofs.CCDataWriter.flush.Statement.{statement}
 use Rattle.writer.proofs.CCDataWriter.flush.Tie as tie
@@ -12,10 +14,11 @@ is-valid-requires : tie.Need-is-valid-requires
 is-valid-requires c κs = search needs
 
 returns : tie.Need-returns
-returns c = accepted-value (c .before .before .before .before .before .args .self) (c .before .before .before .before .is-valid .ensures) _ _ (c .before .before .before .if1 .taken) refl
+returns c = let s = c .before .before .before .before .before in
+    flushes (s .args .self) (record { packets = search (needs, length-mapped, s .good); first = search needs; second = search needs }) (c .before .before .before .before .is-valid .ensures) (c .before .before .before .if1 .taken) _ (sym (flushed-is (s .args .self)))
 
 returns-2 : tie.Need-returns-2
-returns-2 c = refused-value (c .before .before .args .self) (c .before .is-valid .ensures) _ (c .if1 .left)
+returns-2 c = refused-value (c .before .before .args .self) (c .before .is-valid .ensures) _ _ (c .if1 .left)
 
 pub flush-spec : {M : Type 1} → statement M
 flush-spec = tie.close (tie.spec is-valid-requires returns returns-2)

@@ -1,5 +1,7 @@
 -- `writer::CCDataWriter::is_valid` meets its contract: one law of `Valid` for each way out. Assumes nothing.
+use native.Mathlib.Omega.{arith}
 use Rattle.writer.proofs.Valid.{over-first, over-second, by-slots}
+use Rattle.queues.proofs.Written.{length-mapped}
 use borrow.Author.Needs.{needs}
 use Rattle.writer.proofs.CCDataWriter.is_valid.Statement.{statement}
 use Rattle.writer.proofs.CCDataWriter.is_valid.Tie as tie
@@ -8,16 +10,16 @@ use Rattle.writer.proofs.CCDataWriter.is_valid.Lts as lts
 use Rattle.queues.proofs.slots_written.Reads as slots-written-reads
 
 returns : tie.Need-returns
-returns c = over-first _ (c .if1 .taken)
+returns c = let s = c .before .before .before .before .before in over-first (s .args .self) (record { packets = search (needs, length-mapped, s .good); first = search needs; second = search needs }) (omega (arith, c .if1 .taken))
 
 returns-2 : tie.Need-returns-2
-returns-2 c = over-second _ (c .before .before .if1 .left) (c .if2 .taken)
+returns-2 c = let s = c .before .before .before .before .before .before .before in over-second (s .args .self) (record { packets = search (needs, length-mapped, s .good); first = search needs; second = search needs }) (c .before .before .if1 .left) (c .if2 .taken)
 
 slots-written-requires : tie.Need-slots-written-requires
 slots-written-requires c κs = search needs
 
 returns-3 : tie.Need-returns-3
-returns-3 c = search (needs, by-slots)
+returns-3 c = let s = c .before .before .before .before .before .before .before .before .before in by-slots (s .args .self) (record { packets = search (needs, length-mapped, s .good); first = search needs; second = search needs }) (c .before .before .before .before .if1 .left) (c .before .before .if2 .left) (c .slots-written .ensures)
 
 pub is-valid-spec : {M : Type 1} → statement M
 is-valid-spec = tie.close (tie.spec returns returns-2 slots-written-requires returns-3)

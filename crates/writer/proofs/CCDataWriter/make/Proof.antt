@@ -1,12 +1,9 @@
 -- `writer::CCDataWriter::make` meets its contract: one law of `Calls` for each way out. Assumes nothing.
-use mathlib.Core.Path.{_≡_, refl, sym, _∙_}
-use mathlib.Core.Bool.{true}
+use mathlib.Core.Path.{sym, _∙_}
 use mathlib.Core.List.{[]}
-use native.Mathlib.Omega.{arith}
 use Rattle.queues.proofs.Written.{length-mapped}
-use Rattle.writer.proofs.Valid.{valid-ok}
+use Rattle.writer.proofs.Valid.{Shaped, valid-ok}
 use Rattle.writer.proofs.Calls.{sane, wrote-rate, wrote-short, wrote-done, wrote-value, unmade-makes}
-use Rattle.writer.specs.Writer.{Ok}
 use borrow.Author.Needs.{needs}
 use Rattle.writer.proofs.CCDataWriter.make.Statement.{statement}
 use Rattle.writer.proofs.CCDataWriter.make.Tie as tie
@@ -16,9 +13,9 @@ use Rattle.caption.proofs.Framerate.budgets.Reads as budgets-reads
 use Rattle.writer.proofs.CCDataWriter.build.Reads as build-reads
 use Rattle.writer.proofs.CCDataWriter.unmade.Reads as unmade-reads
 
--- a state that passes the test is within its limits
-ok : (s : lts.Start (budgets-reads.Asked, budgets-reads.Learnt, unmade-reads.Asked, unmade-reads.Learnt, build-reads.Asked, build-reads.Learnt) reads.Pre reads.Post) → s .args .valid ≡ true → Ok (s .args .self)
-ok s t = valid-ok (s .args .self) (record { packets = search (needs, length-mapped, s .good); first = search needs; second = search needs }) (sym (s .pre) ∙ t)
+-- the arrays of the state have their lengths
+shaped : (s : lts.Start (budgets-reads.Asked, budgets-reads.Learnt, unmade-reads.Asked, unmade-reads.Learnt, build-reads.Asked, build-reads.Learnt) reads.Pre reads.Post) → Shaped (s .args .self)
+shaped s = record { packets = search (needs, length-mapped, s .good); first = search needs; second = search needs }
 
 budgets-requires : tie.Need-budgets-requires
 budgets-requires c κs = search needs
@@ -37,7 +34,7 @@ returns c = let s = c .before .before .before .before .before in
     unmade-makes (s .args .self) (s .args .rate) (s .args .room) _ _ (c .unmade .ensures) (λ out l. wrote-rate (s .args .self) (s .args .rate) out (s .pre) (c .before .before .before .before .if1 .taken) _ (c .before .before .before .budgets .ensures) (c .before .enum-told .given .1))
 
 build-requires : tie.Need-build-requires
-build-requires c κs = let s = c .before .before .before .before .before in (ok s (c .before .before .before .before .if1 .taken), sane (s .args .self) (s .args .rate) [] (s .pre) (c .before .before .before .before .if1 .taken) _ _ _ (c .before .before .before .budgets .ensures) (c .before .budgets2 .given .1))
+build-requires c κs = let s = c .before .before .before .before .before in (valid-ok (s .args .self) (shaped s) (sym (s .pre) ∙ c .before .before .before .before .if1 .taken), sane (s .args .self) (s .args .rate) [] (s .pre) (c .before .before .before .before .if1 .taken) _ _ _ (c .before .before .before .budgets .ensures) (c .before .budgets2 .given .1))
 
 unmade-requires-2 : tie.Need-unmade-requires-2
 unmade-requires-2 c κs = search needs
@@ -51,8 +48,8 @@ returns-3 : tie.Need-returns-3
 returns-3 c = let s = c .before .before .before .before .before .before .before .before in
     record {
       few = c .before .before .build .ensures .few;
-      places = λ _. ok s (c .before .before .before .before .before .before .before .if1 .taken) .queued .few;
-      wrote = λ out l. wrote-done (s .args .self) (s .args .rate) out (s .pre) (c .before .before .before .before .before .before .before .if1 .taken) _ _ _ (c .before .before .before .before .before .before .budgets .ensures) (c .before .before .before .before .budgets2 .given .1) _ (c .before .before .build .ensures) (rw l (c .if2 .left));
+      places = λ _. valid-ok (s .args .self) (shaped s) (sym (s .pre) ∙ c .before .before .before .before .before .before .before .if1 .taken) .queued .few;
+      wrote = λ out l. wrote-done (s .args .self) (s .args .rate) out (s .pre) (c .before .before .before .before .before .before .before .if1 .taken) _ _ _ (c .before .before .before .before .before .before .budgets .ensures) (c .before .before .before .before .budgets2 .given .1) _ (c .before .before .build .ensures) (shaped s) (rw l (c .if2 .left));
     }
 
 unmade-requires-3 : tie.Need-unmade-requires-3

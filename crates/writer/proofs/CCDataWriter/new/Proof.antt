@@ -1,15 +1,16 @@
 -- `writer::CCDataWriter::new` meets its contract. Assumes nothing.
 use mathlib.Core.Path.{refl}
-use Rattle.writer.specs.Calls.{fresh}
-use borrow.Author.Needs.{needs}
+use Rattle.turns.specs.Queue.{pairBytes, queueOver}
+use Rattle.writer.specs.Writer.{fresh}
+use Rattle.writer.proofs.Laws.{means-fresh}
 use Rattle.writer.proofs.CCDataWriter.new.Statement.{statement}
 use Rattle.writer.proofs.CCDataWriter.new.Tie as tie
 use Rattle.writer.proofs.CCDataWriter.new.Reads as reads
 use Rattle.writer.proofs.CCDataWriter.new.Lts as lts
 
 returns : tie.Need-returns
-unfolding fresh
-returns c = refl
+unfolding fresh queueOver pairBytes
+returns c = (means-fresh, refl)
 
 pub new-spec : {M : Type 1} → statement M
 new-spec = tie.close (tie.spec returns)

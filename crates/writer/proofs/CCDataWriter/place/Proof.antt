@@ -1,12 +1,11 @@
 -- `writer::CCDataWriter::place` meets its contract: one law of `Packs` for each way out. Assumes nothing.
-use mathlib.Core.Path.{_≡_, refl, sym, _∙_}
+use mathlib.Core.Path.{sym, _∙_}
 use mathlib.Core.Bool.{true, false, false≢true}
 use native.Mathlib.Omega.{arith}
 use Rattle.packet.proofs.Holds.{Places}
 use Rattle.queues.proofs.Written.{length-mapped}
-use Rattle.writer.proofs.Valid.{valid-ok}
+use Rattle.writer.proofs.Valid.{Shaped, valid-ok}
 use Rattle.writer.proofs.Packs.{counted-given, counted-refused, refused-both, refused-packet, accepted-empty, refused-full, accepted-packet, written-bytes, unplaced-stores}
-use Rattle.writer.specs.Writer.{Ok}
 use borrow.Author.Needs.{needs}
 use Rattle.writer.proofs.CCDataWriter.place.Statement.{statement}
 use Rattle.writer.proofs.CCDataWriter.place.Tie as tie
@@ -20,9 +19,9 @@ use Rattle.writer.proofs.unplaced.Reads as unplaced-reads
 placed : (s : lts.Start (len-reads.Asked, len-reads.Learnt, unplaced-reads.Asked, unplaced-reads.Learnt, write-reads.Asked, write-reads.Learnt) reads.Pre reads.Post) → Places (s .args .packet)
 placed s = record { numbers = search needs; sizes = search needs; payload = search needs }
 
--- a state that passes the test is within its limits
-ok : (s : lts.Start (len-reads.Asked, len-reads.Learnt, unplaced-reads.Asked, unplaced-reads.Learnt, write-reads.Asked, write-reads.Learnt) reads.Pre reads.Post) → s .args .valid ≡ true → Ok (s .args .self)
-ok s t = valid-ok (s .args .self) (record { packets = search (needs, length-mapped, s .good); first = search needs; second = search needs }) (sym (s .pre) ∙ t)
+-- the arrays of the state have their lengths
+shaped : (s : lts.Start (len-reads.Asked, len-reads.Learnt, unplaced-reads.Asked, unplaced-reads.Learnt, write-reads.Asked, write-reads.Learnt) reads.Pre reads.Post) → Shaped (s .args .self)
+shaped s = record { packets = search (needs, length-mapped, s .good); first = search needs; second = search needs }
 
 len-requires : tie.Need-len-requires
 len-requires c κs = search needs
@@ -48,7 +47,7 @@ returns-2 : tie.Need-returns-2
 returns-2 c = let s = c .before .before .before .before .before .before .before in
     let g = counted-given _ _ _ _ (c .before .before .before .before .before .len .ensures) (c .before .before .before .length .given .1) in
     unplaced-stores (s .args .self) (s .args .packet) _ _ (c .unplaced2 .ensures)
-    (accepted-empty (s .args .self) (s .pre) (c .before .before .before .before .before .before .if1 .taken) (s .args .packet) (g .0) (sym (g .1) ∙ c .before .if2 .taken))
+    (accepted-empty (s .args .self) (s .pre) (c .before .before .before .before .before .before .if1 .taken) (s .args .packet) (g .0) (shaped s) (sym (g .1) ∙ c .before .if2 .taken))
 
 unplaced-requires-3 : tie.Need-unplaced-requires-3
 unplaced-requires-3 c κs = search needs
@@ -57,7 +56,7 @@ returns-3 : tie.Need-returns-3
 returns-3 c = let s = c .before .before .before .before .before .before .before .before .before in
     let g = counted-given _ _ _ _ (c .before .before .before .before .before .before .before .len .ensures) (c .before .before .before .before .before .length .given .1) in
     unplaced-stores (s .args .self) (s .args .packet) _ _ (c .unplaced3 .ensures)
-    (refused-full (s .args .self) (s .pre) (c .before .before .before .before .before .before .before .before .if1 .taken) (s .args .packet) (g .0) (ok s (c .before .before .before .before .before .before .before .before .if1 .taken)) (λ z. c .before .before .before .if2 .left (g .1 ∙ z)) (c .before .if3 .taken))
+    (refused-full (s .args .self) (s .pre) (c .before .before .before .before .before .before .before .before .if1 .taken) (s .args .packet) (g .0) (shaped s) (λ z. c .before .before .before .if2 .left (g .1 ∙ z)) (c .before .if3 .taken))
 
 slice-aggregate-write : tie.Need-slice-aggregate-write
 slice-aggregate-write c = search needs
@@ -68,11 +67,11 @@ write-requires c κs = search needs
 returns-4 : tie.Need-returns-4
 returns-4 c = let s = c .before .before .before .before .before .before .before .before .before .before .before in
     let g = counted-given _ _ _ _ (c .before .before .before .before .before .before .before .before .before .len .ensures) (c .before .before .before .before .before .before .before .length .given .1) in
-    let o = ok s (c .before .before .before .before .before .before .before .before .before .before .if1 .taken) in
+    let o = valid-ok (s .args .self) (shaped s) (sym (s .pre) ∙ c .before .before .before .before .before .before .before .before .before .before .if1 .taken) in
     record {
       room = λ _. omega (arith, o .queued .few, c .before .before .before .if3 .left);
       kept = λ f. absurd (false≢true (sym f));
-      stored = λ _. accepted-packet (s .args .self) (s .pre) (c .before .before .before .before .before .before .before .before .before .before .if1 .taken) (s .args .packet) (g .0) o (λ z. c .before .before .before .before .before .if2 .left (g .1 ∙ z)) (c .before .before .before .if3 .left) _
+      stored = λ _. accepted-packet (s .args .self) (s .pre) (c .before .before .before .before .before .before .before .before .before .before .if1 .taken) (s .args .packet) (g .0) (shaped s) (λ z. c .before .before .before .before .before .if2 .left (g .1 ∙ z)) (placed s) (c .before .before .before .if3 .left) _
           (written-bytes (s .args .packet) (placed s) (g .0) (λ z. c .before .before .before .before .before .if2 .left (g .1 ∙ z)) _ _ (c .before .write .ensures) _ (g .1));
     }
 

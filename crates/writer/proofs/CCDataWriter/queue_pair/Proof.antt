@@ -1,10 +1,7 @@
 -- `writer::CCDataWriter::queue_pair` meets its contract: one law of `Calls` for each way out. Assumes nothing.
-use mathlib.Core.Path.{_≡_, refl, sym, _∙_}
-use mathlib.Core.Bool.{true}
 use Rattle.queues.proofs.Written.{length-mapped}
-use Rattle.writer.proofs.Valid.{valid-ok}
+use Rattle.writer.proofs.Valid.{Shaped}
 use Rattle.writer.proofs.Calls.{pushed-first, pushed-second, refused-value}
-use Rattle.writer.specs.Writer.{Ok}
 use borrow.Author.Needs.{needs}
 use Rattle.writer.proofs.CCDataWriter.queue_pair.Statement.{statement}
 use Rattle.writer.proofs.CCDataWriter.queue_pair.Tie as tie
@@ -12,9 +9,9 @@ use Rattle.writer.proofs.CCDataWriter.queue_pair.Reads as reads
 use Rattle.writer.proofs.CCDataWriter.queue_pair.Lts as lts
 use Rattle.turns.proofs.PairQueue.push.Reads as push-reads
 
--- a state that passes the test is within its limits
-ok : (s : lts.Start (push-reads.Asked, push-reads.Learnt) reads.Pre reads.Post) → s .args .valid ≡ true → Ok (s .args .self)
-ok s t = valid-ok (s .args .self) (record { packets = search (needs, length-mapped, s .good); first = search needs; second = search needs }) (sym (s .pre) ∙ t)
+-- the arrays of the state have their lengths
+shaped : (s : lts.Start (push-reads.Asked, push-reads.Learnt) reads.Pre reads.Post) → Shaped (s .args .self)
+shaped s = record { packets = search (needs, length-mapped, s .good); first = search needs; second = search needs }
 
 enum-known-cea608 : tie.Need-enum-known-cea608
 enum-known-cea608 c = search needs
@@ -25,7 +22,7 @@ push-requires c κs = search needs
 returns : tie.Need-returns
 returns c = let s = c .before .before .before .before .before .before .before .before in
     let k = c .before .before .before .cea608 .given in
-    rw (k .1) (pushed-first (s .args .self) (s .pre) (c .before .before .before .before .before .if1 .taken) (k .0 .0) (k .0 .1 .0) _ _ (ok s (c .before .before .before .before .before .if1 .taken) .first) (c .before .push .ensures .0) (c .before .push .ensures .1))
+    rw (k .1) (pushed-first (s .args .self) (shaped s) (s .pre) (c .before .before .before .before .before .if1 .taken) (k .0 .0) (k .0 .1 .0) _ _ (c .before .push .ensures .0) (c .before .push .ensures .1))
 
 enum-known-cea608-2 : tie.Need-enum-known-cea608-2
 enum-known-cea608-2 c = search needs
@@ -36,10 +33,10 @@ push-requires-2 c κs = search needs
 returns-2 : tie.Need-returns-2
 returns-2 c = let s = c .before .before .before .before .before .before .before .before in
     let k = c .before .before .before .cea6082 .given in
-    rw (k .1) (pushed-second (s .args .self) (s .pre) (c .before .before .before .before .before .if1 .taken) (k .0 .0) (k .0 .1 .0) _ _ (ok s (c .before .before .before .before .before .if1 .taken) .second) (c .before .push2 .ensures .0) (c .before .push2 .ensures .1))
+    rw (k .1) (pushed-second (s .args .self) (shaped s) (s .pre) (c .before .before .before .before .before .if1 .taken) (k .0 .0) (k .0 .1 .0) _ _ (c .before .push2 .ensures .0) (c .before .push2 .ensures .1))
 
 returns-3 : tie.Need-returns-3
-returns-3 c = let s = c .before .before .before in refused-value (s .args .self) (s .pre) _ (c .if1 .left)
+returns-3 c = let s = c .before .before .before in refused-value (s .args .self) (s .pre) _ _ (c .if1 .left)
 
 pub queue-pair-spec : {M : Type 1} → statement M
 queue-pair-spec =

@@ -1,0 +1,86 @@
+-- What a slot that is a written packet holds, and what makes one. Assumes nothing.
+use mathlib.Core.Path.{_≡_, refl, sym, ap, _∙_}
+use mathlib.Core.Bool.{true, false, false≢true}
+use mathlib.Core.List.{List, [], _∷_}
+use Prim.Native.Nat.{ℕ, _+_, _*_, _/_, _≤_}
+use native.Mathlib.Omega.{arith}
+use borrow.Author.Tests.{eq-eqb, eqb-true, le-leb, leb-true}
+use lib.Dec.{eqb}
+use lib.ListN.{length}
+use Rattle.model.specs.Packet.{Packet, packetLength, writtenPacket, validPacket}
+use Rattle.model.specs.Mux.{storable, started}
+use Rattle.model.proofs.Cases.{both, and-both}
+use Rattle.model.proofs.Packets.{Valid, valid-facts, facts-valid, Shape, shape, plain-back}
+use Rattle.model.proofs.Sends.{triples-written}
+use Rattle.slots.specs.Slot.{writtenBytes, slotPacket, same, writtenSlot}
+use Rattle.slots.specs.Walk.{Carries}
+use Rattle.slots.specs.declared.Slot.{Slot}
+
+-- bytes that are the same
+same-true : (d e : List ℕ) → same d e ≡ true → d ≡ e
+unfolding same
+same-true [] [] z = refl
+same-true [] (y ∷ e) z = absurd (false≢true z)
+same-true (x ∷ d) [] z = absurd (false≢true z)
+same-true (x ∷ d) (y ∷ e) z = let t = both (eqb x y) (same d e) z in (cc (eqb-true x y (t .0), same-true d e (t .1)))
+
+-- bytes are the same as they are
+same-self : (d : List ℕ) → same d d ≡ true
+unfolding same
+same-self [] = refl
+same-self (x ∷ d) = and-both _ _ (eq-eqb x x refl) (same-self d)
+
+-- what makes a written packet
+module _ (s : Slot) (p : Packet) (v : Valid p) (some : 1 ≤ length (p .blocks)) (l : packetLength p ≡ s .len) (w : writtenBytes s ≡ writtenPacket p) where
+  -- it reads as the packet
+  pub slot-reads : slotPacket s ≡ p
+  unfolding slotPacket
+  slot-reads = rw (w, plain-back p v)
+
+  -- and is its written form
+  pub facts-written : writtenSlot s ≡ true
+  unfolding writtenSlot storable
+  facts-written = simp (slot-reads, facts-valid p v, le-leb _ _ some, eq-eqb _ _ l, w) (same-self (writtenPacket p))
+
+-- what a written packet is
+module _ (s : Slot) (e : writtenSlot s ≡ true) where
+  -- the three tests
+  tests : (storable (slotPacket s) ≡ true) × (packetLength (slotPacket s) ≡ s .len) × (writtenPacket (slotPacket s) ≡ writtenBytes s)
+  unfolding writtenSlot
+  tests =
+      let t = both (storable (slotPacket s)) _ e in
+      let u = both (eqb (packetLength (slotPacket s)) (s .len)) _ (t .1) in
+      (t .0, eqb-true _ _ (u .0), same-true _ _ (u .1))
+
+  -- it may be queued
+  pub carried-storable : storable (slotPacket s) ≡ true
+  carried-storable = tests .0
+
+  -- the packet's limits
+  parts : (Valid (slotPacket s)) × (1 ≤ length (slotPacket s .blocks))
+  unfolding storable
+  parts = let t = both (validPacket (slotPacket s)) _ (tests .0) in (valid-facts _ (t .0), leb-true _ _ (t .1))
+
+  -- it carries that packet
+  pub carried : Carries s
+  carried =
+      let v = parts .0 in
+      let l = tests .1 in
+      let h : Shape (slotPacket s) = shape (slotPacket s) v (parts .1) in
+      let b = tests .2 in
+      let n : length (writtenBytes s) ≡ 2 * ((s .len + 1) / 2) = ap length (sym b) ∙ h .even ∙ rw l in
+      record {
+        some = omega (arith, l, h .least, h .even);
+        most = omega (arith, l, v .length);
+        whole = omega arith;
+        triples = triples-written (slotPacket s) v (parts .1) ∙ ap started b;
+        measured = l;
+      }
+
+  -- in the bytes that it is written in
+  pub carried-written : writtenBytes s ≡ writtenPacket (slotPacket s)
+  carried-written = sym (tests .2)
+
+  -- and is one within the limits
+  pub carried-valid : (Valid (slotPacket s)) × (1 ≤ length (slotPacket s .blocks))
+  carried-valid = parts
