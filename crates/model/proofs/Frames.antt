@@ -51,6 +51,11 @@ module _ (n : ℕ) (f : List ℕ) (d : Demux) (a : Announces n f) where
   unfolding takeFrame
   take-whole e = simp (read-it, a .count, eq-eqb _ _ e)
 
+-- "With no valid type 2 or 3 triple, pending bytes are kept": no packet is closed, and none is delivered
+pub kept-pending : (pending : List ℕ) (ts : List Seen) → carries708 ts ≡ false → gathered pending ts ≡ record { runs = []; bytes = pending }
+unfolding gathered
+kept-pending pending ts e = simp e
+
 -- "Full exactly if waiting packets plus those this frame would deliver exceed 32"
 module _ (ps : List Cea608) (o : Gathered) (d : Demux) where
   -- it is full
