@@ -3,7 +3,7 @@ use mathlib.Core.Path.{_≡_, refl, ap, _∙_}
 use mathlib.Core.Bool.{true}
 use borrow.Author.Needs.{needs}
 use Rattle.parser.specs.Fresh.{fresh}
-use Rattle.parser.specs.Means.{afterCall, turnedOn}
+use Rattle.parser.specs.Calls.{afterCall, turnedOn}
 use Rattle.parser.specs.declared.CCDataParser.{CCDataParser}
 use Rattle.parser.proofs.Kept.{fresh-sound}
 use Rattle.ccread.specs.Walk.{freshState}
@@ -25,7 +25,7 @@ handle-cea608-requires : tie.Need-handle-cea608-requires
 handle-cea608-requires c κs = search needs
 
 returns : tie.Need-returns
-returns c = ap unread (turned-on _ _ (c .before .before .new .ensures) (c .before .handle-cea608 .ensures .parser))
+returns c = ap unread (turned-on _ _ (c .before .before .new .ensures .1) (c .before .handle-cea608 .ensures .places))
 
 pub fresh-spec : {M : Type 1} → statement M
 fresh-spec = tie.close (tie.spec new-requires handle-cea608-requires returns)
