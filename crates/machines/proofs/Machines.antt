@@ -19,8 +19,8 @@ use Rattle.writer.specs.Calls.{Answers, Writes}
 use Rattle.writer.proofs.Kept.{pads-valid, pads-again}
 use Rattle.records.specs.Laid.{Laid}
 use Rattle.answers.specs.Script.{lentLine, itemLine}
-use Rattle.answers.specs.Steps.{Did, tells}
-use Rattle.machines.specs.Counts.{draws, called, wrote}
+use Rattle.answers.specs.Steps.{Did, tells, lays}
+use Rattle.machines.specs.Counts.{draws, wrote}
 
 -- an item drawn
 pub did-draw : {out now : List ℕ} {at laid : ℕ} (r : CCDataParser) (d : Drawn) → Draws r d → Laid (itemLine (saidItem (d .item)) (d .packet)) out at laid now
@@ -56,5 +56,5 @@ module _ (a b : Bool) (w : CCDataWriter) (f s : WriterAnswer)
       let bad : validWriter (f .writer) ≡ false = rw first e in
       (rw bad at (y .answer) ∙ rw e, rw bad at (y .places) ∙ first ∙ rw e)
 
-  pub did-switch : {out now : List ℕ} {at laid : ℕ} (state : CCDataWriter) → Did (tells (saidAnswer (s .answer)) (s .writer)) out at laid state now → Did (called (stored w) w both) out at laid state now
+  pub did-switch : {out now : List ℕ} {at laid : ℕ} (state : CCDataWriter) → Did (tells (saidAnswer (s .answer)) (s .writer)) out at laid state now → Did (lays stored w both) out at laid state now
   did-switch state d = let z = by-test (validWriter w) switched-within switched-outside in record { told = rw (← z .0) (d .told); left = d .left ∙ z .1 }

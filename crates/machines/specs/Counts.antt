@@ -1,8 +1,7 @@
 -- What operations on the two machines do: counts that are set, "and check nothing", an item drawn, a frame written. Assumes nothing.
 use mathlib.Core.List.{List, [], _∷_}
 use Prim.Native.Nat.{ℕ}
-use Rattle.model.specs.Said.{Outcome, says, saysWith, mapped, after}
-use Rattle.model.specs.Mux.{Mux}
+use Rattle.model.specs.Said.{saysWith, mapped, after}
 use Rattle.caption.specs.declared.Framerate.{Framerate}
 use Rattle.parser.specs.declared.CCDataParser.{CCDataParser}
 use Rattle.parser.specs.Calls.{drawn}
@@ -12,7 +11,7 @@ use Rattle.writer.specs.declared.CCDataWriter.{CCDataWriter}
 use Rattle.writer.specs.Writer.{moved}
 use Rattle.writer.specs.Calls.{written, frameLength}
 use Rattle.answers.specs.Script.{lentLine, itemLine}
-use Rattle.answers.specs.Steps.{Effect, tells}
+use Rattle.answers.specs.Steps.{Effect}
 
 -- "the three counts of r"
 abbrev pub withCounts : ℕ → ℕ → ℕ → CCDataParser → CCDataParser
@@ -46,10 +45,6 @@ withQueued packets sent count1 count2 w =
 -- "one item drawn from r"
 abbrev pub draws : CCDataParser → Effect CCDataParser
 draws r = record { line = itemLine (saysWith itemValues (itemFrom r)) (packetBeside (itemFrom r)); next = drawn r }
-
--- a call on w: what the model's call answers, and what it gives in its places; "A refused operation leaves s, p, r and w as they were"
-abbrev pub called : (Mux → CCDataWriter) → CCDataWriter → Outcome Mux → Effect CCDataWriter
-called placed w o = tells (says o) (after w (mapped placed o))
 
 -- "one frame written to out L"
 abbrev pub wrote : Framerate → List ℕ → CCDataWriter → Effect CCDataWriter

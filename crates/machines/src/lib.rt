@@ -11,8 +11,8 @@ ghost use Rattle.parser.specs.Fresh.{fresh as freshParser};
 ghost use Rattle.parser.specs.Calls.{saidPush, saidCall, afterCall, turnedOn, pushed as pushedFrame};
 ghost use Rattle.writer.specs.Writer.{means, validWriter, fresh as freshWriter, stored, emptied};
 ghost use Rattle.writer.specs.Calls.{written};
-ghost use Rattle.answers.specs.Steps.{Did, tells, becomes};
-ghost use Rattle.machines.specs.Counts.{withCounts, withQueued, draws, called, wrote};
+ghost use Rattle.answers.specs.Steps.{Did, tells, lays, becomes};
+ghost use Rattle.machines.specs.Counts.{withCounts, withQueued, draws, wrote};
 use caption::Cea608;
 use caption::Framerate;
 use packet::DTVCCPacket;
@@ -122,7 +122,7 @@ pub fn switch(
     cea608_padding: bool,
     padding: bool,
 ) -> OnWriter
-    ensures { λ r. ⌜ Did (called (stored before) before (checked (validWriter before) (gave (withPads «cea608_padding» padding (means before))))) (now (out .entry)) at (r .laid) (r .writer) (now (out .exit)) ⌝ }
+    ensures { λ r. ⌜ Did (lays stored before (checked (validWriter before) (gave (withPads «cea608_padding» padding (means before))))) (now (out .entry)) at (r .laid) (r .writer) (now (out .exit)) ⌝ }
 {
     let first = before.set_output_cea608_padding(cea608_padding);
     let writer = first.writer;
@@ -131,21 +131,21 @@ pub fn switch(
 
 // A packet pushed.
 pub fn push_packet(out: &mut [u8], at: usize, before: CCDataWriter, packet: DTVCCPacket) -> OnWriter
-    ensures { λ r. ⌜ Did (called (stored before) before (checked (validWriter before && validDTVCC packet) (pushPacket (packetOf packet) (means before)))) (now (out .entry)) at (r .laid) (r .writer) (now (out .exit)) ⌝ }
+    ensures { λ r. ⌜ Did (lays stored before (checked (validWriter before && validDTVCC packet) (pushPacket (packetOf packet) (means before)))) (now (out .entry)) at (r .laid) (r .writer) (now (out .exit)) ⌝ }
 {
     told_writer(out, at, before.push_packet(packet))
 }
 
 // A pair pushed.
 pub fn push_pair(out: &mut [u8], at: usize, before: CCDataWriter, pair: Cea608) -> OnWriter
-    ensures { λ r. ⌜ Did (called (stored before) before (checked (validWriter before) (pushCea608 (cea608Of pair) (means before)))) (now (out .entry)) at (r .laid) (r .writer) (now (out .exit)) ⌝ }
+    ensures { λ r. ⌜ Did (lays stored before (checked (validWriter before) (pushCea608 (cea608Of pair) (means before)))) (now (out .entry)) at (r .laid) (r .writer) (now (out .exit)) ⌝ }
 {
     told_writer(out, at, before.push_cea608(pair))
 }
 
 // The multiplexer flushed.
 pub fn flush_writer(out: &mut [u8], at: usize, before: CCDataWriter) -> OnWriter
-    ensures { λ r. ⌜ Did (called (emptied before) before (checked (validWriter before) (gave (flushMux (means before))))) (now (out .entry)) at (r .laid) (r .writer) (now (out .exit)) ⌝ }
+    ensures { λ r. ⌜ Did (lays emptied before (checked (validWriter before) (gave (flushMux (means before))))) (now (out .entry)) at (r .laid) (r .writer) (now (out .exit)) ⌝ }
 {
     told_writer(out, at, before.flush())
 }

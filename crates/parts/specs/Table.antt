@@ -56,7 +56,7 @@ byte a k = getD a k 0
 
 -- `1`, `2`: "a pair of field 1, of field 2 pushed into w"
 abbrev pairPushed : Cea608 → CCDataWriter → Effect CCDataWriter
-pairPushed pair w = machines.called (stored w) w (checked (validWriter w) (pushCea608 (cea608Of pair) (means w)))
+pairPushed pair w = lays stored w (checked (validWriter w) (pushCea608 (cea608Of pair) (means w)))
 
 -- `w`: "one frame written to out L; numer and denom are four bytes each, highest first"
 abbrev pub framed : List ℕ → CCDataWriter → Effect CCDataWriter
@@ -123,12 +123,12 @@ writerRows =
     -- "switches of w: bit 0 the 608 padding, bit 1 the output padding"
     ∷ row "S" (exactly 1)
     (λ m a.
-    onWriter m (machines.called (stored (m .w)) (m .w) (checked (validWriter (m .w)) (gave (withPads (eqb (byte a 0 % 2) 1) (eqb (byte a 0 / 2 % 2) 1) (means (m .w)))))))
+    onWriter m (lays stored (m .w) (checked (validWriter (m .w)) (gave (withPads (eqb (byte a 0 % 2) 1) (eqb (byte a 0 / 2 % 2) 1) (means (m .w)))))))
     -- "p pushed into w"
     ∷ row "q" (exactly 0)
     (λ m a.
     onWriter m
-    (machines.called (stored (m .w)) (m .w)
+    (lays stored (m .w)
     (checked (validWriter (m .w) && packet.validDTVCC (m .p)) (pushPacket (packet.packetOf (m .p)) (means (m .w))))))
     ∷ row "1" (exactly 2) (λ m a. onWriter m (pairPushed (Field1 (byte a 0) (byte a 1)) (m .w)))
     ∷ row "2" (exactly 2) (λ m a. onWriter m (pairPushed (Field2 (byte a 0) (byte a 1)) (m .w)))
@@ -136,7 +136,7 @@ writerRows =
     -- "the three durations of w"
     ∷ row "u" (exactly 0) (λ m a. stays m (answerLine (durations (m .w))))
     -- "w flushed"
-    ∷ row "x" (exactly 0) (λ m a. onWriter m (machines.called (emptied (m .w)) (m .w) (checked (validWriter (m .w)) (gave (flushMux (means (m .w)))))))
+    ∷ row "x" (exactly 0) (λ m a. onWriter m (lays emptied (m .w) (checked (validWriter (m .w)) (gave (flushMux (means (m .w)))))))
     ∷ []
 
 -- "four operations set raw fields and check nothing (each prints `ok`)": "these two fields of s; its payload bytes stay",
