@@ -19,7 +19,7 @@ use Rattle.triples.specs.Walk.{seenFrom}
 use Rattle.triples.proofs.Walks.{seen-next, seen-none, sees-void, sees-608, sees-more, sees-start}
 use Rattle.gather.specs.Ring.{slotWith, setRound}
 use Rattle.gather.specs.Tests.{pendingFine}
-use Rattle.gather.specs.Gather.{Left, leftOf, Holds, Sized, put, closesBy}
+use Rattle.gather.specs.Gather.{Left, leftOf, Held, heldBy, putTwo, Holds, Sized, put, closesBy}
 use Rattle.gather.specs.declared.Run.{Run}
 use Rattle.gather.proofs.Places.{sets-append, take-sets, zeros}
 
@@ -42,93 +42,103 @@ module _ (g : List ℕ) (some : wants g ≡ 0 → ⊥) where
   wants-two e = omega (arith, some, wants-some g wants-filled, size-even (getD g 0 0))
 
 -- bytes that are held
-module _ {s : Run} {l g : List ℕ} (h : Holds s l g) where
+module _ {h : Held} {g : List ℕ} (v : Holds h g) where
   -- they are those of the model
   gathers : Gathering g
-  gathers = record { even = h .even; most = h .most }
+  gathers = record { even = v .even; most = v .most }
 
   -- at most 128
   held-few : length g ≤ 128
-  held-few = omega (arith, h .most, size-most (getD g 0 0))
+  held-few = omega (arith, v .most, size-most (getD g 0 0))
 
   -- they stand first
-  pub held-run : take (s .len) l ≡ g
-  held-run = rw (h .size, h .laid) (take-sets (replicate 128 0) g (omega (arith, held-few, zeros)))
+  held-run : take (h .len) (h .bytes) ≡ g
+  held-run = rw (v .size, v .laid) (take-sets (replicate 128 0) g (omega (arith, held-few, zeros)))
 
   -- among 128 places
-  pub held-places : (s .len ≤ 128) × (length l ≡ 128)
-  held-places = (omega (arith, h .size, held-few), rw (h .laid) (length-sets (replicate 128 0) 0 g ∙ zeros))
+  pub held-places : (h .len ≤ 128) × (length (h .bytes) ≡ 128)
+  held-places = (omega (arith, v .size, held-few), rw (v .laid) (length-sets (replicate 128 0) 0 g ∙ zeros))
 
   -- a slot of them
-  pub held-slot : record { len = s .len; bytes = l } ≡ slotWith g
-  held-slot = rw (h .size, h .laid)
+  held-slot : record { len = h .len; bytes = h .bytes } ≡ slotWith g
+  held-slot = rw (v .size, v .laid)
 
 -- two bytes more
 module _ (x y : ℕ) where
   -- none are wanted
-  pub two-none : (s : Run) (l : List ℕ) → s .need ≡ 0 → (g : List ℕ) → Holds s l g → Holds s l (g ++ take (wants g) (x ∷ y ∷ []))
-  two-none s l e g h = let z : wants g ≡ 0 = sym (h .need) ∙ e in rw (z, append-nil g) h
+  pub two-none : (s : Run) (l : List ℕ) → s .need ≡ 0 → heldBy s l ≡ putTwo x y (heldBy s l)
+  unfolding putTwo
+  two-none s l e = simp (eq-eqb _ _ e)
 
   -- some are
-  pub two-more : (n k : ℕ) (l : List ℕ) → (n ≡ 0 → ⊥) → (g : List ℕ) → Holds (record { need = n; len = k }) l g
-      → Holds (record { need = n - 2; len = k + 2 }) (set (set l k x) (k + 1) y) (g ++ take (wants g) (x ∷ y ∷ []))
-  two-more n k l e g h =
-      let some : wants g ≡ 0 → ⊥ = λ z. e (h .need ∙ z) in
-      let one : 1 ≤ length g = wants-filled g some in
-      let more = gathering-more g x y (gathers h) in
-      let t : take (wants g) (x ∷ y ∷ []) ≡ x ∷ y ∷ [] = take-all (wants g) (x ∷ y ∷ []) (wants-two g some (h .even)) in
-      let w : length (g ++ x ∷ y ∷ []) ≡ length g + 2 = length-append g (x ∷ y ∷ []) in
-      let d : getD (g ++ x ∷ y ∷ []) 0 0 ≡ getD g 0 0 = List·getD-append g (x ∷ y ∷ []) 0 0 one in
-      let v : wants (g ++ x ∷ y ∷ []) ≡ packetSize (getD g 0 0) - (length g + 2) = wants-some (g ++ x ∷ y ∷ []) (omega arith) ∙ rw (d, w) in
-      let a : k ≡ 0 + length g = omega (arith, h .size) in
-      let b : 0 + length g + 1 ≡ suc (0 + length g) = omega arith in
-      let m : Gathering (g ++ x ∷ y ∷ []) = rw t at more in
-      rw t
-      (record {
-        size = omega (arith, h .size);
-        laid = rw (h .laid, a, b) (sym (sets-append (replicate 128 0) 0 g (x ∷ y ∷ [])));
-        need = omega (arith, h .need, wants-some g one);
-        even = m .even;
-        most = m .most;
-      })
+  pub two-more : (n k : ℕ) (l : List ℕ) → (n ≡ 0 → ⊥)
+      → record { need = n - 2; len = k + 2; bytes = set (set l k x) (k + 1) y } ≡ putTwo x y (record { need = n; len = k; bytes = l })
+  unfolding putTwo
+  two-more n k l e = simp (ne-eqb _ _ e)
+
+  -- they are held behind those that were
+  module _ (h : Held) (g : List ℕ) (v : Holds h g) where
+    held-none : h .need ≡ 0 → Holds (putTwo x y h) (g ++ take (wants g) (x ∷ y ∷ []))
+    unfolding putTwo
+    held-none e = let z : wants g ≡ 0 = sym (v .need) ∙ e in rw (eq-eqb (h .need) 0 e, z, append-nil g) v
+
+    held-some : (h .need ≡ 0 → ⊥) → Holds (putTwo x y h) (g ++ take (wants g) (x ∷ y ∷ []))
+    held-some e =
+        let some : wants g ≡ 0 → ⊥ = λ z. e (v .need ∙ z) in
+        let one : 1 ≤ length g = wants-filled g some in
+        let t : take (wants g) (x ∷ y ∷ []) ≡ x ∷ y ∷ [] = take-all (wants g) (x ∷ y ∷ []) (wants-two g some (v .even)) in
+        let w : length (g ++ x ∷ y ∷ []) ≡ length g + 2 = length-append g (x ∷ y ∷ []) in
+        let d : getD (g ++ x ∷ y ∷ []) 0 0 ≡ getD g 0 0 = List·getD-append g (x ∷ y ∷ []) 0 0 one in
+        let u : wants (g ++ x ∷ y ∷ []) ≡ packetSize (getD g 0 0) - (length g + 2) = wants-some (g ++ x ∷ y ∷ []) (omega arith) ∙ rw (d, w) in
+        let a : h .len ≡ 0 + length g = omega (arith, v .size) in
+        let b : 0 + length g + 1 ≡ suc (0 + length g) = omega arith in
+        let m : Gathering (g ++ x ∷ y ∷ []) = rw t at (gathering-more g x y (gathers v)) in
+        rw (← two-more (h .need) (h .len) (h .bytes) e, t)
+        (record {
+          size = omega (arith, v .size);
+          laid = rw (v .laid, a, b) (sym (sets-append (replicate 128 0) 0 g (x ∷ y ∷ [])));
+          need = omega (arith, v .need, wants-some g one);
+          even = m .even;
+          most = m .most;
+        })
+
+    pub held-more : Holds (putTwo x y h) (g ++ take (wants g) (x ∷ y ∷ []))
+    held-more = by-test (eqb (h .need) 0) (λ e. held-none (eqb-true _ _ e)) (λ e. held-some (eqb-false _ _ e))
 
   -- the first of a new packet
-  pub begun : (z : ℕ) → z ≡ packetSize x → Holds (record { need = z - 2; len = 2 }) (set (set (replicate 128 0) 0 x) 1 y) (take (packetSize x) (x ∷ y ∷ []))
+  begun : (z : ℕ) → z ≡ packetSize x → Holds (putTwo x y (record { need = z; len = 0; bytes = replicate 128 0 })) (take (packetSize x) (x ∷ y ∷ []))
   begun z e =
+      let some : z ≡ 0 → ⊥ = λ o. omega (arith, size-least x) in
       let t : take (packetSize x) (x ∷ y ∷ []) ≡ x ∷ y ∷ [] = take-all (packetSize x) (x ∷ y ∷ []) (size-least x) in
       let m : Gathering (x ∷ y ∷ []) = rw t at (gathering-start x y) in
-      rw t (record { size = refl; laid = refl; need = rw e (sym (wants-some (x ∷ y ∷ []) (omega arith))); even = refl; most = m .most })
+      rw (← two-more z 0 (replicate 128 0) some, t) (record { size = refl; laid = refl; need = rw e (sym (wants-some (x ∷ y ∷ []) (omega arith))); even = refl; most = m .most })
 
   -- it has room
-  pub begun-fits : (z : ℕ) → z ≡ packetSize x → 2 ≤ z
-  begun-fits z e = omega (arith, size-least x)
-
-  pub begun-sized : (z : ℕ) → z ≡ packetSize x → Sized (record { need = z - 2; len = 2 })
-  begun-sized z e = record { even = omega (arith, size-even x, size-least x); room = omega (arith, size-least x, size-most x) }
+  pub sized-start : (z : ℕ) → z ≡ packetSize x → Sized (record { need = z; len = 0 })
+  sized-start z e = record { even = omega (arith, size-even x); room = omega (arith, size-most x) }
 
   -- one triple
   module _ (c : ℕ) where
     -- a triple that is not of a packet, or not valid
-    pub put-none : (s : Run) (l : List ℕ) → c % 8 < 6 → (g : List ℕ) → Holds s l g → Holds s l (put (seen (tri c x y)) g)
-    put-none s l k g h =
+    pub put-none : (h : Held) → c % 8 < 6 → (g : List ℕ) → Holds h g → Holds h (put (seen (tri c x y)) g)
+    put-none h k g v =
         by-test (ltb (c % 8) 4)
-        (λ e. sees-void c x y (λ t. Holds s l (put t g)) (ltb-true _ _ e) h h)
-        (λ e. sees-608 c x y (λ t. Holds s l (put t g)) (ltb-false _ _ e) k h h)
+        (λ e. sees-void c x y (λ t. Holds h (put t g)) (ltb-true _ _ e) v v)
+        (λ e. sees-608 c x y (λ t. Holds h (put t g)) (ltb-false _ _ e) k v v)
 
     -- more of the packet
-    pub put-more : (s r : Run) (l k : List ℕ) → c % 8 ≡ 6 → ((g : List ℕ) → Holds s l g → Holds r k (g ++ take (wants g) (x ∷ y ∷ [])))
-        → (g : List ℕ) → Holds s l g → Holds r k (put (seen (tri c x y)) g)
-    put-more s r l k e f g h = sees-more c x y (λ t. Holds r k (put t g)) e (f g h)
+    pub put-more : (h r : Held) → c % 8 ≡ 6 → r ≡ putTwo x y h → (g : List ℕ) → Holds h g → Holds r (put (seen (tri c x y)) g)
+    put-more h r e q g v = sees-more c x y (λ t. Holds r (put t g)) e (rw q (held-more h g v))
 
     -- the first of a new one
-    pub put-start : (s r : Run) (l k : List ℕ) → 6 ≤ c % 8 → (c % 8 ≡ 6 → ⊥) → Holds r k (take (packetSize x) (x ∷ y ∷ []))
-        → (g : List ℕ) → Holds s l g → Holds r k (put (seen (tri c x y)) g)
-    put-start s r l k u v f g h = sees-start c x y (λ t. Holds r k (put t g)) (omega arith) f
+    pub put-start : (h r : Held) (z : ℕ) → 6 ≤ c % 8 → (c % 8 ≡ 6 → ⊥) → z ≡ packetSize x → r ≡ putTwo x y (record { need = z; len = 0; bytes = replicate 128 0 })
+        → (g : List ℕ) → Holds h g → Holds r (put (seen (tri c x y)) g)
+    put-start h r z u v e q g w = sees-start c x y (λ t. Holds r (put t g)) (omega arith) (rw q (begun z e))
 
 -- the pending bytes
 module _ (n : ℕ) (l : List ℕ) (fine : pendingFine n l ≡ true) where
   -- none
-  pub pending-none : (k : List ℕ) → k ≡ replicate 128 0 → n ≡ 0 → Holds (record { need = 0; len = n }) k (take n l)
+  pub pending-none : (k : List ℕ) → k ≡ replicate 128 0 → n ≡ 0 → Holds (record { need = 0; len = n; bytes = k }) (take n l)
   pending-none k e z = rw z (record { size = refl; laid = e; need = sym (wants-none [] refl); even = refl; most = omega arith })
 
   -- some
@@ -153,7 +163,7 @@ module _ (n : ℕ) (l : List ℕ) (fine : pendingFine n l ≡ true) where
       pub pending-fits : n ≤ z
       pending-fits = omega (arith, below)
 
-      pub pending-some : length l ≡ 128 → (m k : List ℕ) → k ≡ replicate 128 0 → m ≡ sets k 0 (take (n - 0) (drop 0 l)) → Holds (record { need = z - n; len = n }) m (take n l)
+      pub pending-some : length l ≡ 128 → (m k : List ℕ) → k ≡ replicate 128 0 → m ≡ sets k 0 (take (n - 0) (drop 0 l)) → Holds (record { need = z - n; len = n; bytes = m }) (take n l)
       pending-some long m k e q =
           let o : n - 0 ≡ n = omega arith in
           let many : length (take n l) ≡ n = length-take-le n l (omega (arith, pending-few)) in
@@ -235,7 +245,7 @@ ended-delivered gs o = by-test (eqb (wants (o .bytes)) 0) (λ e. rw (e, append-a
 -- For the loop: what is held, and that `a`, which the whole frame leaves, is what is left of it leaves behind the slots that are there
 pub record Going (a : Left) (f : ℕ) (l : List ℕ) (n : ℕ) (t : List Slot) (s : Run) (k : List ℕ) (ts : List Seen) : Type 0 where
   pub held : List ℕ
-  pub holds : Holds s k held
+  pub holds : Holds (heldBy s k) held
   pub rest : a ≡ leftOf f n t l (ended (gather held ts))
 
 -- `a` is what the whole frame leaves
@@ -248,7 +258,7 @@ module _ (f : ℕ) (l : List ℕ) (a : Left) (n : ℕ) (t : List Slot) where
       let w : f + n + 1 ≡ f + (n + 1) = omega arith in
       rw (z, ← w)
 
-  module _ (g : List ℕ) (s : Run) (k : List ℕ) (h : Holds s k g) where
+  module _ (g : List ℕ) (s : Run) (k : List ℕ) (h : Holds (heldBy s k) g) where
     -- a turn
     module _ (d : List ℕ) (i : ℕ) (more : 3 * i + 4 < length d) where
       abbrev here : Seen

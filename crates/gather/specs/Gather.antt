@@ -2,9 +2,10 @@
 use mathlib.Core.Path.{_≡_}
 use mathlib.Core.List.{List, [], _∷_, _++_}
 use mathlib.Core.Bool.{Bool, false, cond, _&&_}
-use Prim.Native.Nat.{ℕ, _+_, _%_, _≤_}
-use lib.ListN.{length, getD, take, replicate}
+use Prim.Native.Nat.{ℕ, _+_, _-_, _%_, _≤_}
+use lib.ListN.{length, getD, set, take, replicate}
 use lib.Seq.{sets}
+use lib.Dec.{eqb}
 use Rattle.model.specs.Frame.{Seen, first, second, start, more, void608, void708}
 use Rattle.model.specs.Packet.{packetSize, reads}
 use Rattle.model.specs.Demux.{Gathered, wants, gather, ended}
@@ -37,11 +38,27 @@ gatheredBy gathers f count slots n l frame =
     cond (gathers && readyFor f count n l) (leftOf f count slots l (ended (gather (take n l) (seenFrom 0 frame))))
     (record { pending = n; bytes = l; count = count; slots = slots })
 
+-- the bytes still wanted, the bytes gathered, and the places that they stand in
+pub record Held : Type 0 where
+  pub need : ℕ
+  pub len : ℕ
+  pub bytes : List ℕ
+
+-- a run and its places
+abbrev pub heldBy : Run → List ℕ → Held
+heldBy s l = record { need = s .need; len = s .len; bytes = l }
+
+-- two bytes more, while any are wanted
+unfoldable pub putTwo : ℕ → ℕ → Held → Held
+putTwo x y h =
+    cond (eqb (h .need) 0) h
+    (record { need = h .need - 2; len = h .len + 2; bytes = set (set (h .bytes) (h .len) x) (h .len + 1) y })
+
 -- the bytes g as they are gathered: zeros stand behind them, and `need` is what they still want
-pub record Holds (s : Run) (l g : List ℕ) : Type 0 where
-  pub size : s .len ≡ length g
-  pub laid : l ≡ sets (replicate 128 0) 0 g
-  pub need : s .need ≡ wants g
+pub record Holds (h : Held) (g : List ℕ) : Type 0 where
+  pub size : h .len ≡ length g
+  pub laid : h .bytes ≡ sets (replicate 128 0) 0 g
+  pub need : h .need ≡ wants g
   pub even : length g % 2 ≡ 0
   pub most : length g ≤ packetSize (getD g 0 0)
 

@@ -1,17 +1,17 @@
 // Packets gathered from the triples of a frame: the bytes of one that is not complete, and the ring of slots that wait.
 ghost use mathlib.Core.Path.{_≡_};
 ghost use mathlib.Core.Bool.{true, cond, _&&_};
-ghost use mathlib.Core.List.{List, [], _∷_, _++_};
+ghost use mathlib.Core.List.{List};
 ghost use Prim.Native.Nat.{ℕ, _≤_, _<_};
 ghost use lib.ListN.{take, replicate};
 ghost use lib.Dec.{eqb};
 ghost use Rattle.model.specs.Frame.{seen, tri};
-ghost use Rattle.model.specs.Packet.{packetSize, reads};
-ghost use Rattle.model.specs.Demux.{wants, gather, ended};
+ghost use Rattle.model.specs.Packet.{reads};
+ghost use Rattle.model.specs.Demux.{gather, ended};
 ghost use Rattle.triples.specs.Walk.{seenFrom};
 ghost use Rattle.gather.specs.Ring.{slotFine};
 ghost use Rattle.gather.specs.Tests.{pendingFine, oldestOf, readyFor};
-ghost use Rattle.gather.specs.Gather.{Sized, Holds, put, closesBy, takenBy, leftOf, gatheredBy};
+ghost use Rattle.gather.specs.Gather.{Sized, heldBy, putTwo, Holds, put, closesBy, takenBy, leftOf, gatheredBy};
 use slots::Slot;
 
 // The most bytes of a packet, and the most slots.
@@ -41,7 +41,7 @@ pub struct Front {
 // Two bytes more of a packet, while any are wanted.
 fn put_two(s: Run, bytes: &mut [u8; 128], x: u8, y: u8) -> Run
     requires { ⌜ Sized s ⌝ }
-    ensures { λ r. ⌜ ((g : List ℕ) → Holds s (now (bytes .entry)) g → Holds r (now (bytes .exit)) (g ++ take (wants g) (x ∷ y ∷ []))) ⌝ }
+    ensures { λ r. ⌜ heldBy r (now (bytes .exit)) ≡ putTwo x y (heldBy s (now (bytes .entry))) ⌝ }
     ensures { λ r. ⌜ Sized r ⌝ }
 {
     let at = s.len;
@@ -57,25 +57,10 @@ fn put_two(s: Run, bytes: &mut [u8; 128], x: u8, y: u8) -> Run
     }
 }
 
-// The first two bytes of a new packet, in places that are cleared.
-fn begin(bytes: &mut [u8; 128], x: u8, y: u8) -> Run
-    ensures { λ r. ⌜ Holds r (now (bytes .exit)) (take (packetSize x) (x ∷ y ∷ [])) ⌝ }
-    ensures { λ r. ⌜ Sized r ⌝ }
-{
-    *bytes = [0u8; 128];
-    bytes[0] = x;
-    bytes[1] = y;
-    let size = packet::packet_size(x);
-    Run {
-        need: size - 2,
-        len: 2,
-    }
-}
-
-// The two bytes of a triple: more of the packet, the first of a new one, or none of a packet.
+// The two bytes of a triple: more of the packet, the first of a new one in places that are cleared, or none of a packet.
 fn put_triple(s: Run, bytes: &mut [u8; 128], c: u8, x: u8, y: u8) -> Run
     requires { ⌜ Sized s ⌝ }
-    ensures { λ r. ⌜ ((g : List ℕ) → Holds s (now (bytes .entry)) g → Holds r (now (bytes .exit)) (put (seen (tri c x y)) g)) ⌝ }
+    ensures { λ r. ⌜ ((g : List ℕ) → Holds (heldBy s (now (bytes .entry))) g → Holds (heldBy r (now (bytes .exit))) (put (seen (tri c x y)) g)) ⌝ }
     ensures { λ r. ⌜ Sized r ⌝ }
 {
     let v = c % 8;
@@ -85,14 +70,16 @@ fn put_triple(s: Run, bytes: &mut [u8; 128], c: u8, x: u8, y: u8) -> Run
     if v == 6 {
         return put_two(s, bytes, x, y);
     }
-    begin(bytes, x, y)
+    *bytes = [0u8; 128];
+    let need = packet::packet_size(x);
+    put_two(Run { need, len: 0 }, bytes, x, y)
 }
 
 // The pending bytes as a packet being gathered, laid into cleared places.
 fn run_of(pending: [u8; 128], len: usize, bytes: &mut [u8; 128]) -> Run
     requires { ⌜ pendingFine len pending ≡ true ⌝ }
     requires { ⌜ now bytes ≡ replicate 128 0 ⌝ }
-    ensures { λ r. ⌜ Holds r (now (bytes .exit)) (take len pending) ⌝ }
+    ensures { λ r. ⌜ Holds (heldBy r (now (bytes .exit))) (take len pending) ⌝ }
     ensures { λ r. ⌜ Sized r ⌝ }
 {
     if len == 0 {

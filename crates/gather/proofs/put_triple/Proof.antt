@@ -1,5 +1,5 @@
--- `gather::put_triple` meets its contract: one law of `Gathers` for each kind of triple. Assumes nothing.
-use Rattle.gather.proofs.Gathers.{put-none, put-more, put-start}
+-- `gather::put_triple` meets its contract: one law of `Gathers` for each kind of triple; a new packet's size is even and at most 128. Assumes nothing.
+use Rattle.gather.proofs.Gathers.{put-none, put-more, put-start, sized-start}
 use borrow.Author.Needs.{needs}
 use Rattle.gather.proofs.put_triple.Statement.{statement}
 use Rattle.gather.proofs.put_triple.Tie as tie
@@ -13,11 +13,16 @@ put-two-requires c κs = search needs
 returns-2 : tie.Need-returns-2
 returns-2 c = (search (needs, put-more), search needs)
 
-begin-requires : tie.Need-begin-requires
-begin-requires c κs = search needs
+packet-size-requires : tie.Need-packet-size-requires
+packet-size-requires c κs = search needs
+
+put-two-requires-2 : tie.Need-put-two-requires-2
+put-two-requires-2 c κs = search (needs, sized-start)
 
 returns-3 : tie.Need-returns-3
 returns-3 c = (search (needs, put-start), search needs)
 
 pub put-triple-spec : {M : Type 1} → statement M
-put-triple-spec = tie.close (tie.spec returns put-two-requires returns-2 begin-requires returns-3)
+put-triple-spec =
+    tie.close
+    (tie.spec returns put-two-requires returns-2 packet-size-requires put-two-requires-2 returns-3)
