@@ -4,12 +4,13 @@ use mathlib.Core.List.{List}
 use Prim.Native.Nat.{ℕ}
 use contract.Lifetimes.{Lfts}
 use denote.Ref.{now}
-use Rattle.model.specs.Said.{Said, Outcome}
+use Rattle.model.specs.Said.{Outcome}
+use Rattle.model.specs.Mux.{Mux}
 use Rattle.caption.proofs.Answers.{saidAnswer-injective, saidCounted-injective, saidTruth-injective}
-use Rattle.caption.specs.Answers.{saidCounted}
 use Rattle.caption.specs.declared.Answer.{Answer}
 use Rattle.caption.specs.declared.Counted.{Counted}
-use Rattle.writer.specs.Calls.{Answers}
+use Rattle.caption.specs.declared.Framerate.{Framerate}
+use Rattle.writer.specs.Calls.{Answers, Writes}
 use Rattle.writer.proofs.Laws.{saidMicros-injective}
 use Rattle.writer.specs.declared.CCDataWriter.{CCDataWriter}
 use Rattle.writer.specs.declared.WriterAnswer.{WriterAnswer}
@@ -27,30 +28,30 @@ use Rattle.writer.proofs.CCDataWriter.buffered_cea608_field2_duration.Reads as 
 use Rattle.writer.proofs.CCDataWriter.buffered_packet_duration.Reads as buffered_packet_duration
 use Rattle.writer.proofs.CCDataWriter.write.Reads as write
 use Rattle.determined.specs.Determines.{Determines, DeterminesLent}
-use Rattle.determined.proofs.Ways.{equal, said, two}
+use Rattle.determined.proofs.Ways.{said, two}
 
 module _ {A E : Type 0} where
   -- an answer and a state
-  answers : {o : A → Outcome CCDataWriter} {old : A → CCDataWriter} → Determines (λ (a : A) (r : WriterAnswer) (e : E). Answers (o a) (old a) r)
+  answers : {o : A → Outcome Mux} {f : A → Mux → CCDataWriter} {old : A → CCDataWriter} → Determines (λ (a : A) (r : WriterAnswer) (e : E). Answers (o a) (f a) (old a) r)
   answers =
       record {
         result = λ a r q e f h k. two (λ (x : Answer) (w : CCDataWriter). record { answer = x; writer = w })
-            (saidAnswer-injective (r .answer) (q .answer) (h .answer ∙ sym (k .answer))) (h .writer ∙ sym (k .writer));
+            (saidAnswer-injective (r .answer) (q .answer) (h .answer ∙ sym (k .answer))) (h .places ∙ sym (k .places));
       }
 
   -- a frame in the lent output, its length and a state
-  writes-frame : {said : A → Said} {next : A → CCDataWriter} {out : A → List ℕ} {lent : E → List ℕ}
-      → DeterminesLent lent (λ (a : A) (r : WriterCount) (e : E). (saidCounted (r .answer) ≡ said a) × ((r .writer ≡ next a) × (lent e ≡ out a)))
+  writes-frame : {rate : A → Framerate} {out : A → List ℕ} {old : A → CCDataWriter} {lent : E → List ℕ}
+      → DeterminesLent lent (λ (a : A) (r : WriterCount) (e : E). Writes (rate a) (out a) (old a) r (lent e))
   writes-frame =
       record {
         result = λ a r q e f h k. two (λ (x : Counted) (w : CCDataWriter). record { answer = x; writer = w })
-            (saidCounted-injective (r .answer) (q .answer) (h .0 ∙ sym (k .0))) (h .1 .0 ∙ sym (k .1 .0));
-        contents = λ a r q e f h k. h .1 .1 ∙ sym (k .1 .1);
+            (saidCounted-injective (r .answer) (q .answer) (h .answer ∙ sym (k .answer))) (h .places ∙ sym (k .places));
+        contents = λ a r q e f h k. h .output ∙ sym (k .output);
       }
 
 -- `CCDataWriter::new()`
 pub CCDataWriter-new : Determines (new.Post (tt {0}))
-CCDataWriter-new = equal
+CCDataWriter-new = record { result = λ a r q e f h k. h .1 ∙ sym (k .1) }
 
 -- `writer.set_output_cea608_padding(on)`
 pub CCDataWriter-set-output-cea608-padding : Determines (set_output_cea608_padding.Post (tt {0}))
