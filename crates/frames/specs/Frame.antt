@@ -5,7 +5,8 @@ use Prim.Native.Nat.{ℕ, zero, suc, _+_, _-_, _*_}
 use lib.Dec.{eqb, leb}
 use lib.ListN.{length, getD, take, drop, replicate}
 use lib.Seq.{sets}
-use Rattle.model.specs.Frame.{Triple, tri}
+use Rattle.model.specs.Frame.{Triple, tri, mostFrame}
+use Rattle.model.specs.Rate.{mostTriples}
 use Rattle.frames.specs.declared.Frame.{Frame}
 
 -- "Frame: 0xC0 + count, 0xFF"
@@ -18,7 +19,7 @@ appended f x = record { bytes = sets (f .bytes) (f .len) x; len = f .len + lengt
 
 -- "A frame is at most 95 bytes": room for n triples
 unfoldable pub fits : Frame → ℕ → Bool
-fits f n = leb n 31 && leb (f .len) (95 - 3 * n)
+fits f n = leb n mostTriples && leb (f .len) (mostFrame - 3 * n)
 
 -- "0xFF first, 0xFE after"
 abbrev pub mark : ℕ → ℕ
@@ -39,4 +40,4 @@ fillers n = replicate n (tri 0xFA 0x00 0x00)
 
 -- the frame's bytes at the front of a lent output: "output bytes past the written length are unchanged". Nothing where they do not fit
 unfoldable pub emitted : Frame → List ℕ → List ℕ
-emitted f out = cond (leb (f .len) 95 && leb (f .len) (length out)) (take (f .len) (f .bytes) ++ drop (f .len) out) out
+emitted f out = cond (leb (f .len) mostFrame && leb (f .len) (length out)) (take (f .len) (f .bytes) ++ drop (f .len) out) out

@@ -2,7 +2,8 @@
 use mathlib.Core.Bool.{Bool, cond, not, _&&_}
 use Prim.Native.Nat.{ℕ, _-_, _*_}
 use lib.Dec.{leb}
-use Rattle.model.specs.Frame.{flat}
+use Rattle.model.specs.Frame.{flat, mostFrame}
+use Rattle.model.specs.Rate.{mostTriples}
 use Rattle.model.specs.Mux.{Turned, turn1, turn2, mostQueued}
 use Rattle.frames.specs.Frame.{appended}
 use Rattle.turns.specs.Queue.{queueOf, queueOver}
@@ -10,7 +11,7 @@ use Rattle.turns.specs.declared.Turns.{Turns}
 
 -- "each field's queue is 64 places", "A frame is at most 95 bytes": counts within these limits, and room for n triples
 unfoldable pub fits : Turns → ℕ → Bool
-fits t n = leb (t .field1 .count) mostQueued && (leb (t .field2 .count) mostQueued && (leb n 31 && leb (t .frame .len) (95 - 3 * n)))
+fits t n = leb (t .field1 .count) mostQueued && (leb (t .field2 .count) mostQueued && (leb n mostTriples && leb (t .frame .len) (mostFrame - 3 * n)))
 
 -- what is there after the model's turns: the queues that they leave in their places, and the triples in the frame
 abbrev pub taken : Turns → Turned → Turns
