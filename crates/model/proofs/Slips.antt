@@ -42,7 +42,7 @@ pub durations : pairsDuration 1 ∷ packetDuration (withPackets (one 0 1 (0x41 �
 unfolding ceil pairsDuration lengthsOf bytesLeft bytesDuration writtenHeader writtenBlock blockLength blocksLength packetLength
 durations = refl
 
--- a block without payload, and one with the most
+-- a block of a number and a payload
 abbrev block : ℕ → List ℕ → Block
 block number payload = record { number = number; payload = payload }
 
