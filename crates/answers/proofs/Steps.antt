@@ -27,10 +27,6 @@ module _ {S : Type 0} {out now : List ℕ} {at laid : ℕ} where
       → Did (tells said′ next′) out at laid state now
   did-as said said′ state next next′ d e f = record { told = rw (← e) (d .told); left = d .left ∙ f }
 
-  -- nothing is refused
-  pub did-become : (state next : S) → state ≡ next → Laid (word "ok\n") out at laid now → Did (becomes next) out at laid state now
-  did-become state next e l = record { told = l; left = e }
-
   -- the new one is left where the answer accepts, and the old one where it refuses
   module _ (line : Said → S → List ℕ) (a : Answer) (said : Said) (new made old : S) (e : saidAnswer a ≡ said) (f : new ≡ made)
       (l : Laid (line (saidAnswer a) new) out at laid now) where

@@ -25,10 +25,6 @@ module _ {S : Type 0} where
   abbrev pub tells : Said → S → Effect S
   tells said next = record { line = answerLine said; next = next }
 
-  -- a call that changes what there is: "A refused operation leaves s, p, r and w as they were"
-  abbrev pub changes : S → Outcome S → Effect S
-  changes old o = tells (says o) (after old o)
-
   -- the same where what the call gives is laid over the places of what there is
   abbrev pub lays : {M : Type 0} → (S → M → S) → S → Outcome M → Effect S
   lays over old o = tells (says o) (after old (mapped (over old) o))

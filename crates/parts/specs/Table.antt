@@ -22,7 +22,7 @@ use Rattle.writer.specs.Writer as writer
 use Rattle.writer.specs.Writer.{means, validWriter, stored, emptied}
 use Rattle.records.specs.Reading.{highestFirst}
 use Rattle.answers.specs.Script.{answerLine, runLine, blockMeasures, packetMeasures, durations, readBlockLine, readPacketLine}
-use Rattle.answers.specs.Steps.{Effect, tells, changes, lays, makes, reads, becomes}
+use Rattle.answers.specs.Steps.{Effect, tells, lays, makes, reads, becomes}
 use Rattle.values.specs.Fields as values
 use Rattle.machines.specs.Counts as machines
 use Rattle.parts.specs.declared.Machine.{Machine}
