@@ -142,4 +142,4 @@ pub drainable : {w₀ w : CCDataWriter} {fs : List (List ℕ)} {is : Items} (κs
 drainable {w₀} {fs} {is} κs new c padded =
     let d = draining κs new c in
     let j = rw (then-none is) at (join c (d .calls)) in
-    record { more = d .frames; last = d .last; rest = d .calls; whole = j .calls; padded = j .padded (padded, d .padded); drained = d .drained }
+    record { more = d .frames; last = d .last; rest = d .calls; rest-padded = d .padded; whole = j .calls; padded = j .padded (padded, d .padded); drained = d .drained }

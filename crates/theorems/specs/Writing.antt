@@ -79,6 +79,7 @@ pub record Drains (w₀ w : CCDataWriter) (fs : List (List ℕ)) (is : Items) : 
   pub more : List (List ℕ)
   pub last : CCDataWriter
   pub rest : Calls w more noItems last
+  pub rest-padded : Padded rest
   pub whole : Calls w₀ (fs ++ more) is last
   pub padded : Padded whole
   pub drained : Drained last
