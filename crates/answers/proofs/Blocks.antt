@@ -7,9 +7,10 @@ use native.Mathlib.Numerals.{add-one}
 use native.Mathlib.Omega.{arith}
 use lib.ListN.{length, take, drop, getD, length-drop, drop-of-length-le}
 use lib.Seq.{take-all}
+use Rattle.model.specs.Lists.{every}
 use Rattle.model.specs.Said.{Said, Outcome, accepted, gave, saysWith, after, checked}
 use Rattle.model.specs.Block.{Block}
-use Rattle.model.specs.Packet.{noBlock, carriable, allCarriable}
+use Rattle.model.specs.Packet.{noBlock, carriable}
 use Rattle.model.proofs.Cases.{by-test, both}
 use Rattle.model.proofs.Blocks.{carriable-facts}
 use Rattle.model.proofs.Limits as limits
@@ -56,13 +57,13 @@ text-more (suc i) (x ∷ bs) b rest e =
     ∙ sym (append-assoc (blockText (x .number) (x .payload)) (blocksText (take i bs)) (blockText (b .number) (b .payload)))
 
 -- no payload of a packet's blocks has more than 31 bytes
-small-at : (i : ℕ) (bs : List Block) (b : Block) (rest : List Block) → allCarriable bs ≡ true → drop i bs ≡ b ∷ rest → length (b .payload) ≤ 31
-unfolding allCarriable
+small-at : (i : ℕ) (bs : List Block) (b : Block) (rest : List Block) → every carriable bs ≡ true → drop i bs ≡ b ∷ rest → length (b .payload) ≤ 31
+unfolding every
 small-at i [] b rest g e = absurd (none-first i e)
 small-at zero (x ∷ bs) b rest g e =
     let same : length (x .payload) ≡ length (b .payload) = ap (λ (c : Block). length (c .payload)) (first-same e) in
-    omega (arith, carriable-facts x (both (carriable x) (allCarriable bs) g .0) .small)
-small-at (suc i) (x ∷ bs) b rest g e = small-at i bs b rest (both (carriable x) (allCarriable bs) g .1) e
+    omega (arith, carriable-facts x (both (carriable x) (every carriable bs) g .0) .small)
+small-at (suc i) (x ∷ bs) b rest g e = small-at i bs b rest (both (carriable x) (every carriable bs) g .1) e
 
 -- a block that stands at a place
 record At (p : DTVCCPacket) (i : ℕ) (s : Service) : Type 0 where

@@ -9,8 +9,9 @@ use lib.Dec.{eqb, leb, ltb}
 use lib.ListN.{length, take, drop, getD, length-append, length-drop}
 use lib.Seq.{drop-drop, getD-drop, length-take-le, take-all, take-nil, take-add, take-at, drop-at}
 use borrow.Author.Tests.{ne-eqb, le-leb, leb-true}
+use Rattle.model.specs.Lists.{every}
 use Rattle.model.specs.Block.{Block, blockLength}
-use Rattle.model.specs.Packet.{carriable, allCarriable, blocksLength}
+use Rattle.model.specs.Packet.{carriable, blocksLength}
 use Rattle.model.proofs.Cases.{by-test, both, and-both}
 use Rattle.model.proofs.Blocks.{Carriable, facts-carriable, carriable-facts, block-length, written-length}
 use Rattle.service.specs.Head.{lengthFor}
@@ -146,19 +147,19 @@ cut-block e d g h =
     let n : length (take (e .size) d) ≡ e .size = length-take-le (e .size) d h in
     record { named = g .named; known = g .known; filled = omega (arith, g .filled); small = omega (arith, g .small) }
 
-pub cut-carriable : (es : List Entry) (d : List ℕ) → goodEntries es ≡ true → usedBy es ≤ length d → allCarriable (cut es d) ≡ true
-unfolding cut usedBy goodEntries allCarriable
+pub cut-carriable : (es : List Entry) (d : List ℕ) → goodEntries es ≡ true → usedBy es ≤ length d → every carriable (cut es d) ≡ true
+unfolding cut usedBy goodEntries every
 cut-carriable [] d ok h = refl
 cut-carriable (e ∷ es) d ok h =
     let g = both (goodEntry (e .number) (e .size)) (goodEntries es) ok in
     and-both _ _ (facts-carriable _ (cut-block e d (good-facts _ _ (g .0)) (omega arith))) (cut-carriable es (drop (e .size) d) (g .1) (rw length-drop (omega arith)))
 
-pub cut-good : (es : List Entry) (d : List ℕ) → usedBy es ≤ length d → allCarriable (cut es d) ≡ true → goodEntries es ≡ true
-unfolding cut usedBy goodEntries allCarriable
+pub cut-good : (es : List Entry) (d : List ℕ) → usedBy es ≤ length d → every carriable (cut es d) ≡ true → goodEntries es ≡ true
+unfolding cut usedBy goodEntries every
 cut-good [] d h ok = refl
 cut-good (e ∷ es) d h ok =
     let b : Block = record { number = e .number; payload = take (e .size) d } in
-    let f = both (carriable b) (allCarriable (cut es (drop (e .size) d))) ok in
+    let f = both (carriable b) (every carriable (cut es (drop (e .size) d))) ok in
     let c = carriable-facts b (f .0) in
     let n : length (take (e .size) d) ≡ e .size = length-take-le (e .size) d (omega arith) in
     and-both _ _ (facts-good _ _ (record { named = c .named; known = c .known; filled = omega (arith, c .filled); small = omega (arith, c .small) })) (cut-good es (drop (e .size) d) (rw length-drop (omega arith)) (f .1))
@@ -205,19 +206,19 @@ cut-laid (b ∷ bs) z =
     rw (n, m) (ap (λ (l : List Block). b ∷ l) (cut-laid bs z))
 
 -- and they are within the limits where the blocks are
-pub laid-good : (bs : List Block) → allCarriable bs ≡ true → goodEntries (map entryOf bs) ≡ true
-unfolding goodEntries allCarriable
+pub laid-good : (bs : List Block) → every carriable bs ≡ true → goodEntries (map entryOf bs) ≡ true
+unfolding goodEntries every
 laid-good [] ok = refl
 laid-good (b ∷ bs) ok =
-    let f = both (carriable b) (allCarriable bs) ok in
+    let f = both (carriable b) (every carriable bs) ok in
     let c = carriable-facts b (f .0) in
     and-both _ _ (facts-good _ _ (record { named = c .named; known = c .known; filled = c .filled; small = c .small })) (laid-good bs (f .1))
 
-pub laid-lengths : (bs : List Block) → allCarriable bs ≡ true → lengthsOf (map entryOf bs) ≡ blocksLength bs
-unfolding lengthsOf allCarriable blocksLength
+pub laid-lengths : (bs : List Block) → every carriable bs ≡ true → lengthsOf (map entryOf bs) ≡ blocksLength bs
+unfolding lengthsOf every blocksLength
 laid-lengths [] ok = refl
 laid-lengths (b ∷ bs) ok =
-    let f = both (carriable b) (allCarriable bs) ok in
+    let f = both (carriable b) (every carriable bs) ok in
     ap₂ (λ (x y : ℕ). x + y) (sym (block-lengths (b .number) (length (b .payload)) (b .payload) (carriable-facts b (f .0) .filled) refl)) (laid-lengths bs (f .1))
 
 pub payloads-length : (bs : List Block) → length (payloadsOf bs) ≡ usedBy (map entryOf bs)

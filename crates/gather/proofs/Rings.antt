@@ -9,12 +9,13 @@ use lib.ListN.{length, getD, set, replicate, length-set}
 use lib.Seq.{getD-set-same, getD-set-other}
 use lib.Dec.{eqb, ltb}
 use borrow.Author.Tests.{le-leb, eqb-true, ltb-false}
+use Rattle.model.specs.Lists.{every}
 use Rattle.model.specs.Packet.{packetSize, readBy, readPacket, reads}
 use Rattle.model.proofs.Cases.{by-test, and-both, both}
 use Rattle.model.proofs.Limits.{size-most}
 use Rattle.model.proofs.Frames.{Read, none, also}
 use Rattle.slots.specs.declared.Slot.{Slot}
-use Rattle.gather.specs.Ring.{ringFrom, noSlot, slotRun, slotFine, slotsFine, slotWith, setRound}
+use Rattle.gather.specs.Ring.{ringFrom, noSlot, slotRun, slotFine, slotWith, setRound}
 use Rattle.gather.proofs.Places.{take-sets, zeros}
 
 -- places that are the same once round
@@ -79,15 +80,15 @@ runs-again none = refl
 runs-again (also {g} {gs} e r) = rw (run-slot g e, runs-again r)
 
 -- whose slots do
-pub runs-fine : {gs : List (List ℕ)} → Read gs → slotsFine (map slotWith gs) ≡ true
-unfolding slotsFine slotFine
+pub runs-fine : {gs : List (List ℕ)} → Read gs → every slotFine (map slotWith gs) ≡ true
+unfolding every slotFine
 runs-fine none = refl
 runs-fine (also {g} {gs} e r) = rw (le-leb (length g) 128 (reads-short g e), run-slot g e, e) (runs-fine r)
 
 -- slots that read, and others
-pub fine-append : (l m : List Slot) → slotsFine l ≡ true → slotsFine m ≡ true → slotsFine (l ++ m) ≡ true
-unfolding slotsFine
+pub fine-append : (l m : List Slot) → every slotFine l ≡ true → every slotFine m ≡ true → every slotFine (l ++ m) ≡ true
+unfolding every
 fine-append [] m e f = f
 fine-append (x ∷ l) m e f =
-    let g = both (slotFine x) (slotsFine l) e in
+    let g = both (slotFine x) (every slotFine l) e in
     and-both _ _ (g .0) (fine-append l m (g .1) f)

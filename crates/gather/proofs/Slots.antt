@@ -8,13 +8,14 @@ use lib.ListN.{length, getD, take}
 use lib.Seq.{getD-take, length-take-le}
 use lib.Dec.{eqb, leb, ltb}
 use borrow.Author.Tests.{eq-eqb, ne-eqb, eqb-true, eqb-false, le-ltb, lt-leb, le-leb, leb-true, leb-false}
+use Rattle.model.specs.Lists.{every}
 use Rattle.model.specs.Packet.{packetSize, reads}
 use Rattle.model.specs.Demux.{validPending, gather, ended}
 use Rattle.model.proofs.Cases.{by-test, both}
 use Rattle.model.proofs.Limits.{size-most}
 use Rattle.slots.specs.declared.Slot.{Slot}
 use Rattle.triples.specs.Walk.{seenFrom}
-use Rattle.gather.specs.Ring.{slotFine, slotsFine, ringFrom, noSlot, ringFine}
+use Rattle.gather.specs.Ring.{slotFine, ringFrom, noSlot, ringFine}
 use Rattle.gather.specs.Tests.{pendingFine, headFine, behindFine, oldestOf, readyFor}
 use Rattle.gather.specs.Gather.{Left, leftOf, gatheredBy}
 
@@ -30,23 +31,23 @@ module _ (s : Slot) where
   slot-within r h e = simp (le-leb _ _ h, e)
 
 -- For the loop over the slots: `a` is the answer for all, and stays that for those that are left.
-module _ (a : Bool) (l : List Slot) (first n i : ℕ) (e : a ≡ slotsFine (ringFrom (first + i) (n - i) l)) where
+module _ (a : Bool) (l : List Slot) (first n i : ℕ) (e : a ≡ every slotFine (ringFrom (first + i) (n - i) l)) where
   -- none are left
   pub slots-done : n ≤ i → true ≡ a
-  unfolding slotsFine ringFrom
+  unfolding every ringFrom
   slots-done h = let z : n - i ≡ 0 = omega arith in sym (rw z at e)
 
   module _ (h : i < n) (b : Bool) (asked : b ≡ slotFine (getD l ((first + i) % 32) noSlot)) where
     -- the next one
-    slots-here : a ≡ b && slotsFine (ringFrom (first + (i + 1)) (n - (i + 1)) l)
-    unfolding slotsFine ringFrom
+    slots-here : a ≡ b && every slotFine (ringFrom (first + (i + 1)) (n - (i + 1)) l)
+    unfolding every ringFrom
     slots-here =
         let z : n - i ≡ suc (n - (i + 1)) = omega arith in
         let w : first + i + 1 ≡ first + (i + 1) = omega arith in
         rw (asked, ← w) (rw z at e)
 
     -- it reads
-    pub slots-again : b ≡ true → a ≡ slotsFine (ringFrom (first + (i + 1)) (n - (i + 1)) l)
+    pub slots-again : b ≡ true → a ≡ every slotFine (ringFrom (first + (i + 1)) (n - (i + 1)) l)
     slots-again t = rw t at slots-here
 
     -- it does not
@@ -96,18 +97,18 @@ module _ (f n : ℕ) (l : List Slot) where
     behind-count h = rw (le-leb f 31 (omega arith), lt-leb n 32 h)
 
     -- all are left
-    pub behind-start : n ≤ 32 → behindFine f n l ≡ slotsFine (ringFrom (f + 1) (n - 1) l)
+    pub behind-start : n ≤ 32 → behindFine f n l ≡ every slotFine (ringFrom (f + 1) (n - 1) l)
     unfolding behindFine
     behind-start h = rw (le-leb f 31 (omega arith), le-leb n 32 h)
 
     -- none are there
     pub behind-none : n < 2 → true ≡ behindFine f n l
-    unfolding slotsFine ringFrom
+    unfolding every ringFrom
     behind-none h = let z : n - 1 ≡ 0 = omega arith in sym (rw z at (behind-start (omega arith)))
 
     -- one is there
     pub behind-one : n ≡ 2 → (b : Bool) → b ≡ slotFine (getD l ((f + 1) % 32) noSlot) → b ≡ behindFine f n l
-    unfolding slotsFine ringFrom
+    unfolding every ringFrom
     behind-one two b e =
         let z : n - 1 ≡ suc 0 = omega arith in
         e ∙ sym ((rw z at (behind-start (omega arith))) ∙ and-true _)
@@ -134,7 +135,7 @@ module _ (f n : ℕ) (l : List Slot) where
 
 -- no slots
 pub behind-empty : (f : ℕ) (l : List Slot) → leb f 31 ≡ behindFine f 0 l
-unfolding behindFine slotsFine ringFrom
+unfolding behindFine every ringFrom
 behind-empty f l = sym (and-true (leb f 31))
 
 -- the ring is its head and what is behind it
@@ -147,17 +148,17 @@ module _ (f : ℕ) (l : List Slot) where
   parts true true false false = refl
 
   pub ring-parts : (n : ℕ) → ringFine f n l ≡ behindFine f n l && headFine n (getD l (f % 32) noSlot)
-  unfolding ringFine behindFine headFine slotsFine ringFrom
+  unfolding ringFine behindFine headFine every ringFrom
   ring-parts zero = sym (and-true _)
   ring-parts (suc n) =
       let z : suc n - 1 ≡ n = omega arith in
-      rw (z, ne-eqb (suc n) 0 (λ e. omega arith)) (parts (leb f 31) (leb (suc n) 32) (slotFine (getD l (f % 32) noSlot)) (slotsFine (ringFrom (f + 1) n l)))
+      rw (z, ne-eqb (suc n) 0 (λ e. omega arith)) (parts (leb f 31) (leb (suc n) 32) (slotFine (getD l (f % 32) noSlot)) (every slotFine (ringFrom (f + 1) n l)))
 
 -- what a ring within the limits keeps
 pub record RingFine (f n : ℕ) (l : List Slot) : Type 0 where
   pub first : f ≤ 31
   pub count : n ≤ 32
-  pub reading : slotsFine (ringFrom f n l) ≡ true
+  pub reading : every slotFine (ringFrom f n l) ≡ true
 
 module _ (f n : ℕ) (l : List Slot) where
   -- from the test

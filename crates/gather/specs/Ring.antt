@@ -5,6 +5,7 @@ use Prim.Native.Nat.{ℕ, zero, suc, _+_, _%_}
 use lib.ListN.{length, getD, set, take, replicate}
 use lib.Seq.{sets}
 use lib.Dec.{leb}
+use Rattle.model.specs.Lists.{every}
 use Rattle.model.specs.Packet.{reads}
 use Rattle.slots.specs.declared.Slot.{Slot}
 
@@ -25,13 +26,9 @@ slotRun s = take (s .len) (s .bytes)
 unfoldable pub slotFine : Slot → Bool
 slotFine s = leb (s .len) 128 && reads (slotRun s)
 
-unfoldable pub slotsFine : List Slot → Bool
-slotsFine [] = true
-slotsFine (s ∷ l) = slotFine s && slotsFine l
-
 -- "32 waiting packets": n slots from place f on
 unfoldable pub ringFine : ℕ → ℕ → List Slot → Bool
-ringFine f n l = leb f 31 && (leb n 32 && slotsFine (ringFrom f n l))
+ringFine f n l = leb f 31 && (leb n 32 && every slotFine (ringFrom f n l))
 
 -- the slot of a run of bytes: zeros stand behind them
 abbrev pub slotWith : List ℕ → Slot

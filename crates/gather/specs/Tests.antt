@@ -4,9 +4,10 @@ use mathlib.Core.Bool.{Bool, true, cond, _&&_}
 use Prim.Native.Nat.{ℕ, _+_, _-_, _%_}
 use lib.ListN.{getD}
 use lib.Dec.{eqb, leb, ltb}
+use Rattle.model.specs.Lists.{every}
 use Rattle.model.specs.Packet.{packetSize}
 use Rattle.slots.specs.declared.Slot.{Slot}
-use Rattle.gather.specs.Ring.{noSlot, ringFrom, slotFine, slotsFine}
+use Rattle.gather.specs.Ring.{noSlot, ringFrom, slotFine}
 use Rattle.gather.specs.declared.Front.{Front}
 
 -- the first n places hold pending bytes: none, or an even number below the size that the first of them gives
@@ -19,7 +20,7 @@ headFine n s = cond (eqb n 0) true (slotFine s)
 
 -- the ring but for its head
 unfoldable pub behindFine : ℕ → ℕ → List Slot → Bool
-behindFine f n l = leb f 31 && (leb n 32 && slotsFine (ringFrom (f + 1) (n - 1) l))
+behindFine f n l = leb f 31 && (leb n 32 && every slotFine (ringFrom (f + 1) (n - 1) l))
 
 -- the slot at the head, and whether the ring behind it is within its limits
 unfoldable pub oldestOf : ℕ → ℕ → List Slot → Front

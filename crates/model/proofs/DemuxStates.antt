@@ -9,8 +9,9 @@ use lib.Dec.{eqb, ltb}
 use lib.ListN.{length, getD, take, drop, length-append, length-drop, List·getD-append}
 use lib.Seq.{take-all}
 use borrow.Author.Tests.{eq-eqb, le-leb, lt-ltb, eqb-true, eqb-false, leb-true, ltb-true, ltb-false}
+use Rattle.model.specs.Lists.{every}
 use Rattle.model.specs.Said.{Outcome, gave, refused}
-use Rattle.model.specs.Packet.{Packet, packetSize, readPacket, validPacket, allPackets}
+use Rattle.model.specs.Packet.{Packet, packetSize, readPacket, validPacket}
 use Rattle.model.specs.Frame.{Cea608, Seen, first, second, start, more, void608, void708, seenAll, triplesIn, countIn}
 use Rattle.model.specs.Demux.{Demux, Gathered, Taken, validPending, validDemux, freshDemux, turn608On, flushDemux, pairsIn, lateFrom, carries708, givenIn, closed, packetsOf, wants, gather, ended, gathered, takeGathered, takeTriples, unread, takeFrame, withPairs, draw}
 use Rattle.model.proofs.Cases.{by-test, by-cond, both, and-both}
@@ -22,7 +23,7 @@ use Rattle.model.proofs.Frames.{few-pairs}
 pub record DemuxLimits (d : Demux) : Type 0 where
   pub pairs : length (d .pairs) ≤ 31
   pub waiting : length (d .waiting) ≤ 32
-  pub packets : allPackets validPacket (d .waiting) ≡ true
+  pub packets : every validPacket (d .waiting) ≡ true
   pub pending : validPending (d .pending) ≡ true
 
 -- what passes the test is within the limits,
@@ -41,7 +42,7 @@ facts-demux d f = simp (le-leb _ _ (f .pairs), le-leb _ _ (f .waiting), f .packe
 
 -- a fresh demultiplexer is within its limits
 pub fresh-demux : validDemux freshDemux ≡ true
-unfolding validDemux validPending allPackets
+unfolding validDemux validPending every
 fresh-demux = refl
 
 -- turning 608 on keeps it there
@@ -56,14 +57,14 @@ flush-valid d = fresh-demux
 
 -- drawing takes one away, or none
 pub draw-valid : (d : Demux) → validDemux d ≡ true → validDemux (draw d .next) ≡ true
-unfolding draw allPackets
+unfolding draw every
 draw-valid d e = let f = demux-facts d e in by-items (d .on608) (d .pairs) (d .pending) (d .waiting) f
   where
     by-items : (on : Bool) (pairs : List Cea608) (pending : List ℕ) (waiting : List Packet)
         → (let s : Demux = record { on608 = on; pairs = pairs; pending = pending; waiting = waiting } in DemuxLimits s → validDemux (draw s .next) ≡ true)
     by-items on (x ∷ pairs) pending waiting f = facts-demux _ (record { pairs = omega (arith, f .pairs); waiting = f .waiting; packets = f .packets; pending = f .pending })
     by-items on [] pending (p ∷ waiting) f =
-        let v = both (validPacket p) (allPackets validPacket waiting) (f .packets) in
+        let v = both (validPacket p) (every validPacket waiting) (f .packets) in
         facts-demux _ (record { pairs = omega arith; waiting = omega (arith, f .waiting); packets = v .1; pending = f .pending })
     by-items on [] pending [] f = facts-demux _ (record { pairs = omega arith; waiting = omega arith; packets = refl; pending = f .pending })
 
@@ -123,17 +124,17 @@ pub gathering-start : (a b : ℕ) → Gathering (take (packetSize a) (a ∷ b �
 gathering-start a b = rw (take-all (packetSize a) (a ∷ b ∷ []) (size-least a)) (record { even = refl; most = size-least a })
 
 -- closed bytes become a packet within its limits, or none
-pub closed-valid : (g : List ℕ) → allPackets validPacket (closed g) ≡ true
-unfolding closed allPackets
+pub closed-valid : (g : List ℕ) → every validPacket (closed g) ≡ true
+unfolding closed every
 closed-valid g = by-reading (readPacket g) refl
   where
-    by-reading : (o : Outcome Packet) → readPacket g ≡ o → allPackets validPacket (givenIn o) ≡ true
+    by-reading : (o : Outcome Packet) → readPacket g ≡ o → every validPacket (givenIn o) ≡ true
     by-reading (gave p) e = and-both _ _ (facts-valid p (plain-valid g e)) refl
     by-reading (refused why) e = refl
 
 -- and so do runs of bytes
-pub packets-valid : (gs : List (List ℕ)) → allPackets validPacket (packetsOf gs) ≡ true
-unfolding packetsOf allPackets
+pub packets-valid : (gs : List (List ℕ)) → every validPacket (packetsOf gs) ≡ true
+unfolding packetsOf every
 packets-valid [] = refl
 packets-valid (g ∷ gs) = all-append validPacket (closed g) (packetsOf gs) (closed-valid g) (packets-valid gs)
 

@@ -8,9 +8,10 @@ use lib.Dec.{eqb, ltb}
 use lib.ListN.{length, getD, take, drop, length-take, length-drop}
 use lib.Seq.{length-take-le}
 use borrow.Author.Tests.{eq-eqb, ne-eqb, le-leb, eqb-true, eqb-false, ltb-true, ltb-false, not-false}
+use Rattle.model.specs.Lists.{every}
 use Rattle.model.specs.Said.{gave}
 use Rattle.model.specs.Block.{Block, validBlock, topNumber, blockSize, headerLength, numberIn, needed, isShort, blockIn, readBlock, blockLength}
-use Rattle.model.specs.Packet.{Packet, packetSize, plainMove, tidyMove, kept, blocksFrom, readBy, readPacket, readTidy, blocksLength, packetLength, allCarriable, carriable}
+use Rattle.model.specs.Packet.{Packet, packetSize, plainMove, tidyMove, kept, blocksFrom, readBy, readPacket, readTidy, blocksLength, packetLength, carriable}
 use Rattle.model.proofs.Cases.{by-test, by-cond, and-both, Gives, gives-then, gives-mapped, gives-at}
 use Rattle.model.proofs.Blocks.{Carriable, facts-carriable, header-one, header-two, header-bare, block-length, block-length-none, length-short, length-long}
 use Rattle.model.proofs.BlockTrip.{written-some}
@@ -173,12 +174,12 @@ read-gives d = by-cond (Gives (ReadFrom d)) (ltb (length d) (needed d)) (λ _. t
 
 -- blocks that are within the limits and written in at most n bytes
 pub record Within (n : ℕ) (bs : List Block) : Type 0 where
-  pub carriable : allCarriable bs ≡ true
+  pub carriable : every carriable bs ≡ true
   pub short : blocksLength bs ≤ n
 
 -- one more block, kept if it has a payload
 within-kept : (b : Block) (bs : List Block) (n : ℕ) → (1 ≤ length (b .payload) → Carriable b) → Within n bs → Within (blockLength b + n) (kept b bs)
-unfolding allCarriable blocksLength
+unfolding every blocksLength
 within-kept b bs n c w =
     by-cond (Within (blockLength b + n)) (eqb (length (b .payload)) 0)
     (λ e. record { carriable = w .carriable; short = omega (arith, w .short) })
@@ -199,7 +200,7 @@ size-most h = by-cond (λ n. n ≤ 128) (eqb (h % 64) 0) (λ _. omega arith) (λ
 module _ (move : List ℕ → ℕ) (moves : (d : List ℕ) (b : Block) → ReadFrom d b → Moves (move d) (length d) (blockLength b)) where
   -- the blocks read from some bytes are written in no more of them
   pub blocks-within : (k : ℕ) (d : List ℕ) → k ≤ length d → Gives (Within (length d - k)) (blocksFrom move k d)
-  unfolding blocksFrom allCarriable blocksLength
+  unfolding blocksFrom every blocksLength
   blocks-within k [] h = record { carriable = refl; short = omega arith }
   blocks-within (suc k) (x ∷ d) h = let e : suc (length d) - suc k ≡ length d - k = omega arith in rw e (blocks-within k d (omega arith))
   blocks-within zero (x ∷ d) h =

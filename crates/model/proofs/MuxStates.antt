@@ -7,7 +7,8 @@ use native.Mathlib.Omega.{arith}
 use lib.Dec.{eqb, leb}
 use lib.ListN.{length, length-append, length-take, length-drop, length-replicate}
 use borrow.Author.Tests.{le-leb, leb-true, leb-false, eqb-false}
-use Rattle.model.specs.Packet.{Packet, validPacket, allPackets}
+use Rattle.model.specs.Lists.{every}
+use Rattle.model.specs.Packet.{Packet, validPacket}
 use Rattle.model.specs.Frame.{Triple, Pair, pair, Cea608, field1, field2, frameBytes, mostFrame}
 use Rattle.model.specs.Rate.{Budgets}
 use Rattle.model.specs.Mux.{Mux, freshMux, withPads, flushMux, storable, validMux, queued, pushPacket, isNull, pushPair, pushCea608, Turned, turnsDue, turn1, turn2, turned, packetTriples, countDue, Sent, send, padding, framed, writeFrame}
@@ -20,7 +21,7 @@ use Rattle.model.proofs.Frames.{frame-length}
 -- the limits of a multiplexer, as facts
 pub record MuxLimits (s : Mux) : Type 0 where
   pub packets : length (s .packets) ≤ 16
-  pub stored : allPackets storable (s .packets) ≡ true
+  pub stored : every storable (s .packets) ≡ true
   pub sending : 2 * length (s .sending) ≤ 128
   pub queue1 : length (s .queue1) ≤ 64
   pub queue2 : length (s .queue2) ≤ 64
@@ -48,7 +49,7 @@ facts-mux s f = simp (le-leb _ _ (f .packets), f .stored, le-leb _ _ (f .sending
 
 -- a fresh multiplexer is within its limits
 pub fresh-mux : validMux freshMux ≡ true
-unfolding validMux allPackets
+unfolding validMux every
 fresh-mux = refl
 
 -- the switches keep it there
@@ -59,7 +60,7 @@ pads-valid a b s e =
 
 -- and so does flush
 pub flush-mux : (s : Mux) → validMux (flushMux s) ≡ true
-unfolding allPackets
+unfolding every
 flush-mux s = facts-mux (flushMux s) (record { packets = omega arith; stored = refl; sending = omega arith; queue1 = omega arith; queue2 = omega arith })
 
 -- a queue that takes one more has at most as many as it has places
@@ -89,11 +90,11 @@ push608-valid (field2 x) s e =
 -- the packets queued after one more
 record Queued (ps : List Packet) : Type 0 where
   few : length ps ≤ 16
-  stored : allPackets storable ps ≡ true
+  stored : every storable ps ≡ true
 
 -- a packet that is stored leaves a queue of such packets
-queued-stored : (p : Packet) (ps : List Packet) → storable p ≡ true → allPackets storable ps ≡ true → Gives Queued (queued 16 p ps)
-unfolding queued allPackets
+queued-stored : (p : Packet) (ps : List Packet) → storable p ≡ true → every storable ps ≡ true → Gives Queued (queued 16 p ps)
+unfolding queued every
 queued-stored p ps v h =
     by-cond (Gives Queued) (leb 16 (length ps)) (λ _. tt)
     (λ e. record {
@@ -148,7 +149,7 @@ shorter n s = by-cond (Shorter n (s .queue1) (s .queue2)) (s .next1) (λ _. shor
 record Leaves (m : ℕ) (ps : List Packet) (o : Sent) : Type 0 where
   out : length (o .out) ≤ m
   packets : length (o .packets) ≤ length ps
-  stored : allPackets storable (o .packets) ≡ true
+  stored : every storable (o .packets) ≡ true
   sending : 2 * length (o .sending) ≤ 128
 
 -- a stored packet has at most 64 triples
@@ -160,11 +161,11 @@ triples-few p e =
     omega (arith, triples-length p v (leb-true 1 (length (p .blocks)) (w .1)), v .length)
 
 -- packet triples are sent of packets that are stored
-send-leaves : (m : ℕ) (ts : List Triple) (ps : List Packet) → 2 * length ts ≤ 128 → allPackets storable ps ≡ true → Leaves m ps (send m ts ps)
-unfolding send allPackets
+send-leaves : (m : ℕ) (ts : List Triple) (ps : List Packet) → 2 * length ts ≤ 128 → every storable ps ≡ true → Leaves m ps (send m ts ps)
+unfolding send every
 send-leaves m ts [] h v = record { out = rw length-take (omega arith); packets = omega arith; stored = refl; sending = rw length-drop (omega arith) }
 send-leaves m ts (p ∷ ps) h v =
-    let w = both (storable p) (allPackets storable ps) v in
+    let w = both (storable p) (every storable ps) v in
     by-cond (Leaves m (p ∷ ps)) (leb m (length ts))
     (λ _. record { out = rw length-take (omega arith); packets = omega arith; stored = v; sending = rw length-drop (omega arith) })
     (λ e. let r = send-leaves (m - length ts) (packetTriples p) ps (triples-few p (w .0)) (w .1) in

@@ -7,9 +7,10 @@ use native.Mathlib.Omega.{arith}
 use lib.Dec.{eqb, leb, ltb}
 use lib.ListN.{length, length-append}
 use borrow.Author.Tests.{eq-eqb, ne-eqb, le-leb, le-ltb, leb-true, eqb-true, eqb-false}
+use Rattle.model.specs.Lists.{every}
 use Rattle.model.specs.Said.{gave}
 use Rattle.model.specs.Block.{Block, writtenBlock}
-use Rattle.model.specs.Packet.{Packet, sequenceIn, packetSize, blocksFrom, readBy, readPacket, readTidy, blocksLength, packetLength, writtenBlocks, packetHeader, fill, writtenPacket, carriable, allCarriable, validPacket, allPackets}
+use Rattle.model.specs.Packet.{Packet, sequenceIn, packetSize, blocksFrom, readBy, readPacket, readTidy, blocksLength, packetLength, writtenBlocks, packetHeader, fill, writtenPacket, carriable, validPacket}
 use Rattle.model.proofs.Cases.{by-test, both, and-both}
 use Rattle.model.proofs.Blocks.{carriable-facts, block-length}
 use Rattle.model.proofs.BlockTrip.{written-some}
@@ -18,15 +19,15 @@ use Rattle.model.proofs.Walk.{Passes, plain-passing, tidy-passing, bloc
 -- a packet within the limits, as facts
 pub record Valid (p : Packet) : Type 0 where
   pub sequence : p .sequence ≤ 3
-  pub blocks : allCarriable (p .blocks) ≡ true
+  pub blocks : every carriable (p .blocks) ≡ true
   pub length : packetLength p ≤ 128
 
 -- what passes the test is within the limits,
 pub valid-facts : (p : Packet) → validPacket p ≡ true → Valid p
 unfolding validPacket
 valid-facts p e =
-    let v = both (leb (p .sequence) 3 && allCarriable (p .blocks)) (leb (packetLength p) 128) e in
-    let w = both (leb (p .sequence) 3) (allCarriable (p .blocks)) (v .0) in
+    let v = both (leb (p .sequence) 3 && every carriable (p .blocks)) (leb (packetLength p) 128) e in
+    let w = both (leb (p .sequence) 3) (every carriable (p .blocks)) (v .0) in
     record { sequence = leb-true _ _ (w .0); blocks = w .1; length = leb-true _ _ (v .1) }
 
 -- and what is within them passes it
@@ -35,28 +36,28 @@ unfolding validPacket
 facts-valid p v = simp (le-leb _ _ (v .sequence), v .blocks, le-leb _ _ (v .length))
 
 -- two lists of packets that pass a test
-pub all-append : (test : Packet → Bool) (ps qs : List Packet) → allPackets test ps ≡ true → allPackets test qs ≡ true → allPackets test (ps ++ qs) ≡ true
-unfolding allPackets
+pub all-append : (test : Packet → Bool) (ps qs : List Packet) → every test ps ≡ true → every test qs ≡ true → every test (ps ++ qs) ≡ true
+unfolding every
 all-append test [] qs v w = w
 all-append test (p ∷ ps) qs v w =
-    let u = both (test p) (allPackets test ps) v in
-    and-both (test p) (allPackets test (ps ++ qs)) (u .0) (all-append test ps qs (u .1) w)
+    let u = both (test p) (every test ps) v in
+    and-both (test p) (every test (ps ++ qs)) (u .0) (all-append test ps qs (u .1) w)
 
 -- blocks of a packet: their lengths' sum is the length of what they are written in, two bytes or more each
-pub blocks-length : (bs : List Block) → allCarriable bs ≡ true → length (writtenBlocks bs) ≡ blocksLength bs
-unfolding allCarriable writtenBlocks blocksLength
+pub blocks-length : (bs : List Block) → every carriable bs ≡ true → length (writtenBlocks bs) ≡ blocksLength bs
+unfolding every writtenBlocks blocksLength
 blocks-length [] ok = refl
 blocks-length (b ∷ bs) ok =
-    let f = both (carriable b) (allCarriable bs) ok in
+    let f = both (carriable b) (every carriable bs) ok in
     let e = block-length b (carriable-facts b (f .0) .filled) in
     omega (arith, length-append (writtenBlock b) (writtenBlocks bs), blocks-length bs (f .1), e)
 
 -- each of them has two bytes or more
-pub blocks-two : (bs : List Block) → allCarriable bs ≡ true → 2 * length bs ≤ blocksLength bs
-unfolding allCarriable blocksLength
+pub blocks-two : (bs : List Block) → every carriable bs ≡ true → 2 * length bs ≤ blocksLength bs
+unfolding every blocksLength
 blocks-two [] ok = omega arith
 blocks-two (b ∷ bs) ok =
-    let f = both (carriable b) (allCarriable bs) ok in
+    let f = both (carriable b) (every carriable bs) ok in
     let c = carriable-facts b (f .0) in
     omega (arith, blocks-two bs (f .1), block-length b (c .filled), written-some b [] c)
 
@@ -125,7 +126,7 @@ module _ (move : List ℕ → ℕ) (passes : Passes move) where
   filled-none n = by-test (eqb (n % 2) 1) (λ e. simp e (blocks-fill move passes [] ∙ blocks-none move)) (λ e. simp e (blocks-none move))
 
   -- the blocks are read back
-  pub blocks-back : (bs : List Block) (n : ℕ) → allCarriable bs ≡ true → blocksFrom move 0 (writtenBlocks bs ++ fill n) ≡ gave bs
+  pub blocks-back : (bs : List Block) (n : ℕ) → every carriable bs ≡ true → blocksFrom move 0 (writtenBlocks bs ++ fill n) ≡ gave bs
   blocks-back bs n ok = blocks-written move passes bs (fill n) ok ∙ rw (filled-none n) (ap gave (append-nil bs))
 
   -- a reader whose length rule the written packet meets

@@ -8,17 +8,18 @@ use native.Mathlib.Omega.{arith}
 use lib.Dec.{eqb, leb, ltb}
 use lib.ListN.{length, getD, set, length-append, length-set}
 use borrow.Author.Tests.{ne-eqb, eqb-true, eqb-false, leb-true, ltb-false}
+use Rattle.model.specs.Lists.{every}
 use Rattle.model.specs.Block.{Block, validBlock, blockLength, blockRoom, withRun}
-use Rattle.model.specs.Packet.{Packet, packetLength, packetRoom, blocksLength, carriable, allCarriable, withBlocks, pushBlock, pushNew, pushAt, pushRunAt, pushRunBy, latestOf, latest, noBlock, blockAt, extended}
+use Rattle.model.specs.Packet.{Packet, packetLength, packetRoom, blocksLength, carriable, withBlocks, pushBlock, pushNew, pushAt, pushRunAt, pushRunBy, latestOf, latest, noBlock, blockAt, extended}
 use Rattle.model.proofs.Cases.{by-test, by-cond, both, and-both, Gives}
 use Rattle.model.proofs.Blocks.{Carriable, carriable-facts, facts-carriable, block-length, written-length}
 use Rattle.model.proofs.Packets.{Valid, length-some}
 
 -- blocks of a packet, one behind the others
-carriable-append : (bs : List Block) (b : Block) → allCarriable bs ≡ true → Carriable b → allCarriable (bs ++ (b ∷ [])) ≡ true
-unfolding allCarriable
+carriable-append : (bs : List Block) (b : Block) → every carriable bs ≡ true → Carriable b → every carriable (bs ++ (b ∷ [])) ≡ true
+unfolding every
 carriable-append [] b ok c = and-both (carriable b) true (facts-carriable b c) refl
-carriable-append (x ∷ bs) b ok c = let f = both (carriable x) (allCarriable bs) ok in and-both _ _ (f .0) (carriable-append bs b (f .1) c)
+carriable-append (x ∷ bs) b ok c = let f = both (carriable x) (every carriable bs) ok in and-both _ _ (f .0) (carriable-append bs b (f .1) c)
 
 lengths-append : (bs : List Block) (b : Block) → blocksLength (bs ++ (b ∷ [])) ≡ blocksLength bs + blockLength b
 unfolding blocksLength
@@ -53,11 +54,11 @@ valid-carriable b v full =
     record { named = omega arith; known = leb-true n 63 (y .0); filled = omega arith; small = leb-true k 31 (y .1) }
 
 -- one of the blocks in another's place
-carriable-set : (bs : List Block) (i : ℕ) (b : Block) → allCarriable bs ≡ true → Carriable b → allCarriable (set bs i b) ≡ true
-unfolding allCarriable
+carriable-set : (bs : List Block) (i : ℕ) (b : Block) → every carriable bs ≡ true → Carriable b → every carriable (set bs i b) ≡ true
+unfolding every
 carriable-set [] i b ok c = refl
-carriable-set (x ∷ bs) zero b ok c = and-both _ _ (facts-carriable b c) (both (carriable x) (allCarriable bs) ok .1)
-carriable-set (x ∷ bs) (suc i) b ok c = let f = both (carriable x) (allCarriable bs) ok in and-both _ _ (f .0) (carriable-set bs i b (f .1) c)
+carriable-set (x ∷ bs) zero b ok c = and-both _ _ (facts-carriable b c) (both (carriable x) (every carriable bs) ok .1)
+carriable-set (x ∷ bs) (suc i) b ok c = let f = both (carriable x) (every carriable bs) ok in and-both _ _ (f .0) (carriable-set bs i b (f .1) c)
 
 lengths-set : (bs : List Block) (i : ℕ) (b : Block) → i < length bs → blocksLength (set bs i b) + blockLength (getD bs i noBlock) ≡ blocksLength bs + blockLength b
 unfolding blocksLength
@@ -65,11 +66,11 @@ lengths-set [] i b h = absurd (omega arith)
 lengths-set (x ∷ bs) zero b h = omega arith
 lengths-set (x ∷ bs) (suc i) b h = omega (arith, lengths-set bs i b (omega arith))
 
-carriable-at : (bs : List Block) (i : ℕ) → allCarriable bs ≡ true → i < length bs → Carriable (getD bs i noBlock)
-unfolding allCarriable
+carriable-at : (bs : List Block) (i : ℕ) → every carriable bs ≡ true → i < length bs → Carriable (getD bs i noBlock)
+unfolding every
 carriable-at [] i ok h = absurd (omega arith)
-carriable-at (x ∷ bs) zero ok h = carriable-facts x (both (carriable x) (allCarriable bs) ok .0)
-carriable-at (x ∷ bs) (suc i) ok h = carriable-at bs i (both (carriable x) (allCarriable bs) ok .1) (omega arith)
+carriable-at (x ∷ bs) zero ok h = carriable-facts x (both (carriable x) (every carriable bs) ok .0)
+carriable-at (x ∷ bs) (suc i) ok h = carriable-at bs i (both (carriable x) (every carriable bs) ok .1) (omega arith)
 
 -- a block that takes a run
 grown-block : (run : List ℕ) (b : Block) → Carriable b → length run ≤ blockRoom b → Carriable (withRun run b)

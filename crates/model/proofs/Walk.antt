@@ -7,9 +7,10 @@ use native.Mathlib.Omega.{arith}
 use lib.ListN.{length, drop, length-append}
 use lib.Seq.{drop-nil, drop-at}
 use borrow.Author.Tests.{ne-eqb}
+use Rattle.model.specs.Lists.{every}
 use Rattle.model.specs.Said.{Outcome, gave, andThen, mapped}
 use Rattle.model.specs.Block.{Block, readBlock, writtenBlock}
-use Rattle.model.specs.Packet.{kept, blocksFrom, plainMove, tidyMove, allCarriable, writtenBlocks}
+use Rattle.model.specs.Packet.{kept, blocksFrom, plainMove, tidyMove, writtenBlocks, carriable}
 use Rattle.model.proofs.Cases.{both, mapped-mapped, mapped-same, mapped-by}
 use Rattle.model.proofs.Blocks.{Carriable, carriable-facts}
 use Rattle.model.proofs.BlockTrip.{read-written, written-some, plain-passes, tidy-passes, fill-read, plain-fill, tidy-fill}
@@ -72,9 +73,9 @@ module _ (move : List ℕ → ℕ) where
         blocks-next (0x00 ∷ rest) (omega arith) (omega arith) ∙ rw (fill-read rest, e) (mapped-same (blocksFrom move 0 rest))
 
     -- written blocks are read, whatever follows them
-    pub blocks-written : (bs : List Block) (rest : List ℕ) → allCarriable bs ≡ true
+    pub blocks-written : (bs : List Block) (rest : List ℕ) → every carriable bs ≡ true
         → blocksFrom move 0 (writtenBlocks bs ++ rest) ≡ mapped (λ cs. bs ++ cs) (blocksFrom move 0 rest)
-    unfolding allCarriable writtenBlocks
+    unfolding every writtenBlocks
     blocks-written [] rest ok = sym (mapped-same (blocksFrom move 0 rest))
     blocks-written (b ∷ bs) rest ok =
         let f = both _ _ ok in

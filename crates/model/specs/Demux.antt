@@ -5,8 +5,9 @@ use mathlib.Core.Option.{Option, none, some}
 use Prim.Native.Nat.{ℕ, suc, _+_, _-_, _*_, _%_}
 use lib.Dec.{eqb, leb, ltb}
 use lib.ListN.{length, getD, take, drop}
+use Rattle.model.specs.Lists.{every}
 use Rattle.model.specs.Said.{Said, Outcome, gave, refused, accepted, lengthMismatch, cea608AfterCea708, full}
-use Rattle.model.specs.Packet.{Packet, packetSize, readPacket, reads, validPacket, allPackets}
+use Rattle.model.specs.Packet.{Packet, packetSize, readPacket, reads, validPacket}
 use Rattle.model.specs.Frame.{pair, Cea608, field1, field2, Seen, first, second, start, more, void608, void708, seenAll, triplesIn, flagged, countIn}
 
 -- whether 608 is on, the pairs of the last frame, the bytes of a packet that is not complete, the packets not yet drawn
@@ -34,7 +35,7 @@ unfoldable pub validDemux : Demux → Bool
 validDemux d =
     leb (length (d .pairs)) mostPairs
     && (leb (length (d .waiting)) mostWaiting
-    && (allPackets validPacket (d .waiting)
+    && (every validPacket (d .waiting)
     && validPending (d .pending)))
 
 -- a fresh demultiplexer: it holds nothing, and 608 is off

@@ -1,3 +1,4 @@
+pub mod Lists
 pub mod Said
 pub mod Block
 pub mod Packet

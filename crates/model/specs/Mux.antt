@@ -4,8 +4,9 @@ use mathlib.Core.List.{List, [], _∷_, _++_}
 use Prim.Native.Nat.{ℕ, zero, suc, _+_, _-_, _*_, min, max}
 use lib.Dec.{eqb, leb}
 use lib.ListN.{length, take, drop, replicate}
+use Rattle.model.specs.Lists.{every}
 use Rattle.model.specs.Said.{Outcome, gave, refused, andThen, mapped, putInto, full}
-use Rattle.model.specs.Packet.{Packet, packetHeader, writtenBlocks, mostPacket, validPacket, allPackets}
+use Rattle.model.specs.Packet.{Packet, packetHeader, writtenBlocks, mostPacket, validPacket}
 use Rattle.model.specs.Frame.{Frame, Triple, tri, Pair, pair, Cea608, field1, field2, frameBytes}
 use Rattle.model.specs.Rate.{Budgets, budgets}
 
@@ -48,7 +49,7 @@ storable p = validPacket p && leb 1 (length (p .blocks))
 unfoldable pub validMux : Mux → Bool
 validMux s =
     leb (length (s .packets)) mostPackets
-    && (allPackets storable (s .packets)
+    && (every storable (s .packets)
     && (leb (2 * length (s .sending)) mostPacket
     && (leb (length (s .queue1)) mostQueued
     && leb (length (s .queue2)) mostQueued)))

@@ -5,6 +5,7 @@ use mathlib.Core.Option.{Option, none, some}
 use Prim.Native.Nat.{ℕ, zero, suc, _+_, _-_, _*_, _/_, _%_}
 use lib.Dec.{eqb, leb, ltb}
 use lib.ListN.{length, getD, set, drop}
+use Rattle.model.specs.Lists.{every}
 use Rattle.model.specs.Said.{Outcome, gave, refused, isGiven, andThen, mapped, lengthMismatch, wouldOverflow, readOnly, emptyService, badNumber, badRun}
 use Rattle.model.specs.Block.{Block, mostPayload, headerLength, blockSize, blockIn, readBlock, writtenBlock, blockLength, blockRoom, withRun}
 
@@ -104,19 +105,9 @@ packetRoom p = mostPacket - packetLength p
 unfoldable pub carriable : Block → Bool
 carriable b = (leb 1 (b .number) && leb (b .number) 63) && (leb 1 (length (b .payload)) && leb (length (b .payload)) mostPayload)
 
--- every one of the blocks may stand in a packet
-unfoldable pub allCarriable : List Block → Bool
-allCarriable [] = true
-allCarriable (b ∷ bs) = carriable b && allCarriable bs
-
 -- A packet that breaks no limit: "sequence above 3", "a packet holding a block 0 or a block without payload" and a length above 128 do.
 unfoldable pub validPacket : Packet → Bool
-validPacket p = leb (p .sequence) 3 && allCarriable (p .blocks) && leb (packetLength p) mostPacket
-
--- every one of the packets passes a test
-unfoldable pub allPackets : (Packet → Bool) → List Packet → Bool
-allPackets test [] = true
-allPackets test (p ∷ ps) = test p && allPackets test ps
+validPacket p = leb (p .sequence) 3 && every carriable (p .blocks) && leb (packetLength p) mostPacket
 
 -- the packet with other blocks
 abbrev pub withBlocks : List Block → Packet → Packet

@@ -4,8 +4,9 @@ use mathlib.Core.Bool.{Bool, true}
 use mathlib.Core.List.{List}
 use Prim.Native.Nat.{ℕ, _≤_}
 use lib.ListN.{length, length-replicate}
+use Rattle.model.specs.Lists.{every}
 use Rattle.model.specs.Said.{gave}
-use Rattle.model.specs.Packet.{Packet, readPacket, readTidy, writtenPacket, pushBlock, pushRunBy, packetLength, allCarriable, validPacket}
+use Rattle.model.specs.Packet.{Packet, readPacket, readTidy, writtenPacket, pushBlock, pushRunBy, packetLength, validPacket}
 use Rattle.model.proofs.Packets.{Valid, plain-back, tidy-back}
 use Rattle.model.specs.Block.{Block, validBlock}
 use Rattle.model.proofs.Cases.{gives-at}
@@ -22,7 +23,7 @@ blank-places = record { numbers = length-replicate {A = ℕ} 63 0; sizes = lengt
 
 -- and break no limit
 pub blank-valid : validDTVCC blank ≡ true
-unfolding validDTVCC validFields blocksHeld sumOf validPacket allCarriable packetLength
+unfolding validDTVCC validFields blocksHeld sumOf validPacket every packetLength
 blank-valid = refl
 
 -- a packet within the limits, laid over any places: it is held, breaks no limit and keeps the places

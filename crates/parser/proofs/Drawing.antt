@@ -7,13 +7,14 @@ use native.Mathlib.Omega.{arith}
 use lib.ListN.{length, getD, drop}
 use lib.Dec.{eqb, leb}
 use borrow.Author.Tests.{eqb-true, eqb-false, leb-true}
+use Rattle.model.specs.Lists.{every}
 use Rattle.model.specs.Said.{accepted}
 use Rattle.model.specs.Demux as model
 use Rattle.model.specs.Demux.{closed, packetsOf}
 use Rattle.model.proofs.Cases.{by-test, both}
 use Rattle.slots.specs.declared.Slot.{Slot}
 use Rattle.triples.specs.Pairs.{placedAll, pairsOf}
-use Rattle.gather.specs.Ring.{noSlot, ringFrom, slotRun, slotFine, slotsFine}
+use Rattle.gather.specs.Ring.{noSlot, ringFrom, slotRun, slotFine}
 use Rattle.gather.specs.Tests.{headFine, behindFine, pendingFine}
 use Rattle.gather.specs.declared.Front.{Front}
 use Rattle.gather.proofs.Rings.{ring-length}
@@ -67,9 +68,9 @@ module _ (p : CCDataParser) (v : Fine p) (s : Shaped p) where
     ring-is = ring-drawn (p .waiting) (p .«waiting_first») (p .«waiting_count») n (v .ring .first)
 
     -- they read
-    reading : (slotFine slot ≡ true) × (slotsFine others ≡ true)
-    unfolding slotsFine
-    reading = both (slotFine slot) (slotsFine others) (ap slotsFine (sym ring-is) ∙ v .ring .reading)
+    reading : (slotFine slot ≡ true) × (every slotFine others ≡ true)
+    unfolding every
+    reading = both (slotFine slot) (every slotFine others) (ap (every slotFine) (sym ring-is) ∙ v .ring .reading)
 
     -- so many packets are left
     left : length (packetsOf (map slotRun others)) ≡ p .«waiting_count» - 1
@@ -130,7 +131,7 @@ module _ (p : CCDataParser) (shaped : Shaped p) where
     takes t =
         let f = both (listFine (c .on) (c .pairs) (p .pairs)) (pendingFine (c .pending) (p .pending) && o .good) (sym tested ∙ t) in
         let g = both (pendingFine (c .pending) (p .pending)) (o .good) (f .1) in
-        let h = both (leb (c .first) 31) (leb (c .waiting) 32 && slotsFine (ringFrom (c .first + 1) (c .waiting - 1) (p .waiting))) (sym (front-found c (p .waiting) o front .0) ∙ g .1) in
+        let h = both (leb (c .first) 31) (leb (c .waiting) 32 && every slotFine (ringFrom (c .first + 1) (c .waiting - 1) (p .waiting))) (sym (front-found c (p .waiting) o front .0) ∙ g .1) in
         record { pairs = leb-true _ _ (both (leb (c .pairs) 31) _ (f .0) .0); first = leb-true _ _ (h .0) }
 
     -- whether the state is within the limits

@@ -8,6 +8,7 @@ use lib.ListN.{length, getD, take, drop, length-drop}
 use lib.Seq.{sets, length-take-le}
 use lib.Dec.{eqb, leb}
 use borrow.Author.Tests.{eqb-true}
+use Rattle.model.specs.Lists.{every}
 use Rattle.caption.specs.declared.Cea608.the-variants.{Field1, Field2}
 use Rattle.caption.specs.Pairs.{cea608Of}
 use Rattle.model.specs.Said.{Outcome, gave, refused, isGiven}
@@ -18,7 +19,7 @@ use Rattle.model.specs.Demux.{Demux, closed, packetsOf}
 use Rattle.model.proofs.Cases.{by-test, both}
 use Rattle.slots.specs.declared.Slot.{Slot}
 use Rattle.triples.specs.Pairs.{placedAll, pairAt, pairsOf}
-use Rattle.gather.specs.Ring.{noSlot, ringFrom, slotRun, slotFine, slotsFine}
+use Rattle.gather.specs.Ring.{noSlot, ringFrom, slotRun, slotFine}
 use Rattle.gather.proofs.Rings.{ring-round}
 use Rattle.gather.proofs.Places.{sets-first}
 use Rattle.parser.specs.Means.{means, Shaped}
@@ -90,7 +91,7 @@ slot-read s e = given _ (both (leb (s .len) 128) _ e .1)
 module _ (p : CCDataParser) (v : Fine p) (s : Shaped p) where
   -- a packet is drawn
   taken-stands : (q : Packet) (ps : List Packet) → means p .waiting ≡ q ∷ ps → Stands (placeBehind (p .«waiting_first») (p .«waiting_count»)) (p .waiting) ps
-  unfolding means slotsFine packetsOf closed
+  unfolding means every packetsOf closed
   taken-stands q ps e =
       let many : p .«waiting_count» ≡ suc (length ps) = sym (waiting-count p v) ∙ ap length e in
       let some : p .«waiting_count» ≡ 0 → ⊥ = λ z. omega arith in
@@ -98,7 +99,7 @@ module _ (p : CCDataParser) (v : Fine p) (s : Shaped p) where
       let others : List Slot = ringFrom (placeBehind (p .«waiting_first») (p .«waiting_count»)) (length ps) (p .waiting) in
       let head : Slot = getD (p .waiting) (p .«waiting_first») noSlot in
       let ring : ringFrom (p .«waiting_first») (p .«waiting_count») (p .waiting) ≡ head ∷ others = rw one at (ring-drawn (p .waiting) (p .«waiting_first») (p .«waiting_count») some (v .ring .first)) in
-      let fine = both (slotFine head) (slotsFine others) (ap slotsFine (sym ring) ∙ v .ring .reading) in
+      let fine = both (slotFine head) (every slotFine others) (ap (every slotFine) (sym ring) ∙ v .ring .reading) in
       let k = slot-read head (fine .0) in
       let same : k .0 ∷ packetsOf (map slotRun others) ≡ q ∷ ps = rw (k .1) at (ap (λ (l : List Slot). packetsOf (map slotRun l)) (sym ring) ∙ e) in
       record {

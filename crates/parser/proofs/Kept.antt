@@ -9,8 +9,9 @@ use native.Mathlib.Omega.{arith}
 use lib.ListN.{length, getD}
 use lib.Dec.{eqb, ltb}
 use borrow.Author.Tests.{eqb-true, le-ltb}
+use Rattle.model.specs.Lists.{every}
 use Rattle.model.specs.Said.{Said, full}
-use Rattle.model.specs.Packet.{Packet, allPackets}
+use Rattle.model.specs.Packet.{Packet}
 use Rattle.model.specs.Frame.{Cea608, countIn}
 use Rattle.model.specs.Demux as model
 use Rattle.model.specs.Demux.{Demux, Taken, freshDemux, turn608On, packetsOf, validPending, validDemux, lateFrom, gathered, takeGathered, takeTriples, unread, takeFrame}
@@ -20,7 +21,7 @@ use Rattle.model.proofs.DemuxStates.{demux-facts, on-valid, take-valid, draw-va
 use Rattle.triples.specs.Walk.{seenFrom}
 use Rattle.triples.specs.Pairs.{pairsOf}
 use Rattle.triples.proofs.Found.{few-triples}
-use Rattle.gather.specs.Ring.{ringFrom, slotsFine, ringFine, setRound}
+use Rattle.gather.specs.Ring.{ringFrom, ringFine, setRound}
 use Rattle.parser.specs.Means.{means}
 use Rattle.parser.specs.Valid.{fieldsFine, listFine, inOrder, valid}
 use Rattle.parser.specs.Fresh.{fresh}
@@ -33,7 +34,7 @@ use Rattle.parser.proofs.Firsts.{drawn-stands}
 
 -- a fresh state
 pub fresh-sound : Sound fresh
-unfolding fresh valid inOrder listFine fieldsFine validDemux validPending allPackets ringFine slotsFine ringFrom means pairsOf packetsOf
+unfolding fresh valid inOrder listFine fieldsFine validDemux validPending every ringFine ringFrom means pairsOf packetsOf
 fresh-sound = record { valid = refl; shaped = record { pairs = refl; pending = refl; waiting = refl } }
 
 -- it is the model's

@@ -8,6 +8,7 @@ use lib.ListN.{length, getD, take, drop}
 use lib.Seq.{sets, length-sets, length-take-le}
 use lib.Dec.{eqb, leb}
 use borrow.Author.Tests.{eqb-true, eqb-false, leb-true}
+use Rattle.model.specs.Lists.{every}
 use Rattle.model.specs.Packet.{Packet}
 use Rattle.model.specs.Frame.{Cea608, field1, field2, pair}
 use Rattle.model.specs.Demux.{Demux, packetsOf, validDemux}
@@ -17,7 +18,7 @@ use Rattle.model.proofs.Limits.{size-most}
 use Rattle.slots.specs.declared.Slot.{Slot}
 use Rattle.triples.specs.Pairs.{placedAll, pairsOf}
 use Rattle.triples.proofs.Found.{placed-length, pairs-placed}
-use Rattle.gather.specs.Ring.{ringFrom, slotRun, slotsFine}
+use Rattle.gather.specs.Ring.{ringFrom, slotRun, slotFine}
 use Rattle.gather.proofs.Places.{sets-first, take-sets, sets-same}
 use Rattle.parser.specs.Means.{means, Shaped}
 use Rattle.parser.specs.Valid.{fieldsFine, valid}
@@ -36,7 +37,7 @@ fields-placed (field2 (pair a b) ∷ ps) rest = fields-placed ps rest
 pub record Stands (f : ℕ) (slots : List Slot) (ps : List Packet) : Type 0 where
   pub first : f ≤ 31
   pub places : length slots ≡ 32
-  pub reading : slotsFine (ringFrom f (length ps) slots) ≡ true
+  pub reading : every slotFine (ringFrom f (length ps) slots) ≡ true
   pub packets : packetsOf (map slotRun (ringFrom f (length ps) slots)) ≡ ps
 
 -- a state within the limits, its arrays of their lengths

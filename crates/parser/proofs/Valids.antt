@@ -8,6 +8,7 @@ use lib.ListN.{length, getD, take, drop, replicate, length-append}
 use lib.Seq.{getD-drop, drop-drop}
 use lib.Dec.{eqb, leb}
 use borrow.Author.Tests.{eq-eqb, ne-eqb, eqb-true, eqb-false, lt-leb, le-leb, leb-true}
+use Rattle.model.specs.Lists.{every}
 use Rattle.model.specs.Packet.{reads}
 use Rattle.model.specs.Demux.{closed, packetsOf, validPending, validDemux}
 use Rattle.model.proofs.Cases.{by-test, both}
@@ -15,7 +16,7 @@ use Rattle.model.proofs.Frames.{closed-one}
 use Rattle.model.proofs.DemuxStates.{demux-facts, facts-demux, packets-valid}
 use Rattle.slots.specs.declared.Slot.{Slot}
 use Rattle.triples.specs.Pairs.{pairsOf}
-use Rattle.gather.specs.Ring.{noSlot, ringFrom, slotRun, slotFine, slotsFine, ringFine}
+use Rattle.gather.specs.Ring.{noSlot, ringFrom, slotRun, slotFine, ringFine}
 use Rattle.gather.specs.Tests.{pendingFine, headFine, behindFine, oldestOf}
 use Rattle.gather.specs.declared.Front.{Front}
 use Rattle.gather.proofs.Slots.{RingFine, ring-facts, facts-ring, behind-empty, ring-parts, fine-pending}
@@ -161,11 +162,11 @@ pairs-length zero l = refl
 pairs-length (suc n) l = ap suc (pairs-length n _)
 
 -- slots that read hold a packet each
-pub packets-length : (l : List Slot) → slotsFine l ≡ true → length (packetsOf (map slotRun l)) ≡ length l
-unfolding packetsOf slotsFine slotFine
+pub packets-length : (l : List Slot) → every slotFine l ≡ true → length (packetsOf (map slotRun l)) ≡ length l
+unfolding packetsOf every slotFine
 packets-length [] e = refl
 packets-length (s ∷ l) e =
-    let f = both (slotFine s) (slotsFine l) e in
+    let f = both (slotFine s) (every slotFine l) e in
     let g = both (leb (s .len) 128) (reads (slotRun s)) (f .0) in
     omega (arith, length-append (closed (slotRun s)) (packetsOf (map slotRun l)), closed-one (slotRun s) (g .1), packets-length l (f .1))
 

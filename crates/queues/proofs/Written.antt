@@ -9,10 +9,11 @@ use borrow.Author.Tests.{ne-eqb, eqb-true, eqb-false, le-leb, lt-leb, leb-false,
 use lib.Dec.{eqb, leb, ltb}
 use lib.ListN.{length, take, drop, getD, length-map}
 use lib.Seq.{take-take, slice-cons, slice-empty}
+use Rattle.model.specs.Lists.{every}
 use Rattle.model.proofs.Cases.{by-test, both}
 use Rattle.slots.specs.Slot.{noSlot, writtenLength, writtenSlot}
 use Rattle.slots.proofs.Written.{carried}
-use Rattle.queues.specs.Written.{allWritten, validSending, validSlots}
+use Rattle.queues.specs.Written.{validSending, validSlots}
 use Rattle.queues.specs.Steps.{writtenIf, sendsWhole}
 use Rattle.slots.specs.declared.Slot.{Slot}
 
@@ -52,11 +53,11 @@ and-fails true false r e = refl
 and-fails false v r e = refl
 
 -- the slots in front, and those behind
-all-apart : (k : ℕ) (l : List Slot) → allWritten l ≡ allWritten (take k l) && allWritten (drop k l)
-unfolding allWritten
+all-apart : (k : ℕ) (l : List Slot) → every writtenSlot l ≡ every writtenSlot (take k l) && every writtenSlot (drop k l)
+unfolding every
 all-apart zero l = refl
 all-apart (suc k) [] = refl
-all-apart (suc k) (s ∷ l) = rw (all-apart k l) (sym (and-assoc (writtenSlot s) (allWritten (take k l)) (allWritten (drop k l))))
+all-apart (suc k) (s ∷ l) = rw (all-apart k l) (sym (and-assoc (writtenSlot s) (every writtenSlot (take k l)) (every writtenSlot (drop k l))))
   where
     -- three tests, either way
     and-assoc : (u v r : Bool) → (u && v) && r ≡ u && (v && r)
@@ -66,18 +67,18 @@ all-apart (suc k) (s ∷ l) = rw (all-apart k l) (sym (and-assoc (writtenSlot s)
 -- the slots of the queue, one by one
 module _ (l : List Slot) (count : ℕ) (k : count ≤ length l) (i : ℕ) where
   -- the slot at the head passes
-  pub written-next : i < count → writtenSlot (getD l i noSlot) ≡ true → allWritten (drop i (take count l)) ≡ allWritten (drop (i + 1) (take count l))
-  unfolding allWritten
+  pub written-next : i < count → writtenSlot (getD l i noSlot) ≡ true → every writtenSlot (drop i (take count l)) ≡ every writtenSlot (drop (i + 1) (take count l))
+  unfolding every
   written-next h e = rw (slice-cons i count l noSlot h k, add-one i, e)
 
   -- it does not
-  pub written-not : i < count → writtenSlot (getD l i noSlot) ≡ false → allWritten (drop i (take count l)) ≡ false
-  unfolding allWritten
+  pub written-not : i < count → writtenSlot (getD l i noSlot) ≡ false → every writtenSlot (drop i (take count l)) ≡ false
+  unfolding every
   written-not h e = rw (slice-cons i count l noSlot h k, e)
 
   -- none is left
-  pub written-all : count ≤ i → i ≤ count → allWritten (drop i (take count l)) ≡ true
-  unfolding allWritten
+  pub written-all : count ≤ i → i ≤ count → every writtenSlot (drop i (take count l)) ≡ true
+  unfolding every
   written-all h g = let e : i ≡ count = omega arith in rw (e, slice-empty count l)
 
 -- five tests, of which the last is over the others
@@ -89,8 +90,8 @@ last-apart false y z u r = refl
 
 -- the first four slots of a queue, those of them that are taken, and the others
 first-four : (a b c d : Slot) (l : List Slot) (n : ℕ)
-    → allWritten (take n (a ∷ b ∷ c ∷ d ∷ l)) ≡ (writtenIf (ltb 0 n) a && (writtenIf (ltb 1 n) b && (writtenIf (ltb 2 n) c && writtenIf (ltb 3 n) d))) && allWritten (take (n - 4) l)
-unfolding allWritten
+    → every writtenSlot (take n (a ∷ b ∷ c ∷ d ∷ l)) ≡ (writtenIf (ltb 0 n) a && (writtenIf (ltb 1 n) b && (writtenIf (ltb 2 n) c && writtenIf (ltb 3 n) d))) && every writtenSlot (take (n - 4) l)
+unfolding every
 first-four a b c d l zero = last-apart true true true true true
 first-four a b c d l (suc zero) = last-apart (writtenSlot a) true true true true
 first-four a b c d l (suc (suc zero)) = last-apart (writtenSlot a) (writtenSlot b) true true true
@@ -99,11 +100,11 @@ first-four a b c d l (suc (suc (suc (suc n)))) =
     let m : ℕ = suc (suc (suc (suc n))) in
     let e : m - 4 ≡ n = omega arith in
     rw (lt-ltb 0 m (omega arith), lt-ltb 1 m (omega arith), lt-ltb 2 m (omega arith), lt-ltb 3 m (omega arith), e)
-    (last-apart (writtenSlot a) (writtenSlot b) (writtenSlot c) (writtenSlot d) (allWritten (take n l)))
+    (last-apart (writtenSlot a) (writtenSlot b) (writtenSlot c) (writtenSlot d) (every writtenSlot (take n l)))
 
 -- the same by their places
 four-apart : (l : List Slot) (n : ℕ) → 4 ≤ length l
-    → allWritten (take n l) ≡ (writtenIf (ltb 0 n) (getD l 0 noSlot) && (writtenIf (ltb 1 n) (getD l 1 noSlot) && (writtenIf (ltb 2 n) (getD l 2 noSlot) && writtenIf (ltb 3 n) (getD l 3 noSlot)))) && allWritten (take (n - 4) (drop 4 l))
+    → every writtenSlot (take n l) ≡ (writtenIf (ltb 0 n) (getD l 0 noSlot) && (writtenIf (ltb 1 n) (getD l 1 noSlot) && (writtenIf (ltb 2 n) (getD l 2 noSlot) && writtenIf (ltb 3 n) (getD l 3 noSlot)))) && every writtenSlot (take (n - 4) (drop 4 l))
 four-apart [] n h = absurd (omega arith)
 four-apart (a ∷ []) n h = absurd (omega arith)
 four-apart (a ∷ b ∷ []) n h = absurd (omega arith)
@@ -117,25 +118,25 @@ module _ (x : Bool) (l : List Slot) (n : ℕ) (places : length l ≡ 16) (few : 
   fours = writtenIf (ltb 0 n) (getD l 0 noSlot) && (writtenIf (ltb 1 n) (getD l 1 noSlot) && (writtenIf (ltb 2 n) (getD l 2 noSlot) && writtenIf (ltb 3 n) (getD l 3 noSlot)))
 
   -- there are no others
-  pub row-short : n ≤ 4 → x && fours ≡ x && allWritten (take n l)
-  unfolding allWritten
+  pub row-short : n ≤ 4 → x && fours ≡ x && every writtenSlot (take n l)
+  unfolding every
   row-short h = let e : n - 4 ≡ 0 = omega arith in ap (λ (r : Bool). x && r) (sym (four-apart l n (omega arith) ∙ rw e (and-true fours)))
 
-  module _ {q : Bool} (long : 4 < n) (first : q ≡ (x && allWritten (take 4 l))) where
+  module _ {q : Bool} (long : 4 < n) (first : q ≡ (x && every writtenSlot (take 4 l))) where
     -- the first four, and the others
-    apart : allWritten (take n l) ≡ allWritten (take 4 l) && allWritten (drop 4 (take n l))
+    apart : every writtenSlot (take n l) ≡ every writtenSlot (take 4 l) && every writtenSlot (drop 4 (take n l))
     apart = all-apart 4 (take n l) ∙ rw (take-take 4 n l (omega arith))
 
     -- one of the first is none
-    pub row-fails : q ≡ false → false ≡ x && allWritten (take n l)
+    pub row-fails : q ≡ false → false ≡ x && every writtenSlot (take n l)
     row-fails f =
-        let o : x && allWritten (take 4 l) ≡ false = sym first ∙ f in
-        sym (rw apart (and-fails x (allWritten (take 4 l)) (allWritten (drop 4 (take n l))) o))
+        let o : x && every writtenSlot (take 4 l) ≡ false = sym first ∙ f in
+        sym (rw apart (and-fails x (every writtenSlot (take 4 l)) (every writtenSlot (drop 4 (take n l))) o))
 
     -- the others decide
-    pub row-rest : {r : Bool} → q ≡ true → r ≡ allWritten (drop 4 (take n l)) → r ≡ x && allWritten (take n l)
+    pub row-rest : {r : Bool} → q ≡ true → r ≡ every writtenSlot (drop 4 (take n l)) → r ≡ x && every writtenSlot (take n l)
     row-rest t e =
-        let o = both x (allWritten (take 4 l)) (sym first ∙ t) in
+        let o = both x (every writtenSlot (take 4 l)) (sym first ∙ t) in
         e ∙ rw (apart, o .0, o .1)
 
 -- the packet being sent, by the tests on the way
@@ -173,6 +174,6 @@ module _ (s : Slot) (sent : ℕ) (l : List Slot) (n : ℕ) where
 
   -- the slots decide
   pub all-packets : {q r : Bool} → n ≤ 16 → q ≡ sendsWhole (s .len) sent → q ≡ true
-      → r ≡ (writtenIf (ltb 0 (s .len)) s && allWritten (take n l)) → r ≡ validSlots s sent l n
+      → r ≡ (writtenIf (ltb 0 (s .len)) s && every writtenSlot (take n l)) → r ≡ validSlots s sent l n
   unfolding validSlots
   all-packets a z e f = f ∙ simp (le-leb _ _ a, sending-by s sent (sym z ∙ e))

@@ -4,14 +4,10 @@ use mathlib.Core.List.{List, [], _∷_}
 use Prim.Native.Nat.{ℕ, _%_}
 use lib.Dec.{eqb, leb}
 use lib.ListN.{take}
+use Rattle.model.specs.Lists.{every}
 use Rattle.model.specs.Mux.{mostPackets}
 use Rattle.slots.specs.Slot.{writtenLength, writtenSlot}
 use Rattle.slots.specs.declared.Slot.{Slot}
-
--- every slot is a written packet
-unfoldable pub allWritten : List Slot → Bool
-allWritten [] = true
-allWritten (s ∷ ss) = writtenSlot s && allWritten ss
 
 -- a slot that can be the packet being sent, of which `sent` bytes have left, two at a time; nothing is being sent where its length is 0
 unfoldable pub validSending : Slot → ℕ → Bool
@@ -19,4 +15,4 @@ validSending s sent = (eqb (s .len) 0 || writtenSlot s) && (eqb (sent % 2) 0 && 
 
 -- "16 packets beside the one being sent": the slot being sent, of which `sent` bytes have left, and the first `count` of the queue
 unfoldable pub validSlots : Slot → ℕ → List Slot → ℕ → Bool
-validSlots s sent l count = leb count mostPackets && (validSending s sent && allWritten (take count l))
+validSlots s sent l count = leb count mostPackets && (validSending s sent && every writtenSlot (take count l))

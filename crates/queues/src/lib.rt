@@ -5,7 +5,9 @@ ghost use mathlib.Core.Bool.{_&&_};
 ghost use Prim.Native.Nat.{_≤_};
 ghost use lib.Dec.{ltb};
 ghost use lib.ListN.{take, drop};
-ghost use Rattle.queues.specs.Written.{allWritten, validSlots};
+ghost use Rattle.model.specs.Lists.{every};
+ghost use Rattle.slots.specs.Slot.{writtenSlot};
+ghost use Rattle.queues.specs.Written.{validSlots};
 ghost use Rattle.queues.specs.Steps.{writtenIf, sendsWhole};
 
 // The packets that wait, beside the one being sent.
@@ -54,7 +56,7 @@ fn written_if(taken: bool, slot: Slot) -> bool
 // without a copy of the queue; only a longer queue is copied.
 fn row_written(taken: bool, slot: Slot, packets: [Slot; 16], count: usize) -> bool
     requires { ⌜ count ≤ 16 ⌝ }
-    ensures { λ r. ⌜ r ≡ (writtenIf taken slot && allWritten (take count packets)) ⌝ }
+    ensures { λ r. ⌜ r ≡ (writtenIf taken slot && every writtenSlot (take count packets)) ⌝ }
 {
     if 4 < count {
         if !row_written(taken, slot, packets, 4) {
@@ -72,7 +74,7 @@ fn row_written(taken: bool, slot: Slot, packets: [Slot; 16], count: usize) -> bo
 // The same of the slots behind the first four.
 fn others_written(packets: [Slot; 16], count: usize) -> bool
     requires { ⌜ (4 ≤ count) × (count ≤ 16) ⌝ }
-    ensures { λ r. ⌜ r ≡ allWritten (drop 4 (take count packets)) ⌝ }
+    ensures { λ r. ⌜ r ≡ every writtenSlot (drop 4 (take count packets)) ⌝ }
 {
     let mut i: usize = 4;
     while i < count {

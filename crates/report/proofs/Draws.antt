@@ -5,9 +5,10 @@ use mathlib.Core.List.{List, [], _∷_, _++_, append-assoc}
 use Prim.Native.Nat.{ℕ, zero, suc, _+_, _≤_}
 use native.Mathlib.Omega.{arith}
 use lib.ListN.{length}
+use Rattle.model.specs.Lists.{every}
 use Rattle.caption.specs.declared.Cea608.the-variants.{Field1, Field2}
 use Rattle.model.specs.Said.{Said, accepted}
-use Rattle.model.specs.Packet.{Packet, validPacket, allPackets}
+use Rattle.model.specs.Packet.{Packet, validPacket}
 use Rattle.model.specs.Frame.{Cea608, field1, field2, pair}
 use Rattle.model.specs.Demux as model
 use Rattle.model.specs.Demux.{Demux, aPair, aPacket, noItem}
@@ -124,15 +125,15 @@ none-left d e = by-items (d .on608) (d .pairs) (d .pending) (d .waiting) e
     by-items on [] g (p ∷ ps) k = absurd (omega (arith, ap (λ (i : model.Item). length (itemValues i)) k))
     by-items on [] g [] k = refl
 
-first-holds : (d : Demux) → allPackets validPacket (d .waiting) ≡ true → Holds (model.draw d .item)
-unfolding model.draw allPackets
+first-holds : (d : Demux) → every validPacket (d .waiting) ≡ true → Holds (model.draw d .item)
+unfolding model.draw every
 first-holds d v = by-items (d .on608) (d .pairs) (d .pending) (d .waiting) v
   where
     by-items : (on : _) (xs : List Cea608) (g : List ℕ) (ps : List Packet)
         → let w : Demux = record { on608 = on; pairs = xs; pending = g; waiting = ps } in
-        allPackets validPacket ps ≡ true → Holds (model.draw w .item)
+        every validPacket ps ≡ true → Holds (model.draw w .item)
     by-items on (x ∷ xs) g ps k = tt
-    by-items on [] g (p ∷ ps) k = valid-facts p (both (validPacket p) (allPackets validPacket ps) k .0)
+    by-items on [] g (p ∷ ps) k = valid-facts p (both (validPacket p) (every validPacket ps) k .0)
     by-items on [] g [] k = tt
 
 -- with none left a draw leaves all as it is

@@ -8,9 +8,10 @@ use native.Mathlib.Omega.{arith}
 use lib.Dec.{eqb, ltb}
 use lib.ListN.{length, getD, drop, length-append}
 use borrow.Author.Tests.{eqb-true, eqb-false, ltb-true, ltb-false}
+use Rattle.model.specs.Lists.{every}
 use Rattle.model.specs.Said.{Said, badValue}
 use Rattle.model.specs.Block.{Block, blockLength}
-use Rattle.model.specs.Packet.{Packet, carriable, allCarriable, validPacket, allPackets, blocksLength}
+use Rattle.model.specs.Packet.{Packet, carriable, validPacket, blocksLength}
 use Rattle.model.specs.Frame.{Cea608, field1, field2, pair, Seen, seenAll, triplesIn, countIn}
 use Rattle.model.specs.Demux.{Demux, Taken, Gathered, packetsOf, pairsIn, lateFrom, gathered, takeGathered, takeTriples, unread, takeFrame}
 use Rattle.model.proofs.Cases.{by-test, by-cond, both}
@@ -59,11 +60,11 @@ block-least b h =
     (λ e. omega (arith, length-long b (ltb-false _ _ e) h))
 
 -- the lines of a packet's blocks: 10 + 2 n is at most 6 (1 + n)
-blocks-fit : (bs : List Block) → allCarriable bs ≡ true → length (blockLines bs) ≤ 6 * blocksLength bs
-unfolding blockLines allCarriable blocksLength
+blocks-fit : (bs : List Block) → every carriable bs ≡ true → length (blockLines bs) ≤ 6 * blocksLength bs
+unfolding blockLines every blocksLength
 blocks-fit [] ok = omega arith
 blocks-fit (b ∷ bs) ok =
-    let f = both (carriable b) (allCarriable bs) ok in
+    let f = both (carriable b) (every carriable bs) ok in
     let c = carriable-facts b (f .0) in
     rw (two (blockLine (b .number) (b .payload)) (blockLines bs))
     (omega (arith, block-fits (b .number) (b .payload) (c .known), blocks-fit bs (f .1), block-least b (c .filled), c .filled))
@@ -87,15 +88,15 @@ packet-fits p v =
     rw (two ((word "packet " ++ decimal (p .sequence)) ++ word "\n") (blockLines (p .blocks)), two (word "packet " ++ decimal (p .sequence)) (word "\n"), two (word "packet ") (decimal (p .sequence)))
     (omega (arith, d, blocks-fit (p .blocks) (v .blocks), blocks-short p v))
 
-packets-fit : (ps : List Packet) → allPackets validPacket ps ≡ true → length (packetsLines ps) ≤ 771 * length ps
-unfolding packetsLines allPackets
+packets-fit : (ps : List Packet) → every validPacket ps ≡ true → length (packetsLines ps) ≤ 771 * length ps
+unfolding packetsLines every
 packets-fit [] ok = omega arith
 packets-fit (p ∷ ps) ok =
-    let f = both (validPacket p) (allPackets validPacket ps) ok in
+    let f = both (validPacket p) (every validPacket ps) ok in
     rw (two (packetLines p) (packetsLines ps)) (omega (arith, packet-fits p (valid-facts p (f .0)), packets-fit ps (f .1)))
 
 -- everything that waits
-waiting-fits : (d : Demux) → length (d .pairs) ≤ 31 → length (d .waiting) ≤ 32 → allPackets validPacket (d .waiting) ≡ true
+waiting-fits : (d : Demux) → length (d .pairs) ≤ 31 → length (d .waiting) ≤ 32 → every validPacket (d .waiting) ≡ true
     → length (waitingLines d) ≤ 25044
 unfolding waitingLines
 waiting-fits d h k ok =

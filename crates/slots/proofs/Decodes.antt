@@ -9,8 +9,9 @@ use borrow.Author.Tests.{eqb-true, eqb-false, leb-true, ltb-true, not-true}
 use lib.Dec.{eqb, leb, ltb}
 use lib.ListN.{length, getD, take, drop, take-append-drop, length-drop}
 use lib.Seq.{length-take-le, take-suc}
+use Rattle.model.specs.Lists.{every}
 use Rattle.model.specs.Block.{Block, writtenBlock}
-use Rattle.model.specs.Packet.{Packet, packetLength, packetHeader, writtenBlocks, writtenPacket, fill, blocksLength, allCarriable}
+use Rattle.model.specs.Packet.{Packet, packetLength, packetHeader, writtenBlocks, writtenPacket, fill, blocksLength, carriable}
 use Rattle.model.proofs.Cases.{by-test, both, and-both}
 use Rattle.model.proofs.Blocks.{Carriable, facts-carriable, written-short, written-long}
 use Rattle.model.proofs.Packets.{Valid, blocks-length, length-some}
@@ -22,7 +23,7 @@ use Rattle.slots.specs.declared.Slot.{Slot}
 -- blocks that bytes are the written form of
 record Decoded (d : List ℕ) : Type 0 where
   blocks : List Block
-  ok : allCarriable blocks ≡ true
+  ok : every carriable blocks ≡ true
   same : writtenBlocks blocks ≡ d
 
 -- what the first bytes of a written block are
@@ -51,7 +52,7 @@ span h n =
 
 -- one block more in front
 ahead : (b : Block) (d e : List ℕ) → Carriable b → d ≡ writtenBlock b ++ e → Decoded e → Decoded d
-unfolding allCarriable writtenBlocks
+unfolding every writtenBlocks
 ahead b d e c s r = record { blocks = b ∷ r .blocks; ok = and-both _ _ (facts-carriable b c) (r .ok); same = rw (r .same) (sym s) }
 
 -- the block at the head, and those behind it
@@ -76,7 +77,7 @@ front x (y ∷ d) (long t a b s) h r =
 
 -- bytes that pass the walk are written blocks
 decoded : (k : ℕ) (d : List ℕ) → wholeBlocks k d ≡ true → (k ≤ length d) × Decoded (drop k d)
-unfolding wholeBlocks allCarriable writtenBlocks
+unfolding wholeBlocks every writtenBlocks
 decoded zero [] e = (omega arith, record { blocks = []; ok = refl; same = refl })
 decoded (suc k) [] e = absurd (false≢true e)
 decoded (suc k) (x ∷ d) e = let r = decoded k d e in (omega (arith, r .0), r .1)

@@ -8,8 +8,9 @@ use borrow.Author.Tests.{eq-eqb, ne-eqb, eqb-false, le-leb, ltb-true, ltb-false}
 use lib.Dec.{eqb, ltb}
 use lib.ListN.{length, getD, take, length-append}
 use lib.Seq.{take-at, getD-at}
+use Rattle.model.specs.Lists.{every}
 use Rattle.model.specs.Block.{Block, writtenBlock}
-use Rattle.model.specs.Packet.{Packet, packetLength, packetHeader, writtenBlocks, writtenPacket, fill, allCarriable, carriable}
+use Rattle.model.specs.Packet.{Packet, packetLength, packetHeader, writtenBlocks, writtenPacket, fill, carriable}
 use Rattle.model.proofs.Cases.{by-test, both}
 use Rattle.model.proofs.Blocks.{Carriable, carriable-facts, written-short, written-long}
 use Rattle.model.proofs.Packets.{Valid, Shape, shape, blocks-length, length-some}
@@ -53,11 +54,11 @@ module _ (b : Block) (d : List ℕ) (c : Carriable b) where
       rw (written-long b s, e, ne-eqb (suc (suc k)) 0 (λ y. omega arith), n) (passes (b .payload) d)
 
 -- written blocks pass the walk
-whole-written : (bs : List Block) → allCarriable bs ≡ true → wholeBlocks 0 (writtenBlocks bs) ≡ true
-unfolding wholeBlocks writtenBlocks allCarriable
+whole-written : (bs : List Block) → every carriable bs ≡ true → wholeBlocks 0 (writtenBlocks bs) ≡ true
+unfolding wholeBlocks writtenBlocks every
 whole-written [] ok = refl
 whole-written (b ∷ bs) ok =
-    let t = both (carriable b) (allCarriable bs) ok in
+    let t = both (carriable b) (every carriable bs) ok in
     let c = carriable-facts b (t .0) in
     by-test (ltb (b .number) 7) (λ e. one-short b (writtenBlocks bs) c (ltb-true _ _ e)) (λ e. one-long b (writtenBlocks bs) c (ltb-false _ _ e))
     ∙ whole-written bs (t .1)

@@ -7,12 +7,13 @@ use native.Mathlib.Omega.{arith}
 use borrow.Author.Tests.{eq-eqb, eqb-true, le-leb, leb-true}
 use lib.Dec.{eqb}
 use lib.ListN.{length}
+use Rattle.model.specs.Lists.{same}
 use Rattle.model.specs.Packet.{Packet, packetLength, writtenPacket, validPacket}
 use Rattle.model.specs.Mux.{storable, started}
 use Rattle.model.proofs.Cases.{both, and-both}
 use Rattle.model.proofs.Packets.{Valid, valid-facts, facts-valid, Shape, shape, plain-back}
 use Rattle.model.proofs.Sends.{triples-written}
-use Rattle.slots.specs.Slot.{writtenBytes, slotPacket, same, writtenSlot}
+use Rattle.slots.specs.Slot.{writtenBytes, slotPacket, writtenSlot}
 use Rattle.slots.specs.Walk.{Carries}
 use Rattle.slots.specs.declared.Slot.{Slot}
 

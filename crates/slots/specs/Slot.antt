@@ -4,6 +4,7 @@ use mathlib.Core.List.{List, [], _∷_}
 use Prim.Native.Nat.{ℕ, _+_, _%_}
 use lib.Dec.{eqb}
 use lib.ListN.{take}
+use Rattle.model.specs.Lists.{same}
 use Rattle.model.specs.Said.{after}
 use Rattle.model.specs.Packet.{Packet, packetLength, readPacket, writtenPacket}
 use Rattle.model.specs.Mux.{storable}
@@ -24,13 +25,6 @@ writtenBytes s = take (writtenLength s) (s .bytes)
 -- the packet that the bytes read as
 unfoldable pub slotPacket : Slot → Packet
 slotPacket s = after (record { sequence = 0; blocks = [] }) (readPacket (writtenBytes s))
-
--- whether bytes are the same
-unfoldable pub same : List ℕ → List ℕ → Bool
-same [] [] = true
-same [] (y ∷ e) = false
-same (x ∷ d) [] = false
-same (x ∷ d) (y ∷ e) = eqb x y && same d e
 
 -- a slot that is the written form of the packet that it reads as, one that may be queued
 unfoldable pub writtenSlot : Slot → Bool

@@ -4,8 +4,9 @@ use mathlib.Core.Bool.{Bool, true, false≢true}
 use mathlib.Core.List.{List, [], _∷_, _++_, map}
 use Prim.Native.Nat.{ℕ}
 use lib.ListN.{getD, List·getD-map}
+use Rattle.model.specs.Lists.{every}
 use Rattle.model.specs.Said.{accepted}
-use Rattle.model.specs.Packet.{Packet, validPacket, allPackets}
+use Rattle.model.specs.Packet.{Packet, validPacket}
 use Rattle.model.specs.Frame.{pair, Cea608, field1, field2}
 use Rattle.model.specs.Demux as model
 use Rattle.model.specs.Demux.{Demux, aPair, aPacket, noItem}
@@ -137,16 +138,16 @@ module _ (on : Bool) (pending : List ℕ) where
   holds pairs waiting = record { on608 = on; pairs = pairs; pending = pending; waiting = waiting }
 
   -- by what there is
-  empties-by : {p p′ : CCDataParser} {told : List Item} {is : Items} (pairs : List Cea608) (waiting : List Packet) → Empties p told is p′ → Sound p → allPackets validPacket waiting ≡ true
+  empties-by : {p p′ : CCDataParser} {told : List Item} {is : Items} (pairs : List Cea608) (waiting : List Packet) → Empties p told is p′ → Sound p → every validPacket waiting ≡ true
       → means p ≡ holds pairs waiting → Emptied (holds pairs waiting) (holds [] []) told is p′
-  unfolding model.draw allPackets ofField1 ofField2 others
+  unfolding model.draw every ofField1 ofField2 others
   empties-by {p} [] [] (nothing-left r a z) s v e =
       let k = drew p r (holds [] []) s e a in record { tells = ap (λ (i : Item). i ∷ []) (k .item); items = rw (k .item); sound = k .sound; means = k .means }
   empties-by {p} [] [] (draw r a n c) s v e = let k = drew p r (holds [] []) s e a in absurd (n (k .item))
   empties-by {p} [] (q ∷ waiting) (nothing-left r a z) s v e = let k = drew p r (holds [] (q ∷ waiting)) s e a in absurd (packet-some (sym (k .item) ∙ z))
   empties-by {p} [] (q ∷ waiting) (draw r a n c) s v e =
       let k = drew p r (holds [] (q ∷ waiting)) s e a in
-      let u = both (validPacket q) (allPackets validPacket waiting) v in
+      let u = both (validPacket q) (every validPacket waiting) v in
       rw (k .item, k .packet) (before item.Packet (laid q) refl (rw (laid-holds q (u .0))) (empties-by [] waiting c (k .sound) (u .1) (k .means)))
   empties-by {p} (x ∷ pairs) waiting (nothing-left r a z) s v e = let k = drew p r (holds (x ∷ pairs) waiting) s e a in absurd (pair-some (drawnPair x) (sym (k .item) ∙ z))
   empties-by {p} (x ∷ pairs) waiting (draw r a n c) s v e =
@@ -154,6 +155,6 @@ module _ (on : Bool) (pending : List ℕ) where
       rw (k .item) (before (item.Pair (drawnPair x)) (r .packet) refl (rw (pair-drawn x) (pair-first x pairs waiting)) (empties-by pairs waiting c (k .sound) v (k .means)))
 
 -- from a state within the limits, by what it is in the model
-pub empties-from : {p p′ : CCDataParser} {told : List Item} {is : Items} → Empties p told is p′ → Sound p → (d : Demux) → means p ≡ d → allPackets validPacket (d .waiting) ≡ true
+pub empties-from : {p p′ : CCDataParser} {told : List Item} {is : Items} → Empties p told is p′ → Sound p → (d : Demux) → means p ≡ d → every validPacket (d .waiting) ≡ true
     → Emptied d (emptied d) told is p′
 empties-from c s d e v = empties-by (d .on608) (d .pending) (d .pairs) (d .waiting) c s v e

@@ -2,13 +2,14 @@
 -- state. Assumes nothing.
 use mathlib.Core.Path.{_≡_, refl, sym, ap, _∙_}
 use mathlib.Core.Bool.{Bool, true}
+use Rattle.model.specs.Lists.{every}
 use Rattle.model.specs.Rate.{Budgets}
 use Rattle.model.specs.Mux.{Mux, validMux, withPads, writeFrame, flushMux}
 use Rattle.model.proofs.Cases.{both, and-both}
 use Rattle.model.proofs.MuxStates as model
 use Rattle.model.proofs.MuxStates.{fresh-mux, flush-mux, write-valid}
 use Rattle.turns.specs.Queue.{pairBytes, queueOver}
-use Rattle.queues.specs.Written.{allWritten, validSending}
+use Rattle.queues.specs.Written.{validSending}
 use Rattle.writer.specs.Writer.{means, inOrder, validWriter, fresh, stored, emptied, moved}
 use Rattle.writer.specs.Making.{Ok, withPadding}
 use Rattle.writer.proofs.Valid.{Shaped, Order, order-facts, facts-order, facts-valid, valid-order, valid-ok, valid-mux}
@@ -24,7 +25,7 @@ pub record Sound (w : CCDataWriter) : Type 0 where
 
 -- a fresh state
 pub fresh-sound : Sound fresh
-unfolding fresh queueOver pairBytes validWriter inOrder validSending allWritten
+unfolding fresh queueOver pairBytes validWriter inOrder validSending every
 fresh-sound =
     record {
       valid = rw means-fresh fresh-mux;

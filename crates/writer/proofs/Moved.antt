@@ -8,6 +8,7 @@ use borrow.Author.Tests.{eq-eqb, ne-eqb, eqb-true, eqb-false, le-leb, lt-leb}
 use lib.Dec.{eqb, leb}
 use lib.ListN.{length, take, drop, getD}
 use lib.Seq.{sets, take-nil, length-take-le, getD-take, length-sets}
+use Rattle.model.specs.Lists.{every}
 use Rattle.model.specs.Mux.{Mux, Sent, send, validMux}
 use Rattle.model.proofs.Cases.{by-test, by-cond, both}
 use Rattle.model.proofs.MuxStates.{mux-facts}
@@ -16,7 +17,7 @@ use Rattle.turns.proofs.Queues.{slid-front, slid-length, slid-over, over-queue,
 use Rattle.turns.proofs.Steps.{not-not}
 use Rattle.slots.specs.Slot.{noSlot, writtenLength, writtenBytes, slotPacket, writtenSlot}
 use Rattle.slots.specs.declared.Slot.{Slot}
-use Rattle.queues.specs.Written.{allWritten, validSending}
+use Rattle.queues.specs.Written.{validSending}
 use Rattle.writer.specs.Writer.{packetsOf, leftFrom, means, laidIn, moved}
 use Rattle.writer.specs.Sending.{begun, restedSlot, restedSent}
 use Rattle.writer.specs.Making.{Ok}
@@ -38,11 +39,11 @@ drop-map f (suc n) [] = refl
 drop-map f (suc n) (x ∷ l) = drop-map f n l
 
 -- slots behind others
-all-behind : (n : ℕ) (l : List Slot) → allWritten l ≡ true → allWritten (drop n l) ≡ true
-unfolding allWritten
+all-behind : (n : ℕ) (l : List Slot) → every writtenSlot l ≡ true → every writtenSlot (drop n l) ≡ true
+unfolding every
 all-behind zero l e = e
 all-behind (suc n) [] e = refl
-all-behind (suc n) (s ∷ l) e = all-behind n l (both (writtenSlot s) (allWritten l) e .1)
+all-behind (suc n) (s ∷ l) e = all-behind n l (both (writtenSlot s) (every writtenSlot l) e .1)
 
 -- the second is enough
 or-right : (a b : Bool) → b ≡ true → a || b ≡ true

@@ -8,8 +8,9 @@ use borrow.Author.Tests.{leb-true}
 use lib.Dec.{eqb, leb}
 use lib.ListN.{length, take, drop, set, replicate, length-map, length-append, drop-of-length-le}
 use lib.Seq.{sets, sets-eq, length-sets, take-at, drop-at, length-take-le}
+use Rattle.model.specs.Lists.{every}
 use Rattle.model.specs.Said.{gave, refused, mapped}
-use Rattle.model.specs.Packet.{Packet, packetLength, writtenPacket, validPacket, allPackets}
+use Rattle.model.specs.Packet.{Packet, packetLength, writtenPacket, validPacket}
 use Rattle.model.specs.Frame.{Pair, Cea608, field1, field2}
 use Rattle.model.specs.Mux.{Mux, withPads, withQueues, withPackets, flushMux, storable, validMux, queued, pushPacket, pushPair, pushCea608, mostPackets, started}
 use Rattle.model.proofs.Cases.{by-test, both, and-both, Gives}
@@ -21,7 +22,7 @@ use Rattle.turns.proofs.Steps.{not-not}
 use Rattle.slots.specs.Slot.{writtenBytes, slotPacket, writtenSlot}
 use Rattle.slots.proofs.Written.{slot-reads, facts-written}
 use Rattle.slots.specs.declared.Slot.{Slot}
-use Rattle.queues.specs.Written.{allWritten, validSending}
+use Rattle.queues.specs.Written.{validSending}
 use Rattle.writer.specs.Writer.{packetsOf, leftFrom, means, slotOf, stored, emptied}
 use Rattle.writer.specs.Making as making
 use Rattle.writer.specs.Making.{Ok, withPadding, withFields}
@@ -91,22 +92,22 @@ module _ (p : Packet) (k : storable p ≡ true) where
   slot-written = facts-written (slotOf p) p (limits .0) (limits .1) refl slot-bytes
 
 -- the slots of packets that may be queued
-slots-packets : (ps : List Packet) → allPackets storable ps ≡ true → packetsOf (map slotOf ps) ≡ ps
-unfolding allPackets
+slots-packets : (ps : List Packet) → every storable ps ≡ true → packetsOf (map slotOf ps) ≡ ps
+unfolding every
 slots-packets [] e = refl
-slots-packets (p ∷ ps) e = let t = both (storable p) (allPackets storable ps) e in rw (slot-packet p (t .0), slots-packets ps (t .1))
+slots-packets (p ∷ ps) e = let t = both (storable p) (every storable ps) e in rw (slot-packet p (t .0), slots-packets ps (t .1))
 
 -- are written packets
-slots-written : (ps : List Packet) → allPackets storable ps ≡ true → allWritten (map slotOf ps) ≡ true
-unfolding allPackets allWritten
+slots-written : (ps : List Packet) → every storable ps ≡ true → every writtenSlot (map slotOf ps) ≡ true
+unfolding every
 slots-written [] e = refl
-slots-written (p ∷ ps) e = let t = both (storable p) (allPackets storable ps) e in and-both _ _ (slot-written p (t .0)) (slots-written ps (t .1))
+slots-written (p ∷ ps) e = let t = both (storable p) (every storable ps) e in and-both _ _ (slot-written p (t .0)) (slots-written ps (t .1))
 
 -- those behind others may be queued too
-behind-storable : (ps qs : List Packet) → allPackets storable (ps ++ qs) ≡ true → allPackets storable qs ≡ true
-unfolding allPackets
+behind-storable : (ps qs : List Packet) → every storable (ps ++ qs) ≡ true → every storable qs ≡ true
+unfolding every
 behind-storable [] qs e = e
-behind-storable (p ∷ ps) qs e = behind-storable ps qs (both (storable p) (allPackets storable (ps ++ qs)) e .1)
+behind-storable (p ∷ ps) qs e = behind-storable ps qs (both (storable p) (every storable (ps ++ qs)) e .1)
 
 -- packets behind packets
 packets-append : (l m : List Slot) → packetsOf (l ++ m) ≡ packetsOf l ++ packetsOf m
@@ -114,10 +115,10 @@ packets-append [] m = refl
 packets-append (s ∷ l) m = ap (λ (ps : List Packet). slotPacket s ∷ ps) (packets-append l m)
 
 -- written slots behind written slots
-all-append : (l m : List Slot) → allWritten l ≡ true → allWritten m ≡ true → allWritten (l ++ m) ≡ true
-unfolding allWritten
+all-append : (l m : List Slot) → every writtenSlot l ≡ true → every writtenSlot m ≡ true → every writtenSlot (l ++ m) ≡ true
+unfolding every
 all-append [] m e f = f
-all-append (s ∷ l) m e f = let t = both (writtenSlot s) (allWritten l) e in and-both _ _ (t .0) (all-append l m (t .1) f)
+all-append (s ∷ l) m e f = let t = both (writtenSlot s) (every writtenSlot l) e in and-both _ _ (t .0) (all-append l m (t .1) f)
 
 module _ (w : CCDataWriter) (o : Order w) where
   -- as many packets as are counted
@@ -172,7 +173,7 @@ module _ (w : CCDataWriter) (o : Order w) where
     f = mux-facts x (g .valid)
 
     -- what stands behind may be queued
-    more-storable : allPackets storable (g .more) ≡ true
+    more-storable : every storable (g .more) ≡ true
     more-storable = behind-storable (means w .packets) (g .more) (rw (g .packets) at (f .stored))
 
     -- so many are there
@@ -232,5 +233,5 @@ module _ (w : CCDataWriter) where
 
   -- and are in order
   pub order-emptied : Order (emptied w (flushMux (means w)))
-  unfolding validSending allWritten queueOver pairBytes
+  unfolding validSending every queueOver pairBytes
   order-emptied = record { packets = omega arith; first = omega arith; second = omega arith; sending = refl; slots = refl }

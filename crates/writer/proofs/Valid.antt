@@ -8,7 +8,7 @@ use borrow.Author.Tests.{eqb-true, le-leb, lt-leb, leb-true}
 use lib.Dec.{eqb, leb}
 use lib.ListN.{length, take, getD, length-map}
 use lib.Seq.{length-take-le, getD-take}
-use Rattle.model.specs.Packet.{allPackets}
+use Rattle.model.specs.Lists.{every}
 use Rattle.model.specs.Mux.{storable, validMux}
 use Rattle.model.proofs.Cases.{by-test, both, and-both}
 use Rattle.model.proofs.MuxStates.{facts-mux}
@@ -17,7 +17,7 @@ use Rattle.slots.specs.Slot.{noSlot, writtenLength, writtenBytes, slotPacket, w
 use Rattle.slots.specs.Walk.{Carries}
 use Rattle.slots.proofs.Written.{carried, carried-storable}
 use Rattle.slots.specs.declared.Slot.{Slot}
-use Rattle.queues.specs.Written.{allWritten, validSending, validSlots}
+use Rattle.queues.specs.Written.{validSending, validSlots}
 use Rattle.queues.proofs.Written.{and-false}
 use Rattle.writer.specs.Writer.{packetsOf, means, inOrder, validWriter}
 use Rattle.writer.specs.Sending.{Held}
@@ -26,17 +26,17 @@ use Rattle.writer.proofs.Triples.{left-length}
 use Rattle.writer.specs.declared.CCDataWriter.{CCDataWriter}
 
 -- each slot passes
-pub all-each : (l : List Slot) → allWritten l ≡ true → (i : ℕ) → i < length l → writtenSlot (getD l i noSlot) ≡ true
-unfolding allWritten
+pub all-each : (l : List Slot) → every writtenSlot l ≡ true → (i : ℕ) → i < length l → writtenSlot (getD l i noSlot) ≡ true
+unfolding every
 all-each [] e i h = absurd (omega arith)
-all-each (s ∷ l) e zero h = both (writtenSlot s) (allWritten l) e .0
-all-each (s ∷ l) e (suc i) h = all-each l (both (writtenSlot s) (allWritten l) e .1) i (omega arith)
+all-each (s ∷ l) e zero h = both (writtenSlot s) (every writtenSlot l) e .0
+all-each (s ∷ l) e (suc i) h = all-each l (both (writtenSlot s) (every writtenSlot l) e .1) i (omega arith)
 
 -- each packet may be queued
-all-storable : (l : List Slot) → allWritten l ≡ true → allPackets storable (packetsOf l) ≡ true
-unfolding allWritten allPackets
+all-storable : (l : List Slot) → every writtenSlot l ≡ true → every storable (packetsOf l) ≡ true
+unfolding every
 all-storable [] e = refl
-all-storable (s ∷ l) e = let t = both (writtenSlot s) (allWritten l) e in and-both _ _ (carried-storable s (t .0)) (all-storable l (t .1))
+all-storable (s ∷ l) e = let t = both (writtenSlot s) (every writtenSlot l) e in and-both _ _ (carried-storable s (t .0)) (all-storable l (t .1))
 
 -- a packet being sent that passes its test is within the limits
 pub held-facts : (s : Slot) (sent : ℕ) → validSending s sent ≡ true → Held s sent
@@ -62,7 +62,7 @@ pub record Order (w : CCDataWriter) : Type 0 where
   pub first : 2 * w .field1 .count ≤ length (w .field1 .bytes)
   pub second : 2 * w .field2 .count ≤ length (w .field2 .bytes)
   pub sending : validSending (w .sending) (w .sent) ≡ true
-  pub slots : allWritten (take (w .«packet_count») (w .packets)) ≡ true
+  pub slots : every writtenSlot (take (w .«packet_count») (w .packets)) ≡ true
 
 module _ (w : CCDataWriter) where
   -- what the test says
@@ -72,7 +72,7 @@ module _ (w : CCDataWriter) where
       let t = both (leb (w .«packet_count») (length (w .packets))) _ e in
       let u = both (leb (2 * w .field1 .count) (length (w .field1 .bytes))) _ (t .1) in
       let v = both (leb (2 * w .field2 .count) (length (w .field2 .bytes))) _ (u .1) in
-      let x = both (validSending (w .sending) (w .sent)) (allWritten (take (w .«packet_count») (w .packets))) (v .1) in
+      let x = both (validSending (w .sending) (w .sent)) (every writtenSlot (take (w .«packet_count») (w .packets))) (v .1) in
       record { packets = leb-true _ _ (t .0); first = leb-true _ _ (u .0); second = leb-true _ _ (v .0); sending = x .0; slots = x .1 }
 
   -- and what passes it

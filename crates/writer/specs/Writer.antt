@@ -6,14 +6,15 @@ use Prim.Native.Nat.{ℕ, _-_, _*_}
 use lib.Dec.{eqb, leb}
 use lib.ListN.{length, getD, take, drop, replicate}
 use lib.Seq.{sets}
+use Rattle.model.specs.Lists.{every}
 use Rattle.model.specs.Packet.{Packet, packetLength, writtenPacket}
 use Rattle.model.specs.Frame.{Triple}
 use Rattle.model.specs.Mux.{Mux, freshMux, validMux, started, continued}
 use Rattle.turns.specs.Queue.{queueOf, queueOver}
 use Rattle.turns.specs.declared.PairQueue.{PairQueue}
-use Rattle.slots.specs.Slot.{noSlot, writtenLength, writtenBytes, slotPacket}
+use Rattle.slots.specs.Slot.{noSlot, writtenLength, writtenBytes, slotPacket, writtenSlot}
 use Rattle.slots.specs.declared.Slot.{Slot}
-use Rattle.queues.specs.Written.{allWritten, validSending}
+use Rattle.queues.specs.Written.{validSending}
 use Rattle.writer.specs.declared.CCDataWriter.{CCDataWriter}
 
 -- the packets that slots are
@@ -43,7 +44,7 @@ inOrder w =
     leb (w .«packet_count») (length (w .packets))
     && (leb (2 * w .field1 .count) (length (w .field1 .bytes))
     && (leb (2 * w .field2 .count) (length (w .field2 .bytes))
-    && (validSending (w .sending) (w .sent) && allWritten (take (w .«packet_count») (w .packets)))))
+    && (validSending (w .sending) (w .sent) && every writtenSlot (take (w .«packet_count») (w .packets)))))
 
 -- "a state .. whose counts, numbers or lengths break this page's limits" is one of which this is false
 unfoldable pub validWriter : CCDataWriter → Bool

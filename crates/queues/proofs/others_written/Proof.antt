@@ -3,7 +3,8 @@ use mathlib.Core.Path.{_≡_, refl, sym, _∙_}
 use Prim.Native.Nat.{_-_, _≤_}
 use native.Mathlib.Omega.{arith}
 use lib.ListN.{length, take, drop}
-use Rattle.queues.specs.Written.{allWritten}
+use Rattle.model.specs.Lists.{every}
+use Rattle.slots.specs.Slot.{writtenSlot}
 use Rattle.queues.proofs.Written.{length-mapped, written-next, written-not, written-all}
 use borrow.Author.Needs.{needs}
 use Rattle.queues.proofs.others_written.Statement.{statement}
@@ -13,7 +14,7 @@ use Rattle.queues.proofs.others_written.Lts as lts
 use Rattle.slots.proofs.Slot.is_written.Reads as is-written-reads
 
 abbrev Inv-loop : tie.InvT-loop
-Inv-loop count packets i₀ i = (i ≤ count) × (allWritten (drop i (take count packets)) ≡ allWritten (drop 4 (take count packets)))
+Inv-loop count packets i₀ i = (i ≤ count) × (every writtenSlot (drop i (take count packets)) ≡ every writtenSlot (drop 4 (take count packets)))
 
 abbrev μ-loop : tie.MeasureT-loop
 μ-loop count packets i₀ i = count - i
