@@ -1,10 +1,10 @@
 // A frame under construction: its first bytes, triples of pairs and packets, padding, and the copy into a lent output.
 ghost use mathlib.Core.Path.{_≡_};
 ghost use mathlib.Core.Bool.{cond, _&&_};
-ghost use mathlib.Core.List.{[], _∷_, _++_};
+ghost use mathlib.Core.List.{[], _∷_};
 ghost use Prim.Native.Nat.{_+_, _*_, _-_, _%_, _≤_};
 ghost use lib.Dec.{leb};
-ghost use lib.ListN.{length, getD, take, drop};
+ghost use lib.ListN.{getD};
 ghost use lib.Seq.{sets};
 ghost use Rattle.model.specs.Frame.{flat, mostFrame};
 ghost use Rattle.frames.specs.Frame.{headed, appended, mark, triplesAt, fillers, fits, carries, emitted};

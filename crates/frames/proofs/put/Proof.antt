@@ -1,5 +1,4 @@
 -- `frames::put` meets its contract: three stores one after another, where they fit. Assumes nothing.
-use native.Mathlib.Omega.{arith}
 use borrow.Author.Tests.{le-leb, lt-leb}
 use Rattle.frames.proofs.Stores.{three}
 use borrow.Author.Needs.{needs}

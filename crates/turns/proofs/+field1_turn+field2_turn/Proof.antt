@@ -1,6 +1,5 @@
 -- `turns::field1_turn` and `turns::field2_turn` meet their contracts: one law of `Steps` for each way out, and the turns left fall.
 -- Assumes nothing.
-use native.Mathlib.Omega.{arith}
 use Rattle.turns.proofs.Steps.{none-left1, none-left2, pair1, empty1, padded1, nothing1, pair2, padded2, nothing2}
 use borrow.Author.Needs.{needs}
 use Prim.Native.Nat.{ℕ, _<_}
