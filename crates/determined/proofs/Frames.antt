@@ -3,10 +3,10 @@ use contract.Lifetimes.{Lfts}
 use denote.Ref.{now}
 use Rattle.frames.proofs.Frame.start.Reads as start
 use Rattle.frames.proofs.Frame.has_room.Reads as has_room
-use Rattle.frames.proofs.Frame.put.Reads as put
 use Rattle.frames.proofs.Frame.carry.Reads as carry
 use Rattle.frames.proofs.Frame.pad.Reads as pad
 use Rattle.frames.proofs.Frame.emit.Reads as emit
+use Rattle.frames.proofs.put.Reads as stored
 use Rattle.determined.specs.Determines.{Determines, DeterminesLent}
 use Rattle.determined.proofs.Ways.{equal, filled}
 
@@ -17,10 +17,6 @@ Frame-start = equal
 -- `frame.has_room(n)`
 pub Frame-has-room : Determines (has_room.Post (tt {0}))
 Frame-has-room = equal
-
--- `frame.put(a, b, c)`
-pub Frame-put : Determines (put.Post (tt {0}))
-Frame-put = equal
 
 -- `frame.carry(packet, at, n)`
 pub Frame-carry : Determines (carry.Post (tt {0}))
@@ -33,3 +29,7 @@ Frame-pad = equal
 -- `frame.emit(out)`
 pub Frame-emit : (κs : Lfts 1) → DeterminesLent (λ e. now (e .1 .0)) (emit.Post κs)
 Frame-emit κs = filled
+
+-- `put(bytes, at, a, b, c)`
+pub put : (κs : Lfts 1) → DeterminesLent (λ e. now (e .0)) (stored.Post κs)
+put κs = filled

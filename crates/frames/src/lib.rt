@@ -1,12 +1,12 @@
 // A frame under construction: its first bytes, triples of pairs and packets, padding, and the copy into a lent output.
 ghost use mathlib.Core.Path.{_≡_};
 ghost use mathlib.Core.Bool.{cond, _&&_};
-ghost use mathlib.Core.List.{[], _∷_, _++_};
+ghost use mathlib.Core.List.{[], _∷_};
 ghost use Prim.Native.Nat.{_+_, _*_, _-_, _%_, _≤_};
 ghost use lib.Dec.{leb};
-ghost use lib.ListN.{length, getD, take, drop};
+ghost use lib.ListN.{getD};
 ghost use lib.Seq.{sets};
-ghost use Rattle.model.specs.Frame.{flat};
+ghost use Rattle.model.specs.Frame.{flat, mostFrame};
 ghost use Rattle.frames.specs.Frame.{headed, appended, mark, triplesAt, fillers, fits, carries, emitted};
 
 // The bytes of the longest frame.
@@ -43,22 +43,6 @@ impl Frame {
             return false;
         }
         self.len <= MOST_FRAME - 3 * n
-    }
-
-    // One more triple, if it fits.
-    pub fn put(self, a: u8, b: u8, c: u8) -> Frame
-        ensures { λ r. ⌜ r ≡ cond (fits self 1) (appended self (a ∷ b ∷ c ∷ [])) self ⌝ }
-    {
-        if self.has_room(1) {
-            let n = self.len;
-            let mut f = self;
-            f.bytes[n] = a;
-            f.bytes[n + 1] = b;
-            f.bytes[n + 2] = c;
-            f.len = n + 3;
-            return f;
-        }
-        self
     }
 
     // `n` triples of a packet from its byte `at` on, if they fit and are there.
@@ -124,6 +108,18 @@ impl Frame {
             i += 1;
         }
     }
+}
+
+// A triple in the bytes of a frame, from `at` on, if it fits.
+pub fn put(bytes: &mut [u8; 95], at: usize, a: u8, b: u8, c: u8)
+    ensures { λ _. ⌜ now (bytes .exit) ≡ cond (leb at (mostFrame - 3)) (sets (now (bytes .entry)) at (a ∷ b ∷ c ∷ [])) (now (bytes .entry)) ⌝ }
+{
+    if MOST_FRAME - 3 < at {
+        return;
+    }
+    bytes[at] = a;
+    bytes[at + 1] = b;
+    bytes[at + 2] = c;
 }
 
 // One triple of a packet: 0xFF is the first, 0xFE any other.

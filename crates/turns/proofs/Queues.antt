@@ -1,4 +1,4 @@
--- What the flat bytes of a queue are in the model: a pair pushed stands last, a pair popped stood first. Assumes nothing.
+-- What the flat bytes of a queue are in the model: a pair pushed stands last, and the last pairs stand first once others have left. Assumes nothing.
 use mathlib.Core.Path.{_≡_, refl, sym, ap, _∙_}
 use mathlib.Core.Bool.{Bool, true, false}
 use mathlib.Core.List.{List, [], _∷_, _++_, append-assoc}
@@ -9,13 +9,13 @@ use native.Mathlib.Omega.{arith}
 use borrow.Author.Tests.{le-leb, lt-leb}
 use lib.Dec.{leb}
 use lib.ListN.{length, take, drop, getD, set, length-append, length-drop, take-append-drop}
-use lib.Seq.{drop-cons, take-suc, getD-append-add, getD-drop, set-at, length-take-le, take-at, sets, sets-eq, length-sets}
+use lib.Seq.{drop-cons, take-suc, getD-append-add, getD-drop, set-at, length-take-le, take-at, take-all, sets, sets-eq, length-sets}
 use Rattle.model.specs.Said.{Said, Outcome, after, says, mapped, checked, badValue, full, accepted}
 use Rattle.model.specs.Frame.{Pair, pair}
 use Rattle.model.specs.Mux.{isNull, pushPair, queued, mostQueued}
 use Rattle.service.proofs.Runs.{sets-append, sets-front}
 use Rattle.turns.specs.Queue.{pairsOf, queueOf, pairBytes, queueOver}
-use Rattle.turns.specs.Step.{slid, pushed, popped, poppedTimes, downTo}
+use Rattle.turns.specs.Step.{slid, pushed}
 use Rattle.turns.specs.declared.PairQueue.{PairQueue}
 
 -- moving down, one place more
@@ -54,17 +54,22 @@ pub slid-none : {A : Type 0} (k : ℕ) (l : List A) → l ≡ slid k 0 l
 unfolding slid
 slid-none k l = refl
 
--- the pairs of bytes
-two-more : (l : List ℕ) (n : ℕ) → 2 ≤ n → n ≤ length l → pairsOf (take n l) ≡ pair (getD l 0 0) (getD l 1 0) ∷ pairsOf (take (n - 2) (drop 2 l))
+-- too few bytes for a pair
+pub no-pairs : (l : List ℕ) → length l ≤ 1 → pairsOf l ≡ []
 unfolding pairsOf
-two-more [] n h k = absurd (omega arith)
-two-more (a ∷ []) n h k = absurd (omega arith)
-two-more (a ∷ b ∷ l) zero h k = absurd (omega arith)
-two-more (a ∷ b ∷ l) (suc zero) h k = absurd (omega arith)
-two-more (a ∷ b ∷ l) (suc (suc n)) h k = let e : suc (suc n) - 2 ≡ n = omega arith in rw e
+no-pairs [] h = refl
+no-pairs (a ∷ []) h = refl
+no-pairs (a ∷ b ∷ l) h = absurd (omega arith)
+
+-- the first pair of bytes, and the others
+pub some-pairs : (l : List ℕ) → 1 < length l → pairsOf l ≡ pair (getD l 0 0) (getD l 1 0) ∷ pairsOf (take (length l - 2) (drop 2 l))
+unfolding pairsOf
+some-pairs [] h = absurd (omega arith)
+some-pairs (a ∷ []) h = absurd (omega arith)
+some-pairs (a ∷ b ∷ l) h = rw (take-all (suc (suc (length l)) - 2) l (omega arith))
 
 -- two bytes a pair
-pairs-length : (l : List ℕ) → length (pairsOf l) ≡ length l / 2
+pub pairs-length : (l : List ℕ) → length (pairsOf l) ≡ length l / 2
 unfolding pairsOf
 pairs-length [] = refl
 pairs-length (a ∷ []) = refl
@@ -100,11 +105,6 @@ pub record Sized (q : PairQueue) : Type 0 where
   pub few : q .count ≤ 64
   pub flat : length (q .bytes) ≡ 128
 
--- an empty queue
-pub queue-none : (q : PairQueue) → q .count ≡ 0 → queueOf q ≡ []
-unfolding queueOf pairsOf
-queue-none q e = rw e
-
 -- a queue whose pairs are there
 module _ (q : PairQueue) (h : 2 * q .count ≤ length (q .bytes)) where
   -- their bytes
@@ -136,21 +136,6 @@ module _ (q : PairQueue) (s : Sized q) where
   pub queue-length : length (queueOf q) ≡ q .count
   queue-length = count-length q there
 
-  -- a queue stays within its limits
-  pub sized-popped : Sized (popped q)
-  sized-popped =
-      record { few = omega (arith, s .few); flat = slid-length 0 2 (q .bytes) (2 * q .count - 2) (omega (arith, s .few, s .flat)) ∙ s .flat }
-
-  -- the pair that leaves next
-  pub queue-some : 1 ≤ q .count → queueOf q ≡ pair (getD (q .bytes) 0 0) (getD (q .bytes) 1 0) ∷ queueOf (popped q)
-  unfolding queueOf
-  queue-some h =
-      let f = s .few in
-      let g = s .flat in
-      let e : 2 * (q .count - 1) ≡ 2 * q .count - 2 = omega arith in
-      two-more (q .bytes) (2 * q .count) (omega arith) (omega arith)
-      ∙ rw (e, slid-front 0 2 (q .bytes) (2 * q .count - 2) (omega arith))
-
   -- one more pair stands behind them
   pub over-pushed : (a b : ℕ) → q .count < 64 → queueOver q (queueOf q ++ (pair a b ∷ [])) ≡ pushed q a b
   unfolding queueOver pairBytes
@@ -176,37 +161,28 @@ module _ (q : PairQueue) (s : Sized q) where
     unfolding queueOver
     over-sized = record { few = few; flat = length-sets (q .bytes) 0 (pairBytes ps) ∙ s .flat }
 
--- pairs that leave one after another
-pub queue-times : (k : ℕ) (q : PairQueue) → Sized q → k ≤ q .count → queueOf (poppedTimes k q) ≡ drop k (queueOf q)
-unfolding poppedTimes
-queue-times zero q s h = refl
-queue-times (suc k) q s h =
-    queue-times k (popped q) (sized-popped q s) (omega arith) ∙ (rw (queue-some q s (omega arith)))
+-- the pairs behind the first k
+pairs-behind : (k n : ℕ) (l : List ℕ) → 2 * (k + n) ≤ length l → drop k (pairsOf (take (2 * (k + n)) l)) ≡ pairsOf (take (2 * n) (drop (2 * k) l))
+unfolding pairsOf
+pairs-behind zero n l h = rw (zero-add n)
+pairs-behind (suc k) n [] h = absurd (omega arith)
+pairs-behind (suc k) n (a ∷ []) h = absurd (omega arith)
+pairs-behind (suc k) n (a ∷ b ∷ l) h =
+    let e : 2 * (suc k + n) ≡ suc (suc (2 * (k + n))) = omega arith in
+    let f : 2 * suc k ≡ suc (suc (2 * k)) = omega arith in
+    rw (e, f) (pairs-behind k n l (omega arith))
 
--- so many pairs less
-pub count-times : (k : ℕ) (q : PairQueue) → poppedTimes k q .count ≡ q .count - k
-unfolding poppedTimes
-count-times zero q = omega arith
-count-times (suc k) q = count-times k (popped q) ∙ (omega arith)
-
--- and it stays within its limits
-pub sized-times : (k : ℕ) (q : PairQueue) → Sized q → Sized (poppedTimes k q)
-unfolding poppedTimes
-sized-times zero q s = s
-sized-times (suc k) q s = sized-times k (popped q) (sized-popped q s)
-
--- a queue that has come down to n pairs holds the last n
-pub queue-down : (n : ℕ) (q : PairQueue) → Sized q → queueOf (downTo n q) ≡ drop (q .count - n) (queueOf q)
-queue-down n q s = queue-times (q .count - n) q s (omega arith)
-
--- what comes down to the model's pairs, which stood last, holds these
-pub queue-back : (q : PairQueue) (r : List Pair) → Sized q → (length r ≤ length (queueOf q)) × (r ≡ drop (length (queueOf q) - length r) (queueOf q)) → queueOf (downTo (length r) q) ≡ r
-queue-back q r s (h, e) = queue-down (length r) q s ∙ rw (queue-length q s) at (sym e)
-
--- the pairs of a queue in the places of another
-pub over-bytes : (q p : PairQueue) → Sized p → {d : List ℕ} → d ≡ sets (q .bytes) 0 (take (2 * p .count) (p .bytes)) → _≡_ {A = PairQueue} (record { bytes = d; count = p .count }) (queueOver q (queueOf p))
-unfolding queueOver
-over-bytes q p s {d} e = rw (e, queue-length p s, queue-bytes p (there p s))
+-- the last pairs of a queue in its first places
+pub down-bytes : (q : PairQueue) (n : ℕ) {d : List ℕ} → Sized q → n ≤ q .count → d ≡ sets (q .bytes) 0 (take (2 * n) (drop (2 * (q .count - n)) (q .bytes)))
+    → _≡_ {A = PairQueue} (record { bytes = d; count = n }) (queueOver q (drop (q .count - n) (queueOf q)))
+unfolding queueOver queueOf
+down-bytes q n s h e =
+    let k : ℕ = q .count - n in
+    let c : 2 * q .count ≡ 2 * (k + n) = omega arith in
+    let half : 2 * n / 2 ≡ n = omega arith in
+    let l : length (take (2 * n) (drop (2 * k) (q .bytes))) ≡ 2 * n = length-take-le (2 * n) (drop (2 * k) (q .bytes)) (omega (arith, length-drop (2 * k) (q .bytes), s .few, s .flat)) in
+    let p : drop k (pairsOf (take (2 * q .count) (q .bytes))) ≡ pairsOf (take (2 * n) (drop (2 * k) (q .bytes))) = rw c (pairs-behind k n (q .bytes) (omega (arith, s .few, s .flat))) in
+    rw (e, p, pairs-bytes (take (2 * n) (drop (2 * k) (q .bytes))) (omega (arith, l)), pairs-length (take (2 * n) (drop (2 * k) (q .bytes))), l, half)
 
 -- One law for each way out of a push, in the order of the tests.
 module _ (q : PairQueue) (a b : ℕ) where

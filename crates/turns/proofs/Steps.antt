@@ -1,22 +1,24 @@
 -- The turns: what a turn does to the queues and the frame is what the model's turn does. Assumes nothing.
-use mathlib.Core.Path.{_≡_, refl, _∙_}
+use mathlib.Core.Path.{_≡_, refl, sym, ap, _∙_}
 use mathlib.Core.Bool.{Bool, true, false, cond, not}
-use mathlib.Core.List.{List, [], _∷_, _++_}
-use Prim.Native.Nat.{ℕ, zero, suc, _-_, _*_, _≤_, _<_}
+use mathlib.Core.List.{List, [], _∷_}
+use Prim.Native.Nat.{ℕ, zero, suc, _+_, _-_, _*_, _/_, _≤_, _<_}
 use native.Mathlib.Nat.{add-zero}
 use native.Mathlib.Omega.{arith}
-use borrow.Author.Tests.{ltb-true, ltb-false, le-leb, lt-leb}
-use lib.Dec.{ltb}
-use lib.ListN.{length, drop}
-use Rattle.model.specs.Frame.{Pair, pair, Triple, tri, flat}
-use Rattle.model.specs.Mux.{Turned, turn1, turn2}
-use Rattle.model.proofs.Cases.{by-test, by-cond}
-use Rattle.model.proofs.Frames.{flat-length}
-use Rattle.frames.proofs.Stores.{appended-flat}
-use Rattle.turns.specs.Queue.{queueOf}
-use Rattle.turns.specs.Turn.{fits, taken, turnsFrom, takenFrom}
-use Rattle.turns.specs.Step.{popped, poppedTimes, downTo, Fits, rest, triple1, triple2, sent1, sent2, stepped, laidOver}
-use Rattle.turns.proofs.Queues.{Sized, queue-none, queue-some, queue-length, queue-back, sized-popped, count-times}
+use borrow.Author.Tests.{le-leb, lt-leb}
+use lib.Dec.{leb}
+use lib.ListN.{length, getD, take, drop}
+use lib.Seq.{sets}
+use Rattle.model.specs.Frame.{Pair, pair, tri, flat}
+use Rattle.model.specs.Mux.{Turned, turn1, turn2, sentBefore}
+use Rattle.model.proofs.Cases.{by-cond}
+use Rattle.frames.specs.Frame as frames
+use Rattle.frames.proofs.Stores.{fits-true}
+use Rattle.turns.specs.Queue.{pairsOf, queueOf, queueOver}
+use Rattle.turns.specs.Turn.{fits, turnsFrom, takenFrom}
+use Rattle.turns.specs.Step.{Fits, Done}
+use Rattle.turns.proofs.Queues.{Sized, no-pairs, some-pairs, pairs-length, queue-length}
+use Rattle.turns.specs.declared.Course.{Course}
 use Rattle.turns.specs.declared.PairQueue.{PairQueue}
 use Rattle.turns.specs.declared.Turns.{Turns}
 
@@ -56,150 +58,70 @@ mutual
   leaves2 (suc n) true q1 [] = let l = leaves1 n true q1 [] in record { few = omega (arith, l .few); back1 = l .back1; back2 = l .back2 }
   leaves2 (suc n) false q1 [] = let l = leaves1 n false q1 [] in record { few = omega (arith, l .few); back1 = l .back1; back2 = l .back2 }
 
--- triples in front of those of later turns
-abbrev before : List Triple → Turned → Turned
-before x r = record { out = x ++ r .out; queue1 = r .queue1; queue2 = r .queue2; next1 = r .next1 }
+-- a triple is stored, and then those of the turns that are left
+sent-done : (h a b len : ℕ) (f g : List ℕ) (m : Turned) {r : Course} {l : List ℕ} → len + 3 ≤ 95 → g ≡ cond (leb len 92) (sets f len (h ∷ a ∷ b ∷ [])) f
+    → Done m (len + 3) g r l → Done (sentBefore (tri h a b) m) len f r l
+unfolding flat
+sent-done h a b len f g m k e d =
+    let s : len + 3 ≡ suc (suc (suc len)) = omega arith in
+    let t : len + 3 + length (flat (m .out)) ≡ len + suc (suc (suc (length (flat (m .out))))) = omega arith in
+    record { course = d .course ∙ rw t; stored = d .stored ∙ rw (e, le-leb len 92 (omega arith), s) }
 
--- an empty queue in the model
-none : (q : PairQueue) → ltb 0 (q .count) ≡ false → queueOf q ≡ []
-none q e = queue-none q (omega (arith, ltb-false 0 (q .count) e))
-
-module _ (q p : PairQueue) (s : Sized q) (z : Sized p) (n : ℕ) where
-  -- one turn of field 1 in the model
-  padded1 : (pad : Bool) → turn1 (suc n) pad [] [] ≡ before (cond pad (tri 0xF8 0x80 0x80 ∷ []) []) (turn2 n pad [] [])
-  unfolding turn1
-  padded1 true = refl
-  padded1 false = refl
-
-  -- field 1 has no pair
-  empty1 : (pad : Bool) → ltb 0 (q .count) ≡ false → turn1 (suc n) pad [] (queueOf p) ≡ before (triple1 pad q p) (turn2 n pad [] (queueOf p))
-  unfolding turn1 triple1
-  empty1 pad e =
-      by-test (ltb 0 (p .count))
-      (λ f. rw (e, f, queue-some p z (ltb-true 0 (p .count) f)))
-      (λ f. rw (e, f, none p f) (padded1 pad))
-
-  -- the triple of a field 1 turn, and what follows
-  step1 : (pad : Bool) → turn1 (suc n) pad (queueOf q) (queueOf p) ≡ before (triple1 pad q p) (turn2 n pad (queueOf (rest q)) (queueOf p))
-  unfolding turn1 triple1 rest
-  step1 pad =
-      by-test (ltb 0 (q .count))
-      (λ e. rw (e, queue-some q s (ltb-true 0 (q .count) e)))
-      (λ e. let r : rest q ≡ q = rw e in
-      rw (r, none q e) (empty1 pad e))
-
-  -- one turn of field 2 in the model
-  padded2 : (pad : Bool) → turn2 (suc n) pad (queueOf q) [] ≡ before (cond pad (tri 0xF9 0x80 0x80 ∷ []) []) (turn1 n pad (queueOf q) [])
-  unfolding turn1
-  padded2 true = refl
-  padded2 false = refl
-
-  -- the triple of a field 2 turn, and what follows
-  step2 : (pad : Bool) → turn2 (suc n) pad (queueOf q) (queueOf p) ≡ before (triple2 pad p) (turn1 n pad (queueOf q) (queueOf (rest p)))
-  unfolding turn1 triple2 rest
-  step2 pad =
-      by-test (ltb 0 (p .count))
-      (λ e. rw (e, queue-some p z (ltb-true 0 (p .count) e)))
-      (λ e. let r : rest p ≡ p = rw e in
-      rw (r, e, none p e) (padded2 pad))
-
--- a queue that its first pair may have left
-pub rest-sized : (q : PairQueue) → Sized q → Sized (rest q)
-unfolding rest
-rest-sized q s = by-cond Sized (ltb 0 (q .count)) (λ _. sized-popped q s) (λ _. s)
-
--- no pair comes back
-rest-few : (q : PairQueue) → rest q .count ≤ q .count
-unfolding rest
-rest-few q = by-cond (λ (r : PairQueue). r .count ≤ q .count) (ltb 0 (q .count)) (λ _. omega arith) (λ _. omega arith)
-
--- one pair has left already
-popped-down : (m : ℕ) (q : PairQueue) → 0 < q .count → m ≤ q .count - 1 → downTo m (popped q) ≡ downTo m q
-unfolding poppedTimes
-popped-down m q h k = let e : q .count - m ≡ suc (q .count - 1 - m) = omega arith in rw e
-
--- the same for a queue that may be empty
-down-rest : (m : ℕ) (q : PairQueue) → m ≤ rest q .count → downTo m (rest q) ≡ downTo m q
-unfolding rest
-down-rest m q =
-    by-cond (λ (r : PairQueue). m ≤ r .count → downTo m r ≡ downTo m q) (ltb 0 (q .count))
-    (λ e h. popped-down m q (ltb-true 0 (q .count) e) h)
-    (λ _ _. refl)
-
--- no pair has left
-down-all : (q : PairQueue) → Sized q → downTo (length (queueOf q)) q ≡ q
-unfolding poppedTimes
-down-all q s = let e : q .count - length (queueOf q) ≡ 0 = omega (arith, queue-length q s) in rw e
-
--- at most one triple a turn
-few1 : (pad : Bool) (q p : PairQueue) → length (triple1 pad q p) ≤ 1
-unfolding triple1
-few1 pad q p =
-    by-cond (λ (l : List Triple). length l ≤ 1) (ltb 0 (q .count)) (λ _. omega arith)
-    (λ _. by-cond (λ (l : List Triple). length l ≤ 1) (ltb 0 (p .count)) (λ _. omega arith)
-    (λ _. by-cond (λ (l : List Triple). length l ≤ 1) pad (λ _. omega arith) (λ _. omega arith)))
-
--- the same for field 2
-few2 : (pad : Bool) (p : PairQueue) → length (triple2 pad p) ≤ 1
-unfolding triple2
-few2 pad p =
-    by-cond (λ (l : List Triple). length l ≤ 1) (ltb 0 (p .count)) (λ _. omega arith)
-    (λ _. by-cond (λ (l : List Triple). length l ≤ 1) pad (λ _. omega arith) (λ _. omega arith))
-
-module _ (t : Turns) (s : Sized (t .field1)) (z : Sized (t .field2)) (pad : Bool) where
-  -- no turn is left
-  pub none-left1 : (n : ℕ) → n ≡ 0 → t .«field2_next» ≡ false → t ≡ stepped t (turn1 n pad (queueOf (t .field1)) (queueOf (t .field2)))
+-- Turns of a frame that has `len` bytes: one law for each way out, in the order of the tests.
+module _ (pad : Bool) (q1 q2 : List ℕ) (len : ℕ) (f : List ℕ) where
+  -- no turn is left, and field 1 has the next
+  pub none-left1 : (n : ℕ) → n ≡ 0 → Done (turn1 n pad (pairsOf q1) (pairsOf q2)) len f (record { left1 = length q1 / 2; left2 = length q2 / 2; «field2_next» = false; len = len }) f
   unfolding turn1 flat
-  none-left1 n e f = rw (e, down-all (t .field1) s, down-all (t .field2) z, add-zero (t .frame .len), f)
+  none-left1 n e = rw e (record { course = rw (pairs-length q1, pairs-length q2, add-zero len); stored = refl })
 
-  -- the same for field 2
-  pub none-left2 : (n : ℕ) → n ≡ 0 → t .«field2_next» ≡ true → t ≡ stepped t (turn2 n pad (queueOf (t .field1)) (queueOf (t .field2)))
+  -- no turn is left, and field 2 has the next
+  pub none-left2 : (n : ℕ) → n ≡ 0 → Done (turn2 n pad (pairsOf q1) (pairsOf q2)) len f (record { left1 = length q1 / 2; left2 = length q2 / 2; «field2_next» = true; len = len }) f
   unfolding turn1 flat
-  none-left2 n e f = rw (e, down-all (t .field1) s, down-all (t .field2) z, add-zero (t .frame .len), f)
+  none-left2 n e = rw e (record { course = rw (pairs-length q1, pairs-length q2, add-zero len); stored = refl })
 
-  -- one field 1 turn, and then the others
-  more1 : (n : ℕ) → stepped (sent1 pad t) (turn2 n pad (queueOf (rest (t .field1))) (queueOf (t .field2))) ≡ stepped t (turn1 (suc n) pad (queueOf (t .field1)) (queueOf (t .field2)))
-  more1 n =
-      let r : Turned = turn2 n pad (queueOf (rest (t .field1))) (queueOf (t .field2)) in
-      let l = leaves2 n pad (queueOf (rest (t .field1))) (queueOf (t .field2)) in
-      let k : length (r .queue1) ≤ rest (t .field1) .count = omega (arith, l .back1 .0, queue-length (rest (t .field1)) (rest-sized (t .field1) s)) in
-      rw (step1 (t .field1) (t .field2) s z n pad, down-rest (length (r .queue1)) (t .field1) k, appended-flat (t .frame) (triple1 pad (t .field1) (t .field2)) (r .out))
+  module _ (n : ℕ) (some : n ≡ 0 → ⊥) (room : len + 3 * n ≤ 95) where
+    -- a turn, and those that are left
+    one-more : n ≡ suc (n - 1)
+    one-more = omega (arith, some)
 
-  -- one field 2 turn, and then the others
-  more2 : (n : ℕ) → stepped (sent2 pad t) (turn1 n pad (queueOf (t .field1)) (queueOf (rest (t .field2)))) ≡ stepped t (turn2 (suc n) pad (queueOf (t .field1)) (queueOf (t .field2)))
-  more2 n =
-      let r : Turned = turn1 n pad (queueOf (t .field1)) (queueOf (rest (t .field2))) in
-      let l = leaves1 n pad (queueOf (t .field1)) (queueOf (rest (t .field2))) in
-      let k : length (r .queue2) ≤ rest (t .field2) .count = omega (arith, l .back2 .0, queue-length (rest (t .field2)) (rest-sized (t .field2) z)) in
-      rw (step2 (t .field1) (t .field2) s z n pad, down-rest (length (r .queue2)) (t .field2) k, appended-flat (t .frame) (triple2 pad (t .field2)) (r .out))
+    -- there is room for its triple
+    one-room : len + 3 ≤ 95
+    one-room = omega (arith, some, room)
 
-  -- a turn, and then those that are left
-  pub turn-more1 : (n : ℕ) → 1 ≤ n → stepped (sent1 pad t) (turn2 (n - 1) pad (queueOf (sent1 pad t .field1)) (queueOf (t .field2))) ≡ stepped t (turn1 n pad (queueOf (t .field1)) (queueOf (t .field2)))
-  turn-more1 zero h = absurd (omega arith)
-  turn-more1 (suc n) h = let e : suc n - 1 ≡ n = omega arith in rw e (more1 n)
+    -- field 1 has a pair
+    pub pair1 : {g : List ℕ} {r : Course} {l : List ℕ} → 1 < length q1 → g ≡ cond (leb len 92) (sets f len (0xFC ∷ getD q1 0 0 ∷ getD q1 1 0 ∷ [])) f → Done (turn2 (n - 1) pad (pairsOf (take (length q1 - 2) (drop 2 q1))) (pairsOf q2)) (len + 3) g r l → Done (turn1 n pad (pairsOf q1) (pairsOf q2)) len f r l
+    unfolding turn1
+    pair1 {g} h e d = rw (one-more, some-pairs q1 h) (sent-done _ _ _ len f g _ one-room e d)
 
-  -- the same for field 2
-  pub turn-more2 : (n : ℕ) → 1 ≤ n → stepped (sent2 pad t) (turn1 (n - 1) pad (queueOf (t .field1)) (queueOf (sent2 pad t .field2))) ≡ stepped t (turn2 n pad (queueOf (t .field1)) (queueOf (t .field2)))
-  turn-more2 zero h = absurd (omega arith)
-  turn-more2 (suc n) h = let e : suc n - 1 ≡ n = omega arith in rw e (more2 n)
+    -- field 1 has none, and field 2 has one
+    pub empty1 : {g : List ℕ} {r : Course} {l : List ℕ} → length q1 ≤ 1 → 1 < length q2 → g ≡ cond (leb len 92) (sets f len (0xFC ∷ 0x80 ∷ 0x80 ∷ [])) f → Done (turn2 (n - 1) pad (pairsOf q1) (pairsOf q2)) (len + 3) g r l → Done (turn1 n pad (pairsOf q1) (pairsOf q2)) len f r l
+    unfolding turn1
+    empty1 {g} h k e d = rw (one-more, no-pairs q1 h, some-pairs q2 k) (sent-done _ _ _ len f g _ one-room e (rw (no-pairs q1 h, some-pairs q2 k) at d))
 
-  -- there is room for the turns that are left
-  pub fit1 : (n : ℕ) → 1 ≤ n → Fits t n → Fits (sent1 pad t) (n - 1)
-  fit1 n h f =
-      record {
-        first = omega (arith, rest-few (t .field1));
-        second = f .second;
-        room = omega (arith, few1 pad (t .field1) (t .field2), flat-length (triple1 pad (t .field1) (t .field2)));
-      }
+    -- neither has one, and there is padding
+    pub padded1 : {g : List ℕ} {r : Course} {l : List ℕ} → length q1 ≤ 1 → length q2 ≤ 1 → pad ≡ true → g ≡ cond (leb len 92) (sets f len (0xF8 ∷ 0x80 ∷ 0x80 ∷ [])) f → Done (turn2 (n - 1) pad (pairsOf q1) (pairsOf q2)) (len + 3) g r l → Done (turn1 n pad (pairsOf q1) (pairsOf q2)) len f r l
+    unfolding turn1
+    padded1 {g} h k p e d = rw (one-more, no-pairs q1 h, no-pairs q2 k, p) (sent-done _ _ _ len f g _ one-room e (rw (no-pairs q1 h, no-pairs q2 k, p) at d))
 
-  -- the same for field 2
-  pub fit2 : (n : ℕ) → 1 ≤ n → Fits t n → Fits (sent2 pad t) (n - 1)
-  fit2 n h f =
-      record {
-        first = f .first;
-        second = omega (arith, rest-few (t .field2));
-        room = omega (arith, few2 pad (t .field2), flat-length (triple2 pad (t .field2)));
-      }
+    -- there is none
+    pub nothing1 : {r : Course} {l : List ℕ} → length q1 ≤ 1 → length q2 ≤ 1 → pad ≡ false → Done (turn2 (n - 1) pad (pairsOf q1) (pairsOf q2)) len f r l → Done (turn1 n pad (pairsOf q1) (pairsOf q2)) len f r l
+    unfolding turn1
+    nothing1 h k p d = rw (one-more, no-pairs q1 h, no-pairs q2 k, p) (rw (no-pairs q1 h, no-pairs q2 k, p) at d)
+
+    -- field 2 has a pair
+    pub pair2 : {g : List ℕ} {r : Course} {l : List ℕ} → 1 < length q2 → g ≡ cond (leb len 92) (sets f len (0xFD ∷ getD q2 0 0 ∷ getD q2 1 0 ∷ [])) f → Done (turn1 (n - 1) pad (pairsOf q1) (pairsOf (take (length q2 - 2) (drop 2 q2)))) (len + 3) g r l → Done (turn2 n pad (pairsOf q1) (pairsOf q2)) len f r l
+    unfolding turn1
+    pair2 {g} h e d = rw (one-more, some-pairs q2 h) (sent-done _ _ _ len f g _ one-room e d)
+
+    -- field 2 has none, and there is padding
+    pub padded2 : {g : List ℕ} {r : Course} {l : List ℕ} → length q2 ≤ 1 → pad ≡ true → g ≡ cond (leb len 92) (sets f len (0xF9 ∷ 0x80 ∷ 0x80 ∷ [])) f → Done (turn1 (n - 1) pad (pairsOf q1) (pairsOf q2)) (len + 3) g r l → Done (turn2 n pad (pairsOf q1) (pairsOf q2)) len f r l
+    unfolding turn1
+    padded2 {g} h p e d = rw (one-more, no-pairs q2 h, p) (sent-done _ _ _ len f g _ one-room e (rw (no-pairs q2 h, p) at d))
+
+    -- there is none
+    pub nothing2 : {r : Course} {l : List ℕ} → length q2 ≤ 1 → pad ≡ false → Done (turn1 (n - 1) pad (pairsOf q1) (pairsOf q2)) len f r l → Done (turn2 n pad (pairsOf q1) (pairsOf q2)) len f r l
+    unfolding turn1
+    nothing2 h p d = rw (one-more, no-pairs q2 h, p) (rw (no-pairs q2 h, p) at d)
 
 -- the turns of a frame, from the field whose turn is next
 module _ (t : Turns) (n : ℕ) (pad : Bool) where
@@ -217,45 +139,60 @@ module _ (t : Turns) (n : ℕ) (pad : Bool) where
   unfolding fits
   over2 g h = simp (le-leb _ _ g, lt-leb _ _ h)
 
-  -- more turns than any frame has triples
-  pub over3 : t .field1 .count ≤ 64 → t .field2 .count ≤ 64 → 31 < n → fits t n ≡ false
-  unfolding fits
-  over3 f g h = simp (le-leb _ _ f, le-leb _ _ g, lt-leb _ _ h)
-
   -- no room for the turns
-  pub over4 : t .field1 .count ≤ 64 → t .field2 .count ≤ 64 → n ≤ 31 → 95 - 3 * n < t .frame .len → fits t n ≡ false
+  pub over3 : t .field1 .count ≤ 64 → t .field2 .count ≤ 64 → frames.fits (t .frame) n ≡ false → fits t n ≡ false
   unfolding fits
-  over4 f g k h = simp (le-leb _ _ f, le-leb _ _ g, le-leb _ _ k, lt-leb _ _ h)
+  over3 f g h = simp (le-leb _ _ f, le-leb _ _ g, h)
 
   -- what fits passes the test
   pub fit : Fits t n → fits t n ≡ true
   unfolding fits
-  fit f =
-      let k : n ≤ 31 = omega (arith, f .room) in
-      simp (le-leb _ _ (f .first), le-leb _ _ (f .second), le-leb _ _ k, le-leb (t .frame .len) (95 - 3 * n) (omega (arith, f .room)))
+  fit f = simp (le-leb _ _ (f .first), le-leb _ _ (f .second), fits-true (t .frame) n (f .room))
 
-  module _ (f : Fits t n) (one : Sized (t .field1)) (two : Sized (t .field2)) {s r : Turns} where
-    -- what the model's turns leave stands where it is said to stand
-    laid-taken : (m : Turned) → Leaves n (queueOf (t .field1)) (queueOf (t .field2)) m → s ≡ stepped t m → r ≡ laidOver t s → r ≡ taken t m
-    laid-taken m l e g = g ∙ rw (e, queue-back (t .field1) (m .queue1) one (l .back1), queue-back (t .field2) (m .queue2) two (l .back2))
+  -- the bytes of the pairs that are queued
+  abbrev lent : PairQueue → List Pair
+  lent q = pairsOf (take (2 * q .count - 0) (drop 0 (q .bytes)))
 
-    -- field 1 has the next turn
-    pub from1 : t .«field2_next» ≡ false → s ≡ stepped t (turn1 n pad (queueOf (t .field1)) (queueOf (t .field2))) → r ≡ laidOver t s → r ≡ cond (fits t n) (takenFrom n pad t) t
+  -- the turns of queues that are lent as the bytes of their pairs
+  pub lent-turns : {len : ℕ} {f g : List ℕ} {c : Course} → Done (cond (not (t .«field2_next»)) (turn1 n pad (lent (t .field1)) (lent (t .field2))) (turn2 n pad (lent (t .field1)) (lent (t .field2)))) len f c g
+      → Done (turnsFrom n pad t) len f c g
+  unfolding turnsFrom queueOf
+  lent-turns d =
+      let z : 2 * t .field1 .count - 0 ≡ 2 * t .field1 .count = omega arith in
+      let w : 2 * t .field2 .count - 0 ≡ 2 * t .field2 .count = omega arith in
+      rw (z, w) at d
+
+  -- what the model's turns leave stands where it is said to stand
+  module _ (f : Fits t n) (one : Sized (t .field1)) (two : Sized (t .field2)) where
+    -- the turns that fit
+    abbrev turns : Turned
+    turns = turnsFrom n pad t
+
+    -- they leave no more than there was
+    pub leaves-from : Leaves n (queueOf (t .field1)) (queueOf (t .field2)) turns
     unfolding turnsFrom
-    from1 e z g = laid-taken _ (leaves1 n pad (queueOf (t .field1)) (queueOf (t .field2))) z g ∙ rw (fit f, e)
+    leaves-from =
+        by-cond (λ (m : Turned). Leaves n (queueOf (t .field1)) (queueOf (t .field2)) m) (not (t .«field2_next»))
+        (λ _. leaves1 n pad (queueOf (t .field1)) (queueOf (t .field2)))
+        (λ _. leaves2 n pad (queueOf (t .field1)) (queueOf (t .field2)))
 
-    -- field 2 has the next turn
-    pub from2 : t .«field2_next» ≡ true → s ≡ stepped t (turn2 n pad (queueOf (t .field1)) (queueOf (t .field2))) → r ≡ laidOver t s → r ≡ cond (fits t n) (takenFrom n pad t) t
-    unfolding turnsFrom
-    from2 e z g = laid-taken _ (leaves2 n pad (queueOf (t .field1)) (queueOf (t .field2))) z g ∙ rw (fit f, e)
+    -- no queue has more left than it had
+    pub few-left : {len : ℕ} {f g : List ℕ} {c : Course} → Done turns len f c g → (c .left1 ≤ t .field1 .count) × (c .left2 ≤ t .field2 .count)
+    few-left d = let l = leaves-from in
+        rw (d .course) (omega (arith, l .back1 .0, queue-length (t .field1) one), omega (arith, l .back2 .0, queue-length (t .field2) two))
 
-  -- no more pairs are left than there were
-  pub stepped-few : Fits t n → (m : Turned) (s : Turns) → s ≡ stepped t m → (s .field1 .count ≤ 64) × (s .field2 .count ≤ 64)
-  stepped-few f m s e =
-      rw e (
-        omega (arith, f .first, count-times (t .field1 .count - length (m .queue1)) (t .field1)),
-        omega (arith, f .second, count-times (t .field2 .count - length (m .queue2)) (t .field2)),
-      )
+    -- what is left of a queue stands in its first places
+    left-over : (q : PairQueue) (m : List Pair) → Sized q → Back (queueOf q) m → queueOver q (drop (q .count - length m) (queueOf q)) ≡ queueOver q m
+    left-over q m s b = ap (queueOver q) (sym (rw (queue-length q s) at (b .1)))
+
+    -- the triples are in the frame, and the queues are moved down to what is left
+    pub took : {c : Course} {g : List ℕ} {q p : PairQueue} → Done turns (t .frame .len) (t .frame .bytes) c g
+        → q ≡ queueOver (t .field1) (drop (t .field1 .count - c .left1) (queueOf (t .field1)))
+        → p ≡ queueOver (t .field2) (drop (t .field2 .count - c .left2) (queueOf (t .field2)))
+        → _≡_ {A = Turns} (record { field1 = q; field2 = p; «field2_next» = c .«field2_next»; frame = record { bytes = g; len = c .len } }) (cond (fits t n) (takenFrom n pad t) t)
+    took d h k =
+        let l = leaves-from in
+        rw (fit f, h, k, d .course, d .stored, left-over (t .field1) (turns .queue1) one (l .back1), left-over (t .field2) (turns .queue2) two (l .back2))
 
 -- the next turn is remembered as the other field's
 pub not-not : (b : Bool) → not (not b) ≡ b

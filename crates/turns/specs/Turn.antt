@@ -1,17 +1,17 @@
 -- The turns of the two fields: document 01, "Writing frames". Assumes nothing.
 use mathlib.Core.Bool.{Bool, cond, not, _&&_}
-use Prim.Native.Nat.{ℕ, _-_, _*_}
+use Prim.Native.Nat.{ℕ}
 use lib.Dec.{leb}
-use Rattle.model.specs.Frame.{flat, mostFrame}
-use Rattle.model.specs.Rate.{mostTriples}
+use Rattle.model.specs.Frame.{flat}
 use Rattle.model.specs.Mux.{Turned, turn1, turn2, mostQueued}
 use Rattle.frames.specs.Frame.{appended}
+use Rattle.frames.specs.Frame as frames
 use Rattle.turns.specs.Queue.{queueOf, queueOver}
 use Rattle.turns.specs.declared.Turns.{Turns}
 
--- "each field's queue is 64 places", "A frame is at most 95 bytes": counts within these limits, and room for n triples
+-- "each field's queue is 64 places": counts within this limit, and room for n triples
 unfoldable pub fits : Turns → ℕ → Bool
-fits t n = leb (t .field1 .count) mostQueued && (leb (t .field2 .count) mostQueued && (leb n mostTriples && leb (t .frame .len) (mostFrame - 3 * n)))
+fits t n = leb (t .field1 .count) mostQueued && (leb (t .field2 .count) mostQueued && frames.fits (t .frame) n)
 
 -- what is there after the model's turns: the queues that they leave in their places, and the triples in the frame
 abbrev pub taken : Turns → Turned → Turns

@@ -2,27 +2,23 @@
 use caption::Answer;
 use caption::Refusal;
 use frames::Frame;
+use frames::put;
 use service::put_bytes;
 ghost use mathlib.Core.Path.{_≡_};
-ghost use mathlib.Core.Bool.{true, false, cond};
-ghost use Prim.Native.Nat.{_+_, _*_, _≤_, _<_};
+ghost use mathlib.Core.Bool.{cond, not};
+ghost use Prim.Native.Nat.{_+_, _-_, _*_, _≤_};
 ghost use lib.Dec.{leb};
+ghost use lib.ListN.{drop};
 ghost use Rattle.model.specs.Said.{says, after, mapped, checked};
-ghost use Rattle.model.specs.Frame.{pair};
+ghost use Rattle.model.specs.Frame.{pair, mostFrame};
 ghost use Rattle.model.specs.Mux.{isNull, pushPair, turn1, turn2, mostQueued};
 ghost use Rattle.caption.specs.Answers.{saidAnswer};
-ghost use Rattle.turns.specs.Queue.{queueOf, queueOver};
+ghost use Rattle.turns.specs.Queue.{pairsOf, queueOf, queueOver};
 ghost use Rattle.turns.specs.Turn.{fits, takenFrom};
-ghost use Rattle.turns.specs.Step.{popped, Fits, sent1, sent2, stepped, laidOver};
+ghost use Rattle.turns.specs.Step.{Done};
 
 // The places of a field's queue.
 const MOST_QUEUED: usize = 64;
-
-// The bytes of the longest frame.
-const MOST_FRAME: usize = 95;
-
-// The most triples of a frame.
-const MOST_TRIPLES: usize = 31;
 
 // A field's queue: 64 places of two bytes, of which `count` are taken. The first leaves next.
 pub struct PairQueue {
@@ -70,37 +66,16 @@ impl PairQueue {
         }
     }
 
-    // The first pair leaves, and the others move down by one place.
-    fn pop(self) -> PairQueue
-        requires { ⌜ (1 ≤ self .count) × (self .count ≤ mostQueued) ⌝ }
-        ensures { λ r. ⌜ r ≡ popped self ⌝ }
+    // The last `left` pairs, in the places from the first on; what stands behind them stays.
+    fn down_to(self, left: usize) -> PairQueue
+        requires { ⌜ (left ≤ self .count) × (self .count ≤ mostQueued) ⌝ }
+        ensures { λ r. ⌜ r ≡ queueOver self (drop (self .count - left) (queueOf self)) ⌝ }
     {
         let n = self.count;
-        let m = 2 * n - 2;
+        let from = self.bytes;
         let mut bytes = self.bytes;
-        let mut i: usize = 0;
-        while i < m {
-            bytes[i] = bytes[i + 2];
-            i += 1;
-        }
-        PairQueue {
-            bytes,
-            count: n - 1,
-        }
-    }
-
-    // The pairs of another queue in the places of this one; what stands behind them stays.
-    fn over(self, left: PairQueue) -> PairQueue
-        requires { ⌜ left .count ≤ mostQueued ⌝ }
-        ensures { λ r. ⌜ r ≡ queueOver self (queueOf left) ⌝ }
-    {
-        let from = left.bytes;
-        let mut bytes = self.bytes;
-        put_bytes(&mut bytes, 0, &from[0..2 * left.count]);
-        PairQueue {
-            bytes,
-            count: left.count,
-        }
+        put_bytes(&mut bytes, 0, &from[2 * (n - left)..2 * n]);
+        PairQueue { bytes, count: left }
     }
 }
 
@@ -127,149 +102,130 @@ impl Turns {
     pub fn take(self, pad: bool, turns: usize) -> Turns
         ensures { λ r. ⌜ r ≡ cond (fits self turns) (takenFrom turns pad self) self ⌝ }
     {
-        let q = self.field1;
-        let p = self.field2;
+        let q1 = self.field1;
+        let q2 = self.field2;
         let f = self.frame;
-        if MOST_QUEUED < q.count {
+        if MOST_QUEUED < q1.count {
             return self;
         }
-        if MOST_QUEUED < p.count {
+        if MOST_QUEUED < q2.count {
             return self;
         }
-        if MOST_TRIPLES < turns {
-            return self;
+        if f.has_room(turns) {
+            let bytes1 = q1.bytes;
+            let bytes2 = q2.bytes;
+            let mut bytes = f.bytes;
+            let c = turns_from(
+                self.field2_next,
+                &bytes1[0..2 * q1.count],
+                &bytes2[0..2 * q2.count],
+                pad,
+                turns,
+                &mut bytes,
+                f.len,
+            );
+            let field1 = q1.down_to(c.left1);
+            let field2 = q2.down_to(c.left2);
+            return Turns {
+                field1,
+                field2,
+                field2_next: c.field2_next,
+                frame: Frame { bytes, len: c.len },
+            };
         }
-        if MOST_FRAME - 3 * turns < f.len {
-            return self;
-        }
-        if self.field2_next {
-            return lay_over(self, field2_turn(self, pad, turns));
-        }
-        lay_over(self, field1_turn(self, pad, turns))
+        self
     }
 }
 
-// What turns leave, with the queues in the places of those that were there.
-fn lay_over(old: Turns, t: Turns) -> Turns
-    requires { ⌜ (t .field1 .count ≤ mostQueued) × (t .field2 .count ≤ mostQueued) ⌝ }
-    ensures { λ r. ⌜ r ≡ laidOver old t ⌝ }
+// What turns leave: how many pairs of each queue, whether field 2 has the next turn, and how many bytes the frame then has.
+pub struct Course {
+    pub left1: usize,
+    pub left2: usize,
+    pub field2_next: bool,
+    pub len: usize,
+}
+
+// The turns from field 2 on, or from field 1 on. The queues are lent as the bytes of the pairs that have not left, the frame with `len` bytes in it.
+fn turns_from(
+    field2_next: bool,
+    q1: &[u8],
+    q2: &[u8],
+    pad: bool,
+    left: usize,
+    frame: &mut [u8; 95],
+    len: usize,
+) -> Course
+    requires { ⌜ len + 3 * left ≤ mostFrame ⌝ }
+    ensures { λ r. ⌜ Done (cond (not «field2_next») (turn1 left pad (pairsOf (now (q1 .entry))) (pairsOf (now (q2 .entry)))) (turn2 left pad (pairsOf (now (q1 .entry))) (pairsOf (now (q2 .entry))))) len (now (frame .entry)) r (now (frame .exit)) ⌝ }
 {
-    let q = old.field1;
-    let p = old.field2;
-    let field1 = q.over(t.field1);
-    let field2 = p.over(t.field2);
-    let frame = t.frame;
-    Turns {
-        field1,
-        field2,
-        field2_next: t.field2_next,
-        frame,
+    if field2_next {
+        return field2_turn(q1, q2, pad, left, frame, len);
     }
+    field1_turn(q1, q2, pad, left, frame, len)
 }
 
-// The triple of a field 1 turn: its pair; else, if field 2 has one, an empty pair before it; else padding or nothing.
-fn send1(t: Turns, pad: bool) -> Turns
-    requires { ⌜ Fits t 1 ⌝ }
-    ensures { λ r. ⌜ r ≡ sent1 pad t ⌝ }
-{
-    let q = t.field1;
-    let p = t.field2;
-    let f = t.frame;
-    if 0 < q.count {
-        let a = q.bytes[0];
-        let b = q.bytes[1];
-        let rest = q.pop();
-        let g = f.put(0xFC, a, b);
-        return Turns {
-            field1: rest,
-            field2: p,
-            field2_next: true,
-            frame: g,
-        };
-    }
-    if 0 < p.count {
-        let g = f.put(0xFC, 0x80, 0x80);
-        return Turns {
-            field1: q,
-            field2: p,
-            field2_next: true,
-            frame: g,
-        };
-    }
-    if pad {
-        let g = f.put(0xF8, 0x80, 0x80);
-        return Turns {
-            field1: q,
-            field2: p,
-            field2_next: true,
-            frame: g,
-        };
-    }
-    Turns {
-        field1: q,
-        field2: p,
-        field2_next: true,
-        frame: f,
-    }
-}
-
-// The triple of a field 2 turn: its pair; else padding or nothing.
-fn send2(t: Turns, pad: bool) -> Turns
-    requires { ⌜ Fits t 1 ⌝ }
-    ensures { λ r. ⌜ r ≡ sent2 pad t ⌝ }
-{
-    let q = t.field1;
-    let p = t.field2;
-    let f = t.frame;
-    if 0 < p.count {
-        let a = p.bytes[0];
-        let b = p.bytes[1];
-        let rest = p.pop();
-        let g = f.put(0xFD, a, b);
-        return Turns {
-            field1: q,
-            field2: rest,
-            field2_next: false,
-            frame: g,
-        };
-    }
-    if pad {
-        let g = f.put(0xF9, 0x80, 0x80);
-        return Turns {
-            field1: q,
-            field2: p,
-            field2_next: false,
-            frame: g,
-        };
-    }
-    Turns {
-        field1: q,
-        field2: p,
-        field2_next: false,
-        frame: f,
-    }
-}
-
-// A field 1 turn, and then a field 2 turn, while turns are left.
-fn field1_turn(t: Turns, pad: bool, left: usize) -> Turns
-    requires { ⌜ Fits t left × (t .«field2_next» ≡ false) ⌝ }
-    ensures { λ r. ⌜ r ≡ stepped t (turn1 left pad (queueOf (t .field1)) (queueOf (t .field2))) ⌝ }
+// A field 1 turn, and then a field 2 turn, while turns are left: its pair; else, if field 2 has one, an empty pair before it; else padding or nothing.
+fn field1_turn(
+    q1: &[u8],
+    q2: &[u8],
+    pad: bool,
+    left: usize,
+    frame: &mut [u8; 95],
+    len: usize,
+) -> Course
+    requires { ⌜ len + 3 * left ≤ mostFrame ⌝ }
+    ensures { λ r. ⌜ Done (turn1 left pad (pairsOf (now (q1 .entry))) (pairsOf (now (q2 .entry)))) len (now (frame .entry)) r (now (frame .exit)) ⌝ }
 {
     if left == 0 {
-        return t;
+        return Course {
+            left1: q1.len() / 2,
+            left2: q2.len() / 2,
+            field2_next: false,
+            len,
+        };
     }
-    let s = send1(t, pad);
-    field2_turn(s, pad, left - 1)
+    if 1 < q1.len() {
+        put(frame, len, 0xFC, q1[0], q1[1]);
+        return field2_turn(&q1[2..], q2, pad, left - 1, frame, len + 3);
+    }
+    if 1 < q2.len() {
+        put(frame, len, 0xFC, 0x80, 0x80);
+        return field2_turn(q1, q2, pad, left - 1, frame, len + 3);
+    }
+    if pad {
+        put(frame, len, 0xF8, 0x80, 0x80);
+        return field2_turn(q1, q2, pad, left - 1, frame, len + 3);
+    }
+    field2_turn(q1, q2, pad, left - 1, frame, len)
 }
 
-// A field 2 turn, and then a field 1 turn, while turns are left.
-fn field2_turn(t: Turns, pad: bool, left: usize) -> Turns
-    requires { ⌜ Fits t left × (t .«field2_next» ≡ true) ⌝ }
-    ensures { λ r. ⌜ r ≡ stepped t (turn2 left pad (queueOf (t .field1)) (queueOf (t .field2))) ⌝ }
+// A field 2 turn, and then a field 1 turn, while turns are left: its pair; else padding or nothing.
+fn field2_turn(
+    q1: &[u8],
+    q2: &[u8],
+    pad: bool,
+    left: usize,
+    frame: &mut [u8; 95],
+    len: usize,
+) -> Course
+    requires { ⌜ len + 3 * left ≤ mostFrame ⌝ }
+    ensures { λ r. ⌜ Done (turn2 left pad (pairsOf (now (q1 .entry))) (pairsOf (now (q2 .entry)))) len (now (frame .entry)) r (now (frame .exit)) ⌝ }
 {
     if left == 0 {
-        return t;
+        return Course {
+            left1: q1.len() / 2,
+            left2: q2.len() / 2,
+            field2_next: true,
+            len,
+        };
     }
-    let s = send2(t, pad);
-    field1_turn(s, pad, left - 1)
+    if 1 < q2.len() {
+        put(frame, len, 0xFD, q2[0], q2[1]);
+        return field1_turn(q1, &q2[2..], pad, left - 1, frame, len + 3);
+    }
+    if pad {
+        put(frame, len, 0xF9, 0x80, 0x80);
+        return field1_turn(q1, q2, pad, left - 1, frame, len + 3);
+    }
+    field1_turn(q1, q2, pad, left - 1, frame, len)
 }
