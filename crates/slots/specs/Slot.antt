@@ -7,7 +7,7 @@ use lib.ListN.{take, replicate}
 use lib.Seq.{sets}
 use Rattle.model.specs.Lists.{same}
 use Rattle.model.specs.Said.{after}
-use Rattle.model.specs.Packet.{Packet, packetLength, readPacket, writtenPacket}
+use Rattle.model.specs.Packet.{Packet, noPacket, packetLength, readPacket, writtenPacket}
 use Rattle.model.specs.Mux.{storable}
 use Rattle.slots.specs.declared.Slot.{Slot}
 
@@ -29,7 +29,7 @@ writtenBytes s = take (writtenLength s) (s .bytes)
 
 -- the packet that the bytes read as
 unfoldable pub slotPacket : Slot → Packet
-slotPacket s = after (record { sequence = 0; blocks = [] }) (readPacket (writtenBytes s))
+slotPacket s = after noPacket (readPacket (writtenBytes s))
 
 -- a slot that is the written form of the packet that it reads as, one that may be queued
 unfoldable pub writtenSlot : Slot → Bool
