@@ -1,6 +1,6 @@
 -- Each line of a script is its parts, laid one behind another. Assumes nothing.
 use mathlib.Core.Path.{_≡_, refl, sym, ap, _∙_}
-use mathlib.Core.Bool.{true, false}
+use mathlib.Core.Bool.{false}
 use mathlib.Core.List.{List, [], _∷_, _++_, append-nil, append-assoc}
 use Prim.Native.Nat.{ℕ}
 use lib.Dec.{eqb}
@@ -19,9 +19,10 @@ use Rattle.caption.specs.Pairs.{cea608Of}
 use Rattle.service.specs.declared.Service.{Service}
 use Rattle.service.specs.Service.{blockOf}
 use Rattle.packet.specs.declared.DTVCCPacket.{DTVCCPacket}
+use Rattle.model.specs.Demux.{pairValues}
 use Rattle.parser.specs.declared.Item.{Item}
 use Rattle.parser.specs.declared.Item.the-variants as item
-use Rattle.parser.specs.Items.{saidItem, pairValues}
+use Rattle.parser.specs.Items.{saidItem}
 use Rattle.records.specs.Laid.{Laid}
 use Rattle.records.specs.Text.{word, decimal, decimalIn, digit}
 use Rattle.records.proofs.Layings.{laid-append}

@@ -5,8 +5,8 @@ use mathlib.Core.List.{List, [], _∷_, _++_}
 use Prim.Native.Nat.{ℕ}
 use lib.Dec.{eqb}
 use lib.ListN.{length, take, drop}
-use Rattle.parser.specs.Fresh.{fresh}
-use Rattle.parser.specs.Calls.{turnedOn}
+use Rattle.parser.specs.Calls.{fresh}
+use Rattle.parser.specs.After.{turnedOn}
 use Rattle.parser.specs.declared.CCDataParser.{CCDataParser}
 use Rattle.report.specs.Report.{frameLines, settled}
 use Rattle.streams.specs.Walk.{Told, Walked, told, leftToTell, Kept}

@@ -5,7 +5,7 @@ use denote.Ref.{now}
 use Rattle.service.specs.Service as block
 use Rattle.packet.specs.Packet as packet
 use Rattle.parser.specs.declared.CCDataParser.{CCDataParser}
-use Rattle.parser.specs.Fresh as parser
+use Rattle.parser.specs.Calls as parser
 use Rattle.writer.specs.declared.CCDataWriter.{CCDataWriter}
 use Rattle.writer.specs.Writer as writer
 use Rattle.parts.specs.declared.Machine.{Machine}

@@ -1,8 +1,7 @@
 -- The demultiplexer's functions. Assumes nothing.
 use mathlib.Core.Path.{_≡_, sym, _∙_}
 use contract.Lifetimes.{Lfts}
-use Rattle.model.specs.Said.{Said}
-use Rattle.model.specs.Demux.{Demux}
+use Rattle.model.specs.Demux.{Demux, Taken}
 use Rattle.parser.specs.Means.{means}
 use Rattle.caption.proofs.Answers.{saidCounted-injective}
 use Rattle.parser.specs.Calls.{Answers}
@@ -24,8 +23,8 @@ use Rattle.determined.proofs.Ways.{equal, said}
 
 module _ {A E : Type 0} where
   -- an answer and a state
-  answers : {p : A → CCDataParser} {said : A → Said} {next : A → Demux} {after : A → CCDataParser} → Determines (λ (a : A) (r : ParserAnswer) (e : E). Answers (p a) (said a) (next a) (after a) r)
-  answers {p} {said} {next} {after} = record { result = λ a r q e f h k. answers-same (p a) (said a) (next a) (after a) r q h k }
+  answers : {t : A → Taken} {placed : A → Taken → CCDataParser} {p : A → CCDataParser} → Determines (λ (a : A) (r : ParserAnswer) (e : E). Answers (t a) (placed a) (p a) r)
+  answers {t} {placed} {p} = record { result = λ a r q e f h k. answers-same (t a) (placed a) (p a) r q h k }
 
   -- a meaning and a state
   fresh-one : {d : Demux} {q : CCDataParser} → Determines (λ (a : A) (r : CCDataParser) (e : E). (means r ≡ d) × (r ≡ q))

@@ -7,7 +7,7 @@ use denote.Ref.{now}
 use Rattle.service.specs.declared.Service.{Service}
 use Rattle.packet.specs.declared.DTVCCPacket.{DTVCCPacket}
 use Rattle.packet.specs.Packet as packet
-use Rattle.parser.specs.Fresh as parser
+use Rattle.parser.specs.Calls as parser
 use Rattle.writer.specs.Writer as writer
 use Rattle.answers.specs.Steps.{Effect, Did}
 use Rattle.parts.specs.declared.Machine.{Machine}

@@ -14,10 +14,11 @@ use Rattle.model.specs.Demux.{Gathered, kept, wants, delivered, gather, ended}
 use Rattle.model.proofs.Cases.{by-test, by-cond, both}
 use Rattle.model.proofs.Limits.{size-most}
 use Rattle.model.proofs.DemuxStates.{Gathering, size-even, size-least, gathering-more, gathering-start}
+use Rattle.slots.specs.Slot.{slotWith}
 use Rattle.slots.specs.declared.Slot.{Slot}
 use Rattle.triples.specs.Walk.{seenFrom}
 use Rattle.triples.proofs.Walks.{seen-next, seen-none, sees-void, sees-608, sees-more, sees-start}
-use Rattle.gather.specs.Ring.{slotWith, setRound}
+use Rattle.gather.specs.Ring.{setRound}
 use Rattle.gather.specs.Tests.{pendingFine}
 use Rattle.gather.specs.Gather.{Left, leftOf, Held, heldBy, putTwo, Holds, Sized, put, closesBy}
 use Rattle.gather.specs.declared.Run.{Run}
@@ -60,7 +61,7 @@ module _ {h : Held} {g : List ℕ} (v : Holds h g) where
   held-places = (omega (arith, v .size, held-few), rw (v .laid) (length-sets (replicate 128 0) 0 g ∙ zeros))
 
   -- a slot of them
-  held-slot : record { len = h .len; bytes = h .bytes } ≡ slotWith g
+  held-slot : record { len = h .len; bytes = h .bytes } ≡ slotWith (length g) g
   held-slot = rw (v .size, v .laid)
 
 -- two bytes more
@@ -251,7 +252,7 @@ pub record Going (a : Left) (f : ℕ) (l : List ℕ) (n : ℕ) (t : List Slot) (
 -- `a` is what the whole frame leaves
 module _ (f : ℕ) (l : List ℕ) (a : Left) (n : ℕ) (t : List Slot) where
   -- one run is a slot
-  left-one : (g : List ℕ) (o : Gathered) → leftOf f n t l (delivered (g ∷ []) o) ≡ leftOf f (n + 1) (set t ((f + n) % 32) (slotWith g)) l o
+  left-one : (g : List ℕ) (o : Gathered) → leftOf f n t l (delivered (g ∷ []) o) ≡ leftOf f (n + 1) (set t ((f + n) % 32) (slotWith (length g) g)) l o
   unfolding setRound
   left-one g o =
       let z : n + suc (length (o .runs)) ≡ n + 1 + length (o .runs) = omega arith in
@@ -323,7 +324,7 @@ module _ (f : ℕ) (l : List ℕ) (a : Left) (n : ℕ) (t : List Slot) where
 
         module _ (u : List Slot) (c : ℕ) where
           -- a slot behind the others, and no run more
-          none-more : leftOf f (n + 1) (set t ((f + n) % 32) (slotWith g)) l (record { runs = []; bytes = [] }) ≡ record { pending = 0; bytes = l; count = n + 1; slots = set t ((f + n) % 32) (slotWith g) }
+          none-more : leftOf f (n + 1) (set t ((f + n) % 32) (slotWith (length g) g)) l (record { runs = []; bytes = [] }) ≡ record { pending = 0; bytes = l; count = n + 1; slots = set t ((f + n) % 32) (slotWith (length g) g) }
           unfolding setRound
           none-more = let w : n + 1 + 0 ≡ n + 1 = omega arith in rw w
 

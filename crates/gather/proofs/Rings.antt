@@ -14,9 +14,14 @@ use Rattle.model.specs.Packet.{packetSize, readBy, readPacket, reads}
 use Rattle.model.proofs.Cases.{by-test, and-both, both}
 use Rattle.model.proofs.Limits.{size-most}
 use Rattle.model.proofs.Frames.{Read, none, also}
+use Rattle.slots.specs.Slot.{noSlot, slotWith}
 use Rattle.slots.specs.declared.Slot.{Slot}
-use Rattle.gather.specs.Ring.{ringFrom, noSlot, slotRun, slotFine, slotWith, setRound}
+use Rattle.gather.specs.Ring.{ringFrom, slotRun, slotFine, setRound}
 use Rattle.gather.proofs.Places.{take-sets, zeros}
+
+-- the slot of a run
+abbrev pub slotOfRun : List ℕ → Slot
+slotOfRun g = slotWith (length g) g
 
 -- places that are the same once round
 pub ring-round : (n a b : ℕ) (l : List Slot) → a % 32 ≡ b % 32 → ringFrom a n l ≡ ringFrom b n l
@@ -45,20 +50,20 @@ ring-snoc (suc n) a k l s e h q =
 pub round-length : (at : ℕ) (l : List Slot) (gs : List (List ℕ)) → length (setRound at l gs) ≡ length l
 unfolding setRound
 round-length at l [] = refl
-round-length at l (g ∷ gs) = round-length (at + 1) (set l (at % 32) (slotWith g)) gs ∙ length-set l (at % 32) (slotWith g)
+round-length at l (g ∷ gs) = round-length (at + 1) (set l (at % 32) (slotOfRun g)) gs ∙ length-set l (at % 32) (slotOfRun g)
 
 -- runs laid behind n slots, together no more than 32
 pub ring-laid : (n f : ℕ) (l : List Slot) (gs : List (List ℕ)) → n + length gs ≤ 32 → length l ≡ 32
-    → ringFrom f (n + length gs) (setRound (f + n) l gs) ≡ ringFrom f n l ++ map slotWith gs
+    → ringFrom f (n + length gs) (setRound (f + n) l gs) ≡ ringFrom f n l ++ map slotOfRun gs
 unfolding setRound
 ring-laid n f l [] h q = let z : n + 0 ≡ n = omega arith in rw (z, append-nil (ringFrom f n l))
 ring-laid n f l (g ∷ gs) h q =
     let z : n + suc (length gs) ≡ n + 1 + length gs = omega arith in
     let w : f + n + 1 ≡ f + (n + 1) = omega arith in
-    let s : Slot = slotWith g in
+    let s : Slot = slotOfRun g in
     rw (z, w)
     (ring-laid (n + 1) f (set l ((f + n) % 32) s) gs (omega arith) (length-set l ((f + n) % 32) s ∙ q)
-    ∙ rw (add-one n, ring-snoc n f ((f + n) % 32) l s refl (omega arith) q) (append-assoc (ringFrom f n l) (s ∷ []) (map slotWith gs)))
+    ∙ rw (add-one n, ring-snoc n f ((f + n) % 32) l s refl (omega arith) q) (append-assoc (ringFrom f n l) (s ∷ []) (map slotOfRun gs)))
 
 -- a run that reads has at most 128 bytes
 reads-short : (g : List ℕ) → reads g ≡ true → length g ≤ 128
@@ -71,16 +76,16 @@ reads-short g e =
     (λ w. omega (arith, ltb-false (packetSize (getD g 0 0)) (length g) w, size-most (getD g 0 0))))
 
 -- it is the run of its slot
-run-slot : (g : List ℕ) → reads g ≡ true → slotRun (slotWith g) ≡ g
+run-slot : (g : List ℕ) → reads g ≡ true → slotRun (slotOfRun g) ≡ g
 run-slot g e = take-sets (replicate 128 0) g (omega (arith, zeros, reads-short g e))
 
 -- and so of runs that read,
-pub runs-again : {gs : List (List ℕ)} → Read gs → map slotRun (map slotWith gs) ≡ gs
+pub runs-again : {gs : List (List ℕ)} → Read gs → map slotRun (map slotOfRun gs) ≡ gs
 runs-again none = refl
 runs-again (also {g} {gs} e r) = rw (run-slot g e, runs-again r)
 
 -- whose slots do
-pub runs-fine : {gs : List (List ℕ)} → Read gs → every slotFine (map slotWith gs) ≡ true
+pub runs-fine : {gs : List (List ℕ)} → Read gs → every slotFine (map slotOfRun gs) ≡ true
 unfolding every slotFine
 runs-fine none = refl
 runs-fine (also {g} {gs} e r) = rw (le-leb (length g) 128 (reads-short g e), run-slot g e, e) (runs-fine r)

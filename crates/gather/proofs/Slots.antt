@@ -13,10 +13,11 @@ use Rattle.model.specs.Packet.{packetSize, reads}
 use Rattle.model.specs.Demux.{validPending, gather, ended}
 use Rattle.model.proofs.Cases.{by-test, both}
 use Rattle.model.proofs.Limits.{size-most}
+use Rattle.slots.specs.Slot.{noSlot}
 use Rattle.slots.specs.declared.Slot.{Slot}
 use Rattle.triples.specs.Walk.{seenFrom}
-use Rattle.gather.specs.Ring.{slotFine, ringFrom, noSlot, ringFine}
-use Rattle.gather.specs.Tests.{pendingFine, headFine, behindFine, oldestOf, readyFor}
+use Rattle.gather.specs.Ring.{slotFine, ringFrom}
+use Rattle.gather.specs.Tests.{pendingFine, ringFine, headFine, behindFine, oldestOf, readyFor}
 use Rattle.gather.specs.Gather.{Left, leftOf, gatheredBy}
 
 module _ (s : Slot) where

@@ -6,13 +6,18 @@ use lib.ListN.{getD}
 use lib.Dec.{eqb, leb, ltb}
 use Rattle.model.specs.Lists.{every}
 use Rattle.model.specs.Packet.{packetSize}
+use Rattle.slots.specs.Slot.{noSlot}
 use Rattle.slots.specs.declared.Slot.{Slot}
-use Rattle.gather.specs.Ring.{noSlot, ringFrom, slotFine}
+use Rattle.gather.specs.Ring.{ringFrom, slotFine}
 use Rattle.gather.specs.declared.Front.{Front}
 
 -- the first n places hold pending bytes: none, or an even number below the size that the first of them gives
 unfoldable pub pendingFine : ℕ → List ℕ → Bool
 pendingFine n l = cond (eqb n 0) true (eqb (n % 2) 0 && ltb n (packetSize (getD l 0 0)))
+
+-- "32 waiting packets": n slots from place f on
+unfoldable pub ringFine : ℕ → ℕ → List Slot → Bool
+ringFine f n l = leb f 31 && (leb n 32 && every slotFine (ringFrom f n l))
 
 -- the slot at the ring's head, if there is one, is read by whoever takes it
 unfoldable pub headFine : ℕ → Slot → Bool

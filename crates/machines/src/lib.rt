@@ -7,12 +7,11 @@ ghost use Rattle.model.specs.Mux.{withPads, flushMux, pushPacket, pushCea608};
 ghost use Rattle.caption.specs.Answers.{saidAnswer};
 ghost use Rattle.caption.specs.Pairs.{cea608Of};
 ghost use Rattle.packet.specs.Packet.{packetOf, validDTVCC};
-ghost use Rattle.parser.specs.Fresh.{fresh as freshParser};
-ghost use Rattle.parser.specs.Calls.{saidPush, saidCall, afterCall, turnedOn, pushed as pushedFrame};
+ghost use Rattle.parser.specs.Calls.{fresh as freshParser};
 ghost use Rattle.writer.specs.Writer.{means, validWriter, fresh as freshWriter, stored, emptied};
 ghost use Rattle.writer.specs.Calls.{written};
 ghost use Rattle.answers.specs.Steps.{Did, tells, lays, becomes};
-ghost use Rattle.machines.specs.Counts.{withCounts, withQueued, draws, wrote};
+ghost use Rattle.machines.specs.Counts.{withCounts, withQueued, pushes, turnsOn, flushes, draws, wrote};
 use caption::Cea608;
 use caption::Framerate;
 use packet::DTVCCPacket;
@@ -45,21 +44,21 @@ fn told_parser(out: &mut [u8], at: usize, done: ParserAnswer) -> OnParser
 
 // A frame pushed.
 pub fn push_frame(out: &mut [u8], at: usize, before: CCDataParser, frame: &[u8]) -> OnParser
-    ensures { λ r. ⌜ Did (tells (saidPush before (now (frame .entry))) (pushedFrame before (now (frame .entry)))) (now (out .entry)) at (r .laid) (r .parser) (now (out .exit)) ⌝ }
+    ensures { λ r. ⌜ Did (pushes (now (frame .entry)) before) (now (out .entry)) at (r .laid) (r .parser) (now (out .exit)) ⌝ }
 {
     told_parser(out, at, before.push(frame))
 }
 
 // 608 turned on.
 pub fn turn_on(out: &mut [u8], at: usize, before: CCDataParser) -> OnParser
-    ensures { λ r. ⌜ Did (tells (saidCall before) (afterCall before (turnedOn before))) (now (out .entry)) at (r .laid) (r .parser) (now (out .exit)) ⌝ }
+    ensures { λ r. ⌜ Did (turnsOn before) (now (out .entry)) at (r .laid) (r .parser) (now (out .exit)) ⌝ }
 {
     told_parser(out, at, before.handle_cea608())
 }
 
 // The demultiplexer flushed.
 pub fn flush_parser(out: &mut [u8], at: usize, before: CCDataParser) -> OnParser
-    ensures { λ r. ⌜ Did (tells (saidCall before) (afterCall before freshParser)) (now (out .entry)) at (r .laid) (r .parser) (now (out .exit)) ⌝ }
+    ensures { λ r. ⌜ Did (flushes before) (now (out .entry)) at (r .laid) (r .parser) (now (out .exit)) ⌝ }
 {
     told_parser(out, at, before.flush())
 }

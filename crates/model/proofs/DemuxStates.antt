@@ -1,9 +1,9 @@
 -- Every call leaves a demultiplexer within its limits, if it was. Assumes nothing.
 use mathlib.Core.Path.{_≡_, refl}
-use mathlib.Core.Bool.{Bool, true, false, cond}
+use mathlib.Core.Bool.{Bool, true, false, cond, _||_}
 use mathlib.Core.List.{List, [], _∷_, _++_, append-nil}
 use mathlib.Core.Option.{Option, none, some}
-use Prim.Native.Nat.{ℕ, _+_, _-_, _*_, _%_, _≤_, _<_}
+use Prim.Native.Nat.{ℕ, suc, _+_, _-_, _*_, _%_, _≤_, _<_}
 use native.Mathlib.Omega.{arith}
 use lib.Dec.{eqb, ltb}
 use lib.ListN.{length, getD, take, drop, length-append, length-drop, List·getD-append}
@@ -22,6 +22,7 @@ use Rattle.model.proofs.Frames.{few-pairs}
 -- the limits of a demultiplexer, as facts
 pub record DemuxLimits (d : Demux) : Type 0 where
   pub pairs : length (d .pairs) ≤ 31
+  pub listed : d .on608 || eqb (length (d .pairs)) 0 ≡ true
   pub waiting : length (d .waiting) ≤ 32
   pub packets : every validPacket (d .waiting) ≡ true
   pub pending : validPending (d .pending) ≡ true
@@ -31,14 +32,15 @@ pub demux-facts : (d : Demux) → validDemux d ≡ true → DemuxLimits d
 unfolding validDemux
 demux-facts d e =
     let u = both _ _ e in
-    let v = both _ _ (u .1) in
+    let l = both _ _ (u .1) in
+    let v = both _ _ (l .1) in
     let w = both _ _ (v .1) in
-    record { pairs = leb-true (length (d .pairs)) 31 (u .0); waiting = leb-true (length (d .waiting)) 32 (v .0); packets = w .0; pending = w .1 }
+    record { pairs = leb-true (length (d .pairs)) 31 (u .0); listed = l .0; waiting = leb-true (length (d .waiting)) 32 (v .0); packets = w .0; pending = w .1 }
 
 -- and what is within them passes it
 pub facts-demux : (d : Demux) → DemuxLimits d → validDemux d ≡ true
 unfolding validDemux
-facts-demux d f = simp (le-leb _ _ (f .pairs), le-leb _ _ (f .waiting), f .packets, f .pending)
+facts-demux d f = simp (le-leb _ _ (f .pairs), f .listed, le-leb _ _ (f .waiting), f .packets, f .pending)
 
 -- a fresh demultiplexer is within its limits
 pub fresh-demux : validDemux freshDemux ≡ true
@@ -49,7 +51,7 @@ fresh-demux = refl
 pub on-valid : (d : Demux) → validDemux d ≡ true → validDemux (turn608On d) ≡ true
 on-valid d e =
     let f = demux-facts d e in
-    facts-demux (turn608On d) (record { pairs = omega arith; waiting = f .waiting; packets = f .packets; pending = f .pending })
+    facts-demux (turn608On d) (record { pairs = omega arith; listed = refl; waiting = f .waiting; packets = f .packets; pending = f .pending })
 
 -- and so does flush
 pub flush-valid : (d : Demux) → validDemux (flushDemux d) ≡ true
@@ -62,11 +64,12 @@ draw-valid d e = let f = demux-facts d e in by-items (d .on608) (d .pairs) (d .p
   where
     by-items : (on : Bool) (pairs : List Cea608) (pending : List ℕ) (waiting : List Packet)
         → (let s : Demux = record { on608 = on; pairs = pairs; pending = pending; waiting = waiting } in DemuxLimits s → validDemux (draw s .next) ≡ true)
-    by-items on (x ∷ pairs) pending waiting f = facts-demux _ (record { pairs = omega (arith, f .pairs); waiting = f .waiting; packets = f .packets; pending = f .pending })
+    by-items true (x ∷ pairs) pending waiting f = facts-demux _ (record { pairs = omega (arith, f .pairs); listed = refl; waiting = f .waiting; packets = f .packets; pending = f .pending })
+    by-items false (x ∷ pairs) pending waiting f = absurd (omega (arith, eqb-true (suc (length pairs)) 0 (f .listed)))
     by-items on [] pending (p ∷ waiting) f =
         let v = both (validPacket p) (every validPacket waiting) (f .packets) in
-        facts-demux _ (record { pairs = omega arith; waiting = omega (arith, f .waiting); packets = v .1; pending = f .pending })
-    by-items on [] pending [] f = facts-demux _ (record { pairs = omega arith; waiting = omega arith; packets = refl; pending = f .pending })
+        facts-demux _ (record { pairs = omega arith; listed = f .listed; waiting = omega (arith, f .waiting); packets = v .1; pending = f .pending })
+    by-items on [] pending [] f = facts-demux _ (record { pairs = omega arith; listed = f .listed; waiting = omega arith; packets = refl; pending = f .pending })
 
 -- a size is even,
 pub size-even : (h : ℕ) → packetSize h % 2 ≡ 0
@@ -176,10 +179,14 @@ kept-pairs : (on : Bool) (ps : List Cea608) → length ps ≤ 31 → length (con
 kept-pairs true ps h = h
 kept-pairs false ps h = omega arith
 
+kept-listed : (on : Bool) (ps : List Cea608) → on || eqb (length (cond on ps [])) 0 ≡ true
+kept-listed true ps = refl
+kept-listed false ps = refl
+
 module _ (d : Demux) (f : DemuxLimits d) where
   -- another list of pairs
   relisted : (ps : List Cea608) → length ps ≤ 31 → validDemux (withPairs ps d) ≡ true
-  relisted ps h = facts-demux (withPairs ps d) (record { pairs = kept-pairs (d .on608) ps h; waiting = f .waiting; packets = f .packets; pending = f .pending })
+  relisted ps h = facts-demux (withPairs ps d) (record { pairs = kept-pairs (d .on608) ps h; listed = kept-listed (d .on608) ps; waiting = f .waiting; packets = f .packets; pending = f .pending })
 
   -- what is gathered is taken, or 10
   taken-gathered : (ps : List Cea608) (o : Gathered) → length ps ≤ 31 → validPending (o .bytes) ≡ true → validDemux (takeGathered ps o d .next) ≡ true
@@ -189,6 +196,7 @@ module _ (d : Demux) (f : DemuxLimits d) where
       (λ _. facts-demux d f)
       (λ e. facts-demux _ (record {
         pairs = kept-pairs (d .on608) ps h;
+        listed = kept-listed (d .on608) ps;
         waiting = rw length-append (ltb-false 32 (length (d .waiting) + length (packetsOf (o .runs))) e);
         packets = all-append validPacket (d .waiting) (packetsOf (o .runs)) (f .packets) (packets-valid (o .runs));
         pending = k;

@@ -1,4 +1,5 @@
 pub mod Cases
+pub mod Lists
 pub mod Blocks
 pub mod BlockTrip
 pub mod Walk

@@ -7,7 +7,7 @@ use lib.Dec.{eqb, leb, ltb}
 use lib.ListN.{length, getD, take, drop}
 use Rattle.model.specs.Lists.{every}
 use Rattle.model.specs.Said.{Said, Outcome, gave, refused, accepted, lengthMismatch, cea608AfterCea708, full}
-use Rattle.model.specs.Packet.{Packet, packetSize, readPacket, reads, validPacket}
+use Rattle.model.specs.Packet.{Packet, noPacket, packetSize, readPacket, reads, validPacket}
 use Rattle.model.specs.Frame.{pair, Cea608, field1, field2, Seen, first, second, start, more, void608, void708, seenAll, triplesIn, flagged, countIn}
 
 -- whether 608 is on, the pairs of the last frame, the bytes of a packet that is not complete, the packets not yet drawn
@@ -29,14 +29,15 @@ mostPairs = 31
 unfoldable pub validPending : List ℕ → Bool
 validPending g = eqb (length g) 0 || (eqb (length g % 2) 0 && ltb (length g) (packetSize (getD g 0 0)))
 
--- A demultiplexer that breaks no limit: "32 waiting packets, 31 pairs from the last frame", each packet within its own limits, and pending bytes
--- of a packet that is not complete.
+-- A demultiplexer that breaks no limit: "32 waiting packets, 31 pairs from the last frame" and none where 608 is off, each packet within its own
+-- limits, and pending bytes of a packet that is not complete.
 unfoldable pub validDemux : Demux → Bool
 validDemux d =
     leb (length (d .pairs)) mostPairs
+    && ((d .on608 || eqb (length (d .pairs)) 0)
     && (leb (length (d .waiting)) mostWaiting
     && (every validPacket (d .waiting)
-    && validPending (d .pending)))
+    && validPending (d .pending))))
 
 -- a fresh demultiplexer: it holds nothing, and 608 is off
 abbrev pub freshDemux : Demux
@@ -146,6 +147,10 @@ pub record Taken : Type 0 where
   pub runs : List (List ℕ)
   pub next : Demux
 
+-- a call that is accepted and delivers nothing
+abbrev pub quiet : Demux → Taken
+quiet d = record { answer = accepted []; runs = []; next = d }
+
 -- the demultiplexer with another list of pairs; without 608 there is none
 abbrev pub withPairs : List Cea608 → Demux → Demux
 withPairs ps d = record { on608 = d .on608; pairs = cond (d .on608) ps []; pending = d .pending; waiting = d .waiting }
@@ -175,7 +180,7 @@ unfoldable pub takeFrame : List ℕ → Demux → Taken
 takeFrame f d =
     let n = countIn (getD f 0 0) in
     let ts = seenAll (triplesIn (drop 2 f)) in
-    cond (unread f) (record { answer = accepted []; runs = []; next = withPairs [] d })
+    cond (unread f) (quiet (withPairs [] d))
     (cond (eqb (length f) (3 * n + 2)) (takeTriples ts (lateFrom 0 ts) d)
     (record { answer = lengthMismatch (3 * n + 1) (length f); runs = []; next = withPairs [] d }))
 
@@ -184,6 +189,23 @@ pub data Item : Type 0 where
   aPair : Cea608 → Item
   aPacket : Packet → Item
   noItem : Item
+
+-- "a pair says which field": 1 or 2, and its two bytes
+abbrev pub pairValues : Cea608 → List ℕ
+pairValues (field1 (pair a b)) = 1 ∷ a ∷ b ∷ []
+pairValues (field2 (pair a b)) = 2 ∷ a ∷ b ∷ []
+
+-- what an item says: a pair, 3 for a packet, or nothing
+abbrev pub itemValues : Item → List ℕ
+itemValues (aPair x) = pairValues x
+itemValues (aPacket p) = 3 ∷ []
+itemValues noItem = []
+
+-- the packet beside an item
+abbrev pub itemPacket : Item → Packet
+itemPacket (aPair x) = noPacket
+itemPacket (aPacket p) = p
+itemPacket noItem = noPacket
 
 -- what is drawn, and the demultiplexer without it
 pub record Drawn : Type 0 where

@@ -14,6 +14,10 @@ pub record Packet : Type 0 where
   pub sequence : ℕ
   pub blocks : List Block
 
+-- what stands where there is no packet
+abbrev pub noPacket : Packet
+noPacket = record { sequence = 0; blocks = [] }
+
 -- A packet made of a sequence number alone: "sequence above 3" is 6.
 unfoldable pub newPacket : ℕ → Outcome Packet
 newPacket q = cond (ltb 3 q) (refused badNumber) (gave (record { sequence = q; blocks = [] }))

@@ -8,7 +8,7 @@ use Rattle.model.specs.Block.{newBlock}
 use Rattle.model.specs.Packet.{newPacket}
 use Rattle.service.specs.Service as block
 use Rattle.packet.specs.Packet as packet
-use Rattle.parser.specs.Fresh as parser
+use Rattle.parser.specs.Calls as parser
 use Rattle.writer.specs.Writer as writer
 use Rattle.answers.specs.Steps.{Effect}
 use Rattle.parts.specs.declared.Machine.{Machine}

@@ -3,43 +3,44 @@ use mathlib.Core.Path.{_≡_, sym, _∙_}
 use mathlib.Core.List.{List, map}
 use mathlib.Core.Bool.{Bool, true, false, true≢false}
 use Prim.Native.Nat.{ℕ}
+use native.Mathlib.Omega.{arith}
 use lib.ListN.{length, length-map}
 use Rattle.caption.specs.declared.Answer.the-variants.{Accepted}
 use Rattle.caption.specs.declared.Counted.the-variants as counted
 use Rattle.caption.specs.declared.Refusal.the-variants.{BadValue}
 use Rattle.caption.specs.Answers.{saidCounted}
 use Rattle.model.specs.Said.{measured}
-use Rattle.model.specs.Demux.{Demux}
+use Rattle.model.specs.Demux.{Demux, Taken, quiet}
 use Rattle.triples.specs.Pairs.{placedAll}
-use Rattle.parser.specs.Means.{means, Shaped}
+use Rattle.gather.specs.Ring.{setRound}
+use Rattle.parser.specs.Means.{means}
 use Rattle.parser.specs.Valid.{valid}
-use Rattle.parser.specs.Calls.{Answers, saidCall, afterCall, laidIn, turnedOn}
+use Rattle.parser.specs.Calls.{laidIn, laidAfter, Answers}
+use Rattle.parser.specs.After.{turnedOn}
 use Rattle.parser.specs.Push.{fed, refusedFor}
 use Rattle.parser.specs.declared.CCDataParser.{CCDataParser}
 use Rattle.parser.specs.declared.ParserAnswer.{ParserAnswer}
 use Rattle.parser.proofs.Valids.{valid-fine, pairs-length, waiting-count}
-use Rattle.parser.proofs.Laid.{pending-many, pending-same}
+use Rattle.parser.proofs.Laid.{Sound, pending-many, pending-same}
+use Rattle.parser.proofs.Firsts.{head-stays}
+use Rattle.parser.proofs.Kept.{sound-fine}
 
 -- the length of an array of slots
 pub length-mapped : {A B : Type 0} (f : A → B) (l : List A) (n : ℕ) → length (map f l) ≡ n → length l ≡ n
 length-mapped f l n e = sym (length-map l f) ∙ e
 
 -- a call that is accepted, or refused with 11
-module _ (p : CCDataParser) (b : Bool) (tested : b ≡ valid p) (q : CCDataParser) (d : Demux) where
-  -- accepted
-  pub call-accepted : (n : CCDataParser) → b ≡ true → n ≡ q → means q ≡ d → Answers p (saidCall p) d (afterCall p q) (record { answer = Accepted; parser = n })
-  call-accepted n e w m =
-      let v : valid p ≡ true = sym tested ∙ e in
-      record { answer = rw v; means = λ _. rw w m; places = rw v w }
+module _ (p : CCDataParser) (placed : Taken → CCDataParser) where
+  -- refused, whatever it would give
+  pub call-refused : (t : Taken) (r : ParserAnswer) → valid p ≡ false → r ≡ fed (refusedFor BadValue) p → Answers t placed p r
+  call-refused t r v w = rw w (record { answer = rw v; means = λ z. absurd (true≢false (sym z ∙ v)); places = rw v })
 
-  -- refused
-  pub call-refused : (r : ParserAnswer) → b ≡ false → r ≡ fed (refusedFor BadValue) p → Answers p (saidCall p) d (afterCall p q) r
-  call-refused r e w =
-      let v : valid p ≡ false = sym tested ∙ e in
-      rw w (record { answer = rw v; means = λ t. absurd (true≢false (sym t ∙ v)); places = rw v })
+  -- accepted
+  pub call-accepted : (d : Demux) (n : CCDataParser) → valid p ≡ true → n ≡ placed (quiet d) → means n ≡ d → Answers (quiet d) placed p (record { answer = Accepted; parser = n })
+  call-accepted d n v w m = record { answer = rw v; means = λ _. m; places = rw v w }
 
 -- 608 turned on: one flag and one count
-pub turned-is : (p : CCDataParser) → Shaped p → valid p ≡ true
+pub turned-is : (p : CCDataParser) → Sound p
     → record {
       «cea608_on» = true;
       «pair_count» = 0;
@@ -51,8 +52,10 @@ pub turned-is : (p : CCDataParser) → Shaped p → valid p ≡ true
       waiting = p .waiting;
     }
     ≡ turnedOn p
-unfolding turnedOn laidIn means placedAll
-turned-is p s e = let v = valid-fine p e in rw (pending-many p v s, pending-same p v s, waiting-count p v)
+unfolding laidAfter laidIn setRound means placedAll
+turned-is p s =
+    let v = sound-fine p s in
+    rw (pending-many p v (s .shaped), pending-same p v (s .shaped), head-stays (p .«waiting_first») (p .«waiting_count») (length (means p .waiting)) (omega (arith, waiting-count p v)), waiting-count p v)
 
 module _ (p : CCDataParser) (b : Bool) (tested : b ≡ valid p) where
   -- the pairs

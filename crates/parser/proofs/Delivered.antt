@@ -1,7 +1,6 @@
 -- What a frame delivers in the model: the runs that it tells are the packets that it puts behind those that wait. Assumes nothing.
 use mathlib.Core.Path.{_≡_, refl, sym, ap, _∙_}
 use mathlib.Core.List.{List, [], _∷_, _++_, map, append-nil}
-use mathlib.Core.Bool.{Bool, false, cond}
 use mathlib.Core.Option.{Option, none, some}
 use Prim.Native.Nat.{ℕ, _+_, _*_, _≤_}
 use native.Mathlib.Omega.{arith}
@@ -14,19 +13,14 @@ use Rattle.model.proofs.Cases.{by-cond}
 use Rattle.model.proofs.Frames.{Read, packets-append, packets-many, gathered-read}
 use Rattle.model.proofs.Frames as frames
 use Rattle.slots.specs.declared.Slot.{Slot}
-use Rattle.gather.specs.Ring.{ringFrom, slotRun, slotWith, setRound}
-use Rattle.gather.proofs.Rings.{round-length, ring-laid, runs-again, runs-fine, fine-append}
+use Rattle.gather.specs.Ring.{ringFrom, slotRun, setRound}
+use Rattle.gather.proofs.Rings.{slotOfRun, round-length, ring-laid, runs-again, runs-fine, fine-append}
 use Rattle.parser.proofs.Laid.{Stands}
 
 -- what a frame delivers to d
 pub record Delivers (d : Demux) (t : Taken) : Type 0 where
   pub waiting : t .next .waiting ≡ d .waiting ++ packetsOf (t .runs)
   pub read : Read (t .runs)
-  pub off : (d .on608 ≡ false → d .pairs ≡ []) → t .next .on608 ≡ false → t .next .pairs ≡ []
-
--- a list that is kept only where 608 is on
-unlisted : (on : Bool) (ps : List Cea608) → on ≡ false → cond on ps [] ≡ []
-unlisted on ps e = rw e
 
 module _ (d : Demux) where
   -- none
@@ -39,24 +33,24 @@ module _ (d : Demux) where
   unfolding takeGathered
   gathered-delivers ps o r =
       by-cond (Delivers d) (ltb 32 (length (d .waiting) + length (packetsOf (o .runs))))
-      (λ _. record { waiting = nothing; read = frames.none; off = λ z. z })
-      (λ _. record { waiting = refl; read = r; off = λ z e. unlisted (d .on608) ps e })
+      (λ _. record { waiting = nothing; read = frames.none })
+      (λ _. record { waiting = refl; read = r })
 
   -- the triples of a frame
   triples-deliver : (ts : List Seen) (late : Option ℕ) → Delivers d (takeTriples ts late d)
   unfolding takeTriples
   triples-deliver ts none = gathered-delivers (pairsIn ts) (gathered (d .pending) ts) (gathered-read (d .pending) ts)
-  triples-deliver ts (some at) = record { waiting = nothing; read = frames.none; off = λ z e. unlisted (d .on608) (pairsIn ts) e }
+  triples-deliver ts (some at) = record { waiting = nothing; read = frames.none }
 
   -- any bytes fed as a frame
   pub frame-delivers : (f : List ℕ) → Delivers d (takeFrame f d)
   unfolding takeFrame
   frame-delivers f =
       by-cond (Delivers d) (unread f)
-      (λ _. record { waiting = nothing; read = frames.none; off = λ z e. unlisted (d .on608) [] e })
+      (λ _. record { waiting = nothing; read = frames.none })
       (λ _. by-cond (Delivers d) (eqb (length f) (3 * countIn (getD f 0 0) + 2))
       (λ _. triples-deliver (seenAll (triplesIn (drop 2 f))) (lateFrom 0 (seenAll (triplesIn (drop 2 f)))))
-      (λ _. record { waiting = nothing; read = frames.none; off = λ z e. unlisted (d .on608) [] e }))
+      (λ _. record { waiting = nothing; read = frames.none }))
 
 -- the runs of slots, and of others behind them
 runs-append : (l m : List Slot) → map slotRun (l ++ m) ≡ map slotRun l ++ map slotRun m
@@ -70,7 +64,7 @@ module _ (f n : ℕ) (l : List Slot) (ps : List Packet) (gs : List (List ℕ)) (
   many = omega (arith, length-append ps (packetsOf gs), packets-many r, counted)
 
   -- the ring is these slots
-  laid-ring : ringFrom f (length (ps ++ packetsOf gs)) (setRound (f + n) l gs) ≡ ringFrom f n l ++ map slotWith gs
+  laid-ring : ringFrom f (length (ps ++ packetsOf gs)) (setRound (f + n) l gs) ≡ ringFrom f n l ++ map slotOfRun gs
   laid-ring = rw many (ring-laid n f l gs (omega (arith, many)) (old .places))
 
   -- it stands
@@ -79,8 +73,8 @@ module _ (f n : ℕ) (l : List Slot) (ps : List Packet) (gs : List (List ℕ)) (
       record {
         first = old .first;
         places = round-length (f + n) l gs ∙ old .places;
-        reading = rw laid-ring (fine-append (ringFrom f n l) (map slotWith gs) (rw counted at (old .reading)) (runs-fine r));
+        reading = rw laid-ring (fine-append (ringFrom f n l) (map slotOfRun gs) (rw counted at (old .reading)) (runs-fine r));
         packets =
-            rw (laid-ring, runs-append (ringFrom f n l) (map slotWith gs), runs-again r, packets-append (map slotRun (ringFrom f n l)) gs)
+            rw (laid-ring, runs-append (ringFrom f n l) (map slotOfRun gs), runs-again r, packets-append (map slotRun (ringFrom f n l)) gs)
             (ap (λ (x : List Packet). x ++ packetsOf gs) (rw counted at (old .packets)));
       }

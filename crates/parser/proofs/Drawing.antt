@@ -10,47 +10,50 @@ use borrow.Author.Tests.{eqb-true, eqb-false, leb-true}
 use Rattle.model.specs.Lists.{every}
 use Rattle.model.specs.Said.{accepted}
 use Rattle.model.specs.Demux as model
-use Rattle.model.specs.Demux.{closed, packetsOf}
+use Rattle.model.specs.Demux.{quiet, closed, packetsOf, pairValues, itemValues, itemPacket}
 use Rattle.model.proofs.Cases.{by-test, both}
+use Rattle.packet.specs.Packet.{laid}
+use Rattle.slots.specs.Slot.{noSlot}
 use Rattle.slots.specs.declared.Slot.{Slot}
 use Rattle.triples.specs.Pairs.{placedAll, pairsOf}
-use Rattle.gather.specs.Ring.{noSlot, ringFrom, slotRun, slotFine}
+use Rattle.gather.specs.Ring.{ringFrom, slotRun, slotFine, setRound}
 use Rattle.gather.specs.Tests.{headFine, behindFine, pendingFine}
 use Rattle.gather.specs.declared.Front.{Front}
 use Rattle.gather.proofs.Rings.{ring-length}
 use Rattle.parser.specs.Means.{means, Shaped}
-use Rattle.parser.specs.Valid.{listFine, valid}
-use Rattle.parser.specs.Calls.{laidIn, placeBehind, headAfter, drawn}
-use Rattle.parser.specs.Items.{pairValues, saidItem, itemValues, packetOfItem, Draws}
-use Rattle.parser.specs.Tests.{frontOf, countsOf}
-use Rattle.parser.specs.Take.{packetAt, takePair, takePacket, takeNone, takeItem, Takes, takenBy, drawnBy}
+use Rattle.parser.specs.Valid.{valid}
+use Rattle.parser.specs.Calls.{laidIn, laidAfter}
+use Rattle.parser.specs.After.{drawn}
+use Rattle.parser.specs.Items.{saidItem, Draws}
+use Rattle.parser.specs.Tests.{listFine, frontOf, countsOf}
+use Rattle.parser.specs.Take.{placeBehind, packetAt, takePair, takePacket, takeNone, takeItem, Takes, takenBy, drawnBy}
 use Rattle.parser.specs.declared.Counts.{Counts}
 use Rattle.parser.specs.declared.CCDataParser.{CCDataParser}
 use Rattle.parser.specs.declared.Drawn.{Drawn}
 use Rattle.parser.specs.declared.Took.{Took}
 use Rattle.parser.specs.declared.Item.the-variants.{Nothing}
-use Rattle.parser.proofs.Valids.{Fine, valid-fine, front-found, behind-fine, tested-valid, pairs-length, packets-length, waiting-count}
+use Rattle.parser.proofs.Valids.{Fine, again-placed, valid-fine, front-found, behind-fine, tested-valid, pairs-length, packets-length, waiting-count}
 use Rattle.parser.proofs.Laid.{pending-many, pending-same}
-use Rattle.parser.proofs.Firsts.{pairs-drawn, pairs-slid, pair-drawn, ring-drawn, slot-read}
+use Rattle.parser.proofs.Firsts.{head-stays, head-moves, pairs-drawn, pairs-slid, pair-drawn, ring-drawn, slot-read}
 use Rattle.parser.proofs.Kept.{means-drawn}
 
 -- what is told of an item that is taken from p: what it says, and what is laid after it
 record Tells (p : CCDataParser) (x : Drawn) (d : model.Drawn) : Type 0 where
   said : saidItem (x .item) ≡ accepted (itemValues (d .item))
-  packet : x .packet ≡ packetOfItem (d .item)
-  places : x .parser ≡ laidIn p (headAfter p (d .item)) (p .waiting) (d .next)
+  packet : x .packet ≡ laid (itemPacket (d .item))
+  places : x .parser ≡ laidAfter p (quiet (d .next))
 
 module _ (p : CCDataParser) (v : Fine p) (s : Shaped p) where
   -- a pair
   told-pair : (p .«pair_count» ≡ 0 → ⊥) → Tells p (drawnBy p (takePair (countsOf p) (p .pairs))) (model.draw (means p))
-  unfolding drawnBy takePair model.draw means laidIn headAfter
+  unfolding drawnBy takePair model.draw means laidAfter laidIn setRound
   told-pair n =
       let room : 3 * p .«pair_count» ≤ length (p .pairs) = omega (arith, v .few, s .pairs) in
       rw (pairs-drawn (p .pairs) (p .«pair_count») n)
       (record {
         said = ap (λ x. accepted (pairValues x)) (pair-drawn (p .pairs));
         packet = refl;
-        places = rw (pairs-length (p .«pair_count» - 1) (drop 3 (p .pairs)), ← pairs-slid (p .pairs) (p .«pair_count») n (v .fields) room, pending-many p v s, pending-same p v s, waiting-count p v);
+        places = rw (pairs-length (p .«pair_count» - 1) (drop 3 (p .pairs)), ← pairs-slid (p .pairs) (p .«pair_count») n (again-placed (p .«pair_count») (p .pairs) (v .stand) room) room, pending-many p v s, pending-same p v s, waiting-count p v, head-stays (p .«waiting_first») (p .«waiting_count») (p .«waiting_count») (omega arith));
       })
 
   -- the slots that wait, by the first
@@ -78,20 +81,20 @@ module _ (p : CCDataParser) (v : Fine p) (s : Shaped p) where
 
     -- a packet
     told-packet : p .«pair_count» ≡ 0 → Tells p (drawnBy p (takePacket (countsOf p) (p .pairs) slot)) (model.draw (means p))
-    unfolding drawnBy takePacket model.draw means laidIn headAfter packetsOf closed packetAt pairsOf placedAll
+    unfolding drawnBy takePacket model.draw means laidAfter laidIn setRound packetsOf closed packetAt pairsOf placedAll
     told-packet z =
         let q = slot-read slot (reading .0) in
         rw (ring-is, z, q .1)
         (record {
           said = refl;
           packet = refl;
-          places = rw (pending-many p v s, pending-same p v s, left);
+          places = rw (pending-many p v s, pending-same p v s, left, head-moves (p .«waiting_first») (p .«waiting_count») (p .«waiting_count» - 1) (omega (arith, n)));
         })
 
   -- nothing is left
   told-nothing : p .«pair_count» ≡ 0 → p .«waiting_count» ≡ 0 → Tells p (drawnBy p (takeNone Nothing (countsOf p) (p .pairs))) (model.draw (means p))
-  unfolding drawnBy model.draw means laidIn headAfter packetsOf pairsOf ringFrom placedAll
-  told-nothing z y = rw (z, y) (record { said = refl; packet = refl; places = rw (pending-many p v s, pending-same p v s) })
+  unfolding drawnBy model.draw means laidAfter laidIn setRound packetsOf pairsOf ringFrom placedAll
+  told-nothing z y = rw (z, y) (record { said = refl; packet = refl; places = rw (pending-many p v s, pending-same p v s, head-stays (p .«waiting_first») 0 0 (omega arith)) })
 
   -- whichever comes
   told-item : Tells p (drawnBy p (takeItem true (countsOf p) (p .pairs) (getD (p .waiting) (p .«waiting_first») noSlot))) (model.draw (means p))
@@ -111,7 +114,7 @@ module _ (p : CCDataParser) (shaped : Shaped p) where
 
   -- it leaves what the contract says,
   drew-draws : Draws p drew
-  unfolding drawn drawnBy takeItem
+  unfolding drawnBy takeItem
   drew-draws =
       by-test (valid p)
       (λ e. let t = told-item p (valid-fine p e) shaped in

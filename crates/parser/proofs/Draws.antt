@@ -2,7 +2,7 @@
 use mathlib.Core.Path.{_≡_, refl, sym, ap, _∙_}
 use mathlib.Core.List.{List, _∷_, _++_}
 use mathlib.Core.Bool.{Bool, true, false, _&&_}
-use Prim.Native.Nat.{ℕ, suc, _+_, _-_, _*_, _%_, _≤_, _<_}
+use Prim.Native.Nat.{ℕ, suc, _+_, _-_, _*_, _≤_, _<_}
 use native.Mathlib.Numerals.{add-one}
 use native.Mathlib.Omega.{arith}
 use lib.ListN.{length, getD, take, drop, set, length-take, length-drop}
@@ -16,7 +16,7 @@ use Rattle.caption.specs.declared.Answer.the-variants.{Accepted}
 use Rattle.caption.specs.declared.Refusal.{Refusal}
 use Rattle.caption.specs.declared.Refusal.the-variants as refusal
 use Rattle.model.specs.Said.{mapped}
-use Rattle.model.specs.Packet.{readPacket}
+use Rattle.model.specs.Packet.{noPacket, readPacket}
 use Rattle.model.proofs.Cases.{by-test}
 use Rattle.packet.specs.Packet.{laid, blank}
 use Rattle.packet.specs.Packet as packet
@@ -26,8 +26,7 @@ use Rattle.packet.proofs.Refusals.{accepted-reads, refused-reads}
 use Rattle.slots.specs.declared.Slot.{Slot}
 use Rattle.gather.specs.Tests.{headFine}
 use Rattle.gather.proofs.Slots.{slot-long, slot-within}
-use Rattle.parser.specs.Calls.{placeBehind}
-use Rattle.parser.specs.Take.{slid, firstPair, packetAt, Taken, takenBy, takePair, takePacket, takeNone, noneTook, takeItem, takeHead, takeBehind}
+use Rattle.parser.specs.Take.{slid, placeBehind, firstPair, packetAt, Taken, takenBy, takePair, takePacket, takeNone, noneTook, takeItem, takeHead, takeBehind}
 use Rattle.parser.specs.declared.Counts.{Counts}
 use Rattle.parser.specs.declared.Took.{Took}
 use Rattle.parser.specs.declared.Item.{Item}
@@ -106,7 +105,7 @@ module _ (c : Counts) (l : List ℕ) where
   none-taken item t e = rw e
 
   -- a pair
-  pub pair-taken : (x : Cea608) (k : List ℕ) (p : DTVCCPacket) → x ≡ firstPair l → k ≡ slid 3 (3 * (c .pairs - 1)) l → p ≡ blank
+  pub pair-taken : (x : Cea608) (k : List ℕ) (p : DTVCCPacket) → x ≡ firstPair l → k ≡ slid 3 (3 * (c .pairs - 1)) l → p ≡ laid noPacket
       → takenBy (record { item = Pair x; packet = p; pairs = c .pairs - 1; first = c .first; waiting = c .waiting }) k ≡ takePair c l
   unfolding takePair
   pair-taken x k p e q z = rw (e, q, z)

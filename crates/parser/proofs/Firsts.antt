@@ -7,7 +7,7 @@ use native.Mathlib.Omega.{arith}
 use lib.ListN.{length, getD, take, drop, length-drop}
 use lib.Seq.{sets, length-take-le}
 use lib.Dec.{eqb, leb}
-use borrow.Author.Tests.{eqb-true}
+use borrow.Author.Tests.{ne-eqb, lt-ltb, le-ltb, eqb-true, eqb-false}
 use Rattle.model.specs.Lists.{every}
 use Rattle.caption.specs.declared.Cea608.the-variants.{Field1, Field2}
 use Rattle.caption.specs.Pairs.{cea608Of}
@@ -17,18 +17,19 @@ use Rattle.model.specs.Frame.{Cea608, field1, field2, pair}
 use Rattle.model.specs.Demux as model
 use Rattle.model.specs.Demux.{Demux, closed, packetsOf}
 use Rattle.model.proofs.Cases.{by-test, both}
+use Rattle.slots.specs.Slot.{noSlot}
 use Rattle.slots.specs.declared.Slot.{Slot}
 use Rattle.triples.specs.Pairs.{placedAll, pairAt, pairsOf}
-use Rattle.gather.specs.Ring.{noSlot, ringFrom, slotRun, slotFine}
+use Rattle.gather.specs.Ring.{ringFrom, slotRun, slotFine}
 use Rattle.gather.proofs.Rings.{ring-round}
 use Rattle.gather.proofs.Places.{sets-first}
 use Rattle.parser.specs.Means.{means, Shaped}
-use Rattle.parser.specs.Valid.{fieldsFine}
-use Rattle.parser.specs.Calls.{placeBehind, headAfter}
-use Rattle.parser.specs.Take.{slid, firstPair}
+use Rattle.parser.specs.Calls.{headAfter}
+use Rattle.parser.specs.Tests.{fieldsFine}
+use Rattle.parser.specs.Take.{slid, placeBehind, firstPair}
 use Rattle.parser.specs.declared.CCDataParser.{CCDataParser}
-use Rattle.parser.proofs.Valids.{Fine, waiting-count}
-use Rattle.parser.proofs.Laid.{Stands, own-stands, placed-again}
+use Rattle.parser.proofs.Valids.{Fine, placed-again, waiting-count}
+use Rattle.parser.proofs.Laid.{Stands, own-stands}
 
 -- a list without its first pair
 module _ (l : List ℕ) (k : ℕ) (some : k ≡ 0 → ⊥) where
@@ -77,6 +78,22 @@ module _ (l : List Slot) (first n : ℕ) (some : n ≡ 0 → ⊥) (within : firs
   unfolding placeBehind
   behind-within = by-test (eqb n 1) (λ t. rw t (omega arith)) (λ t. rw t (omega arith))
 
+-- the ring's head where so many waited and n wait
+module _ (first waited n : ℕ) where
+  -- no fewer than before
+  pub head-stays : waited ≤ n → headAfter first waited n ≡ first
+  unfolding headAfter
+  head-stays h = rw (le-ltb n waited h)
+
+  -- one fewer
+  pub head-moves : waited ≡ suc n → headAfter first waited n ≡ placeBehind first waited
+  unfolding headAfter placeBehind
+  head-moves e =
+      rw (lt-ltb n waited (omega arith))
+      (by-test (eqb n 0)
+      (λ t. let z : n ≡ 0 = eqb-true _ _ t in let o : waited ≡ 1 = omega arith in rw (z, o))
+      (λ t. rw (t, ne-eqb waited 1 (λ o. omega (arith, eqb-false n 0 t)))))
+
 -- bytes that read are a packet
 given : (o : Outcome Packet) → isGiven o ≡ true → (q : Packet) × (o ≡ gave q)
 given (gave q) e = (q, refl)
@@ -110,13 +127,16 @@ module _ (p : CCDataParser) (v : Fine p) (s : Shaped p) where
       }
 
   -- whichever item
-  pub drawn-stands : Stands (headAfter p (model.draw (means p) .item)) (p .waiting) (model.draw (means p) .next .waiting)
-  unfolding model.draw headAfter
+  pub drawn-stands : Stands (headAfter (p .«waiting_first») (p .«waiting_count») (length (model.draw (means p) .next .waiting))) (p .waiting) (model.draw (means p) .next .waiting)
+  unfolding model.draw
   drawn-stands = by (means p .pairs) (means p .waiting) refl
     where
+      stays : (ps : List Packet) → means p .waiting ≡ ps → Stands (headAfter (p .«waiting_first») (p .«waiting_count») (length ps)) (p .waiting) ps
+      stays ps e = rw (head-stays (p .«waiting_first») (p .«waiting_count») (length ps) (omega (arith, waiting-count p v, ap length e))) (rw e at (own-stands p v s))
+
       by : (xs : List Cea608) (ps : List Packet) → means p .waiting ≡ ps
           → (let d : Demux = record { on608 = means p .on608; pairs = xs; pending = means p .pending; waiting = ps } in
-          Stands (headAfter p (model.draw d .item)) (p .waiting) (model.draw d .next .waiting))
-      by (x ∷ xs) ps e = rw e at (own-stands p v s)
-      by [] (q ∷ ps) e = taken-stands q ps e
-      by [] [] e = rw e at (own-stands p v s)
+          Stands (headAfter (p .«waiting_first») (p .«waiting_count») (length (model.draw d .next .waiting))) (p .waiting) (model.draw d .next .waiting))
+      by (x ∷ xs) ps e = stays ps e
+      by [] (q ∷ ps) e = rw (head-moves (p .«waiting_first») (p .«waiting_count») (length ps) (sym (waiting-count p v) ∙ ap length e)) (taken-stands q ps e)
+      by [] [] e = stays [] e

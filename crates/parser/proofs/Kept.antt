@@ -1,57 +1,45 @@
 -- What a caller may rely on: a fresh state is within the limits and every call keeps it there; each call means what the model's does; and
 -- a frame finds a place where nothing waits. Assumes nothing.
 use mathlib.Core.Path.{_≡_, refl, ap, _∙_}
-use mathlib.Core.List.{List, [], _∷_}
-use mathlib.Core.Bool.{Bool, true, false}
+use mathlib.Core.List.{List, []}
+use mathlib.Core.Bool.{true, false}
 use mathlib.Core.Option.{Option, none, some}
-use Prim.Native.Nat.{ℕ, suc, _+_, _-_, _*_, _≤_}
+use Prim.Native.Nat.{ℕ, _+_, _-_, _*_, _≤_}
 use native.Mathlib.Omega.{arith}
-use lib.ListN.{length, getD}
+use lib.ListN.{length, getD, length-append}
 use lib.Dec.{eqb, ltb}
 use borrow.Author.Tests.{eqb-true, le-ltb}
-use Rattle.model.specs.Lists.{every}
+use Rattle.model.specs.Lists.{every, same}
 use Rattle.model.specs.Said.{Said, full}
-use Rattle.model.specs.Packet.{Packet}
-use Rattle.model.specs.Frame.{Cea608, countIn}
+use Rattle.model.specs.Frame.{countIn}
 use Rattle.model.specs.Demux as model
-use Rattle.model.specs.Demux.{Demux, Taken, freshDemux, turn608On, packetsOf, validPending, validDemux, lateFrom, gathered, takeGathered, takeTriples, unread, takeFrame}
+use Rattle.model.specs.Demux.{Demux, Taken, quiet, freshDemux, turn608On, packetsOf, validPending, validDemux, lateFrom, gathered, takeGathered, takeTriples, unread, takeFrame}
 use Rattle.model.proofs.Cases.{by-cond}
 use Rattle.model.proofs.Frames.{few-packets}
 use Rattle.model.proofs.DemuxStates.{demux-facts, on-valid, take-valid, draw-valid}
 use Rattle.triples.specs.Walk.{seenFrom}
-use Rattle.triples.specs.Pairs.{pairsOf}
+use Rattle.triples.specs.Pairs.{placedAll, pairsOf}
 use Rattle.triples.proofs.Found.{few-triples}
-use Rattle.gather.specs.Ring.{ringFrom, ringFine, setRound}
+use Rattle.gather.specs.Ring.{ringFrom, setRound}
 use Rattle.parser.specs.Means.{means}
-use Rattle.parser.specs.Valid.{fieldsFine, listFine, inOrder, valid}
-use Rattle.parser.specs.Fresh.{fresh}
-use Rattle.parser.specs.Calls.{turnedOn, pushed, drawn, saidPush}
+use Rattle.parser.specs.Valid.{inOrder, valid}
+use Rattle.parser.specs.Calls.{laidIn, fresh, headAfter, laidAfter}
+use Rattle.parser.specs.After.{saidOf, turnedOn, pushed, drawn}
 use Rattle.parser.specs.declared.CCDataParser.{CCDataParser}
 use Rattle.parser.proofs.Valids.{Fine, valid-fine, fine-demux, waiting-count}
-use Rattle.parser.proofs.Laid.{Sound, Stands, own-stands, laid-means, laid-sound}
+use Rattle.parser.proofs.Laid.{Sound, Stands, own-stands, laid-means, laid-same, laid-sound}
 use Rattle.parser.proofs.Delivered.{frame-delivers, delivered-stands}
-use Rattle.parser.proofs.Firsts.{drawn-stands}
+use Rattle.parser.proofs.Firsts.{head-stays, drawn-stands}
 
 -- a fresh state
 pub fresh-sound : Sound fresh
-unfolding fresh valid inOrder listFine fieldsFine validDemux validPending every ringFine ringFrom means pairsOf packetsOf
+unfolding fresh laidIn placedAll valid inOrder same validDemux validPending every ringFrom means pairsOf packetsOf
 fresh-sound = record { valid = refl; shaped = record { pairs = refl; pending = refl; waiting = refl } }
 
 -- it is the model's
 pub means-fresh : means fresh ≡ freshDemux
-unfolding means fresh pairsOf packetsOf ringFrom
+unfolding means fresh laidIn pairsOf packetsOf ringFrom
 means-fresh = refl
-
--- drawing lists no pairs
-draw-off : (d : Demux) → (d .on608 ≡ false → d .pairs ≡ []) → model.draw d .next .on608 ≡ false → model.draw d .next .pairs ≡ []
-unfolding model.draw
-draw-off d off e = by-items (d .on608) (d .pairs) (d .pending) (d .waiting) off e
-  where
-    by-items : (on : Bool) (pairs : List Cea608) (pending : List ℕ) (waiting : List Packet)
-        → (let s : Demux = record { on608 = on; pairs = pairs; pending = pending; waiting = waiting } in (on ≡ false → pairs ≡ []) → model.draw s .next .on608 ≡ false → model.draw s .next .pairs ≡ [])
-    by-items on (x ∷ pairs) pending waiting off e = let z : suc (length pairs) ≡ 0 = ap length (off e) in absurd (omega arith)
-    by-items on [] pending (p ∷ waiting) off e = refl
-    by-items on [] pending [] off e = refl
 
 -- a state within the limits
 module _ (p : CCDataParser) (s : Sound p) where
@@ -63,36 +51,49 @@ module _ (p : CCDataParser) (s : Sound p) where
   pub sound-demux : validDemux (means p) ≡ true
   sound-demux = fine-demux p sound-fine
 
-  -- no pairs are there while 608 is off
-  unlisted : means p .on608 ≡ false → means p .pairs ≡ []
-  unfolding means pairsOf
-  unlisted e = let z : p .«pair_count» ≡ 0 = sound-fine .off e in rw z
-
   -- its slots stand
   stands : Stands (p .«waiting_first») (p .waiting) (means p .waiting)
   stands = own-stands p sound-fine (s .shaped)
 
-  -- 608 turned on keeps the limits,
+  -- what a call leaves, by what the model's leaves and by its slots
+  module _ (t : Taken) (v : validDemux (t .next) ≡ true)
+      (w : Stands (headAfter (p .«waiting_first») (p .«waiting_count») (length (t .next .waiting))) (setRound (p .«waiting_first» + p .«waiting_count») (p .waiting) (t .runs)) (t .next .waiting)) where
+    -- it is within the limits,
+    after-sound : Sound (laidAfter p t)
+    unfolding laidAfter
+    after-sound = laid-sound p (s .shaped) _ _ (t .next) v w
+
+    -- and means what the model's leaves
+    after-means : means (laidAfter p t) ≡ t .next
+    unfolding laidAfter
+    after-means = laid-means p (s .shaped) _ _ (t .next) v w
+
+  -- a call that leaves what was there leaves all as it is
+  pub laid-still : laidAfter p (quiet (means p)) ≡ p
+  unfolding laidAfter setRound
+  laid-still =
+      rw (head-stays (p .«waiting_first») (p .«waiting_count») (length (means p .waiting)) (omega (arith, waiting-count p sound-fine)))
+      (laid-same p sound-fine (s .shaped))
+
+  -- 608 turned on
+  on-stands : Stands (headAfter (p .«waiting_first») (p .«waiting_count») (length (means p .waiting))) (setRound (p .«waiting_first» + p .«waiting_count») (p .waiting) []) (means p .waiting)
+  unfolding setRound
+  on-stands = rw (head-stays (p .«waiting_first») (p .«waiting_count») (length (means p .waiting)) (omega (arith, waiting-count p sound-fine))) stands
+
   pub turned-sound : Sound (turnedOn p)
-  unfolding turnedOn
-  turned-sound = laid-sound p (s .shaped) (p .«waiting_first») (p .waiting) (turn608On (means p)) (on-valid (means p) sound-demux) stands (λ _. refl)
+  turned-sound = after-sound (quiet (turn608On (means p))) (on-valid (means p) sound-demux) on-stands
 
-  -- and means what the model says
   pub means-turned : means (turnedOn p) ≡ turn608On (means p)
-  unfolding turnedOn
-  means-turned = laid-means p (s .shaped) (p .«waiting_first») (p .waiting) (turn608On (means p)) (on-valid (means p) sound-demux) stands
+  means-turned = after-means (quiet (turn608On (means p))) (on-valid (means p) sound-demux) on-stands
 
-  -- drawing keeps the limits,
+  -- an item drawn
   pub drawn-sound : Sound (drawn p)
-  unfolding drawn
-  drawn-sound =
-      rw (s .valid)
-      (laid-sound p (s .shaped) _ _ (model.draw (means p) .next) (draw-valid (means p) sound-demux) (drawn-stands p sound-fine (s .shaped)) (λ e. draw-off (means p) unlisted e))
+  unfolding setRound
+  drawn-sound = rw (s .valid) (after-sound (quiet (model.draw (means p) .next)) (draw-valid (means p) sound-demux) (drawn-stands p sound-fine (s .shaped)))
 
-  -- and means what the model says
   pub means-drawn : means (drawn p) ≡ model.draw (means p) .next
-  unfolding drawn
-  means-drawn = rw (s .valid) (laid-means p (s .shaped) _ _ (model.draw (means p) .next) (draw-valid (means p) sound-demux) (drawn-stands p sound-fine (s .shaped)))
+  unfolding setRound
+  means-drawn = rw (s .valid) (after-means (quiet (model.draw (means p) .next)) (draw-valid (means p) sound-demux) (drawn-stands p sound-fine (s .shaped)))
 
 -- a frame
 module _ (p : CCDataParser) (f : List ℕ) (s : Sound p) where
@@ -102,23 +103,27 @@ module _ (p : CCDataParser) (f : List ℕ) (s : Sound p) where
   taken-valid : validDemux (taken .next) ≡ true
   taken-valid = take-valid f (means p) (sound-demux p s)
 
+  -- no fewer packets wait than before
+  pub frame-head : headAfter (p .«waiting_first») (p .«waiting_count») (length (taken .next .waiting)) ≡ p .«waiting_first»
+  frame-head =
+      head-stays (p .«waiting_first») (p .«waiting_count») (length (taken .next .waiting))
+      (rw (frame-delivers (means p) f .waiting) (omega (arith, length-append (means p .waiting) (packetsOf (taken .runs)), waiting-count p (sound-fine p s))))
+
   -- the slots stand with those that it delivers
-  taken-stands : Stands (p .«waiting_first») (setRound (p .«waiting_first» + p .«waiting_count») (p .waiting) (taken .runs)) (taken .next .waiting)
+  taken-stands : Stands (headAfter (p .«waiting_first») (p .«waiting_count») (length (taken .next .waiting))) (setRound (p .«waiting_first» + p .«waiting_count») (p .waiting) (taken .runs)) (taken .next .waiting)
   taken-stands =
       let k = frame-delivers (means p) f in
-      rw (k .waiting)
+      rw (frame-head, k .waiting)
       (delivered-stands (p .«waiting_first») (p .«waiting_count») (p .waiting) (means p .waiting) (taken .runs) (k .read) (waiting-count p (sound-fine p s)) (stands p s)
       (rw (k .waiting) at (demux-facts (taken .next) taken-valid .waiting)))
 
   -- it keeps the limits,
   pub pushed-sound : Sound (pushed p f)
-  unfolding pushed
-  pushed-sound = rw (s .valid) (laid-sound p (s .shaped) _ _ (taken .next) taken-valid taken-stands (frame-delivers (means p) f .off (unlisted p s)))
+  pushed-sound = rw (s .valid) (after-sound p s taken taken-valid taken-stands)
 
   -- and means what the model says
   pub means-pushed : means (pushed p f) ≡ takeFrame f (means p) .next
-  unfolding pushed
-  means-pushed = rw (s .valid) (laid-means p (s .shaped) _ _ (taken .next) taken-valid taken-stands)
+  means-pushed = rw (s .valid) (after-means p s taken taken-valid taken-stands)
 
 -- "Full exactly if waiting packets plus those this frame would deliver exceed 32": a frame has at most 31 triples, and delivers one packet
 -- a triple and one at its end
@@ -154,5 +159,5 @@ module _ (f : List ℕ) (d : Demux) (nothing : length (d .waiting) ≡ 0) where
       (λ _. other _ (λ z. omega arith)))
 
 -- from a state within the limits with nothing waiting no frame is refused for want of a place
-pub never-full : (p : CCDataParser) (f : List ℕ) → Sound p → p .«waiting_count» ≡ 0 → saidPush p f ≡ full → ⊥
+pub never-full : (p : CCDataParser) (f : List ℕ) → Sound p → p .«waiting_count» ≡ 0 → saidOf p (takeFrame f (means p)) ≡ full → ⊥
 never-full p f s z = rw (s .valid) (frame-room f (means p) (waiting-count p (sound-fine p s) ∙ z))

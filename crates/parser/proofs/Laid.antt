@@ -1,18 +1,14 @@
 -- A demultiplexer of the model laid over the places of a state: it means that, and is within the limits. Assumes nothing.
-use mathlib.Core.Path.{_≡_, refl, ap, _∙_}
-use mathlib.Core.List.{List, [], _∷_, _++_, map}
-use mathlib.Core.Bool.{true, false}
-use Prim.Native.Nat.{ℕ, zero, suc, _*_, _≤_}
+use mathlib.Core.Path.{_≡_, sym, _∙_}
+use mathlib.Core.List.{List, map}
+use mathlib.Core.Bool.{true}
+use Prim.Native.Nat.{ℕ, _*_, _≤_}
 use native.Mathlib.Omega.{arith}
 use lib.ListN.{length, getD, take, drop}
 use lib.Seq.{sets, length-sets, length-take-le}
-use lib.Dec.{eqb, leb}
-use borrow.Author.Tests.{eqb-true, eqb-false, leb-true}
 use Rattle.model.specs.Lists.{every}
 use Rattle.model.specs.Packet.{Packet}
-use Rattle.model.specs.Frame.{Cea608, field1, field2, pair}
 use Rattle.model.specs.Demux.{Demux, packetsOf, validDemux}
-use Rattle.model.proofs.Cases.{by-test, both}
 use Rattle.model.proofs.DemuxStates.{demux-facts, pending-gathering}
 use Rattle.model.proofs.Limits.{size-most}
 use Rattle.slots.specs.declared.Slot.{Slot}
@@ -21,17 +17,10 @@ use Rattle.triples.proofs.Found.{placed-length, pairs-placed}
 use Rattle.gather.specs.Ring.{ringFrom, slotRun, slotFine}
 use Rattle.gather.proofs.Places.{sets-first, take-sets, sets-same}
 use Rattle.parser.specs.Means.{means, Shaped}
-use Rattle.parser.specs.Valid.{fieldsFine, valid}
+use Rattle.parser.specs.Valid.{valid}
 use Rattle.parser.specs.Calls.{laidIn}
 use Rattle.parser.specs.declared.CCDataParser.{CCDataParser}
 use Rattle.parser.proofs.Valids.{Fine, pairs-length, waiting-count, fine-valid}
-
--- the fields of pairs in their places are 1 or 2
-fields-placed : (ps : List Cea608) (rest : List ℕ) → fieldsFine (length ps) (placedAll ps ++ rest) ≡ true
-unfolding placedAll fieldsFine
-fields-placed [] rest = refl
-fields-placed (field1 (pair a b) ∷ ps) rest = fields-placed ps rest
-fields-placed (field2 (pair a b) ∷ ps) rest = fields-placed ps rest
 
 -- the slots of a ring from a place on hold the packets
 pub record Stands (f : ℕ) (slots : List Slot) (ps : List Packet) : Type 0 where
@@ -55,49 +44,38 @@ module _ (p : CCDataParser) (s : Shaped p) (first : ℕ) (slots : List Slot) (d 
   pending-short : length (d .pending) ≤ 128
   pending-short = omega (arith, pending-gathering (d .pending) (demux-facts d v .pending) .most, size-most (getD (d .pending) 0 0))
 
+  -- the pairs are found again
+  pairs-back : pairsOf (length (d .pairs)) (sets (p .pairs) 0 (placedAll (d .pairs))) ≡ d .pairs
+  pairs-back = rw (sets-first (p .pairs) (placedAll (d .pairs)) pairs-room) (pairs-placed (d .pairs) (drop (length (placedAll (d .pairs))) (p .pairs)))
+
   -- it means what was laid
-  pub laid-means : means (laidIn p first slots d) ≡ d
+  pub laid-means : means (laidIn (p .pairs) (p .pending) first slots d) ≡ d
   unfolding means laidIn
   laid-means =
-      rw (sets-first (p .pairs) (placedAll (d .pairs)) pairs-room, pairs-placed (d .pairs) (drop (length (placedAll (d .pairs))) (p .pairs)), take-sets (p .pending) (d .pending) (omega (arith, pending-short, s .pending)), w .packets)
+      rw (pairs-back, take-sets (p .pending) (d .pending) (omega (arith, pending-short, s .pending)), w .packets)
 
-  -- it has the facts of a state within the limits, if no pairs are there while 608 is off
-  laid-fine : (d .on608 ≡ false → d .pairs ≡ []) → Fine (laidIn p first slots d)
+  -- it has the facts of a state within the limits
+  laid-fine : Fine (laidIn (p .pairs) (p .pending) first slots d)
   unfolding laidIn
-  laid-fine off =
+  laid-fine =
       let f = demux-facts d v in
       record {
         few = f .pairs;
-        fields = rw (sets-first (p .pairs) (placedAll (d .pairs)) pairs-room) (fields-placed (d .pairs) (drop (length (placedAll (d .pairs))) (p .pairs)));
-        off = λ o. ap length (off o);
+        stand = rw (pairs-back, ← placed-length (d .pairs)) (sym (take-sets (p .pairs) (placedAll (d .pairs)) pairs-room));
+        listed = f .listed;
         short = pending-short;
         waits = rw (take-sets (p .pending) (d .pending) (omega (arith, pending-short, s .pending))) (f .pending);
         ring = record { first = w .first; count = f .waiting; reading = w .reading };
       }
 
   -- its arrays have their lengths
-  laid-shaped : Shaped (laidIn p first slots d)
+  laid-shaped : Shaped (laidIn (p .pairs) (p .pending) first slots d)
   unfolding laidIn
   laid-shaped = record { pairs = length-sets (p .pairs) 0 (placedAll (d .pairs)) ∙ s .pairs; pending = length-sets (p .pending) 0 (d .pending) ∙ s .pending; waiting = w .places }
 
   -- so it is within the limits
-  pub laid-sound : (d .on608 ≡ false → d .pairs ≡ []) → Sound (laidIn p first slots d)
-  laid-sound off = record { valid = fine-valid (laidIn p first slots d) (laid-fine off); shaped = laid-shaped }
-
--- pairs of field 1 or 2 stand in their places again
-pub placed-again : (n : ℕ) (l : List ℕ) → fieldsFine n l ≡ true → 3 * n ≤ length l → placedAll (pairsOf n l) ≡ take (3 * n) l
-unfolding placedAll pairsOf fieldsFine
-placed-again zero l e h = refl
-placed-again (suc n) [] e h = absurd (omega arith)
-placed-again (suc n) (x ∷ []) e h = absurd (omega arith)
-placed-again (suc n) (x ∷ y ∷ []) e h = absurd (omega arith)
-placed-again (suc n) (x ∷ y ∷ z ∷ l) e h =
-    let f = both (leb x 1) (fieldsFine n l) e in
-    let m : 3 * suc n ≡ suc (suc (suc (3 * n))) = omega arith in
-    let r = placed-again n l (f .1) (omega arith) in
-    by-test (eqb x 0)
-    (λ t. let o : x ≡ 0 = eqb-true _ _ t in rw (o, m, r))
-    (λ t. let o : x ≡ 1 = omega (arith, eqb-false x 0 t, leb-true x 1 (f .0)) in rw (o, m, r))
+  pub laid-sound : Sound (laidIn (p .pairs) (p .pending) first slots d)
+  laid-sound = record { valid = fine-valid (laidIn (p .pairs) (p .pending) first slots d) laid-fine; shaped = laid-shaped }
 
 -- what a state means, laid over its own places
 module _ (p : CCDataParser) (v : Fine p) (s : Shaped p) where
@@ -105,7 +83,7 @@ module _ (p : CCDataParser) (v : Fine p) (s : Shaped p) where
   pub pairs-same : sets (p .pairs) 0 (placedAll (pairsOf (p .«pair_count») (p .pairs))) ≡ p .pairs
   pairs-same =
       let room : 3 * p .«pair_count» ≤ length (p .pairs) = omega (arith, v .few, s .pairs) in
-      rw (placed-again (p .«pair_count») (p .pairs) (v .fields) room) (sets-same (p .pairs) (3 * p .«pair_count») room)
+      rw (v .stand) (sets-same (p .pairs) (3 * p .«pair_count») room)
 
   -- its pending bytes
   pub pending-many : length (take (p .«pending_len») (p .pending)) ≡ p .«pending_len»
@@ -120,6 +98,6 @@ module _ (p : CCDataParser) (v : Fine p) (s : Shaped p) where
   own-stands = record { first = v .ring .first; places = s .waiting; reading = rw (waiting-count p v) (v .ring .reading); packets = rw (waiting-count p v) }
 
   -- all is as it was
-  pub laid-same : laidIn p (p .«waiting_first») (p .waiting) (means p) ≡ p
+  pub laid-same : laidIn (p .pairs) (p .pending) (p .«waiting_first») (p .waiting) (means p) ≡ p
   unfolding laidIn means
   laid-same = rw (pairs-length (p .«pair_count») (p .pairs), pairs-same, pending-many, pending-same, waiting-count p v)

@@ -1,7 +1,7 @@
 -- Laws of reading a frame, one for each way out of the function. Assumes nothing.
 use mathlib.Core.Path.{_≡_, refl, sym, ap, _∙_, subst}
 use mathlib.Core.List.{List}
-use mathlib.Core.Bool.{Bool, true, false, _&&_, true≢false}
+use mathlib.Core.Bool.{Bool, true, false, _&&_}
 use Prim.Native.Nat.{ℕ, _≤_, _<_}
 use lib.Dec.{ltb}
 use borrow.Author.Tests.{ltb-true, ltb-false}
@@ -18,7 +18,8 @@ use Rattle.gather.specs.Gather.{Left, takenBy, gatheredBy}
 use Rattle.gather.specs.declared.Gathered.{Gathered}
 use Rattle.parser.specs.Means.{means, Shaped}
 use Rattle.parser.specs.Valid.{valid}
-use Rattle.parser.specs.Calls.{Answers, saidPush, pushed}
+use Rattle.parser.specs.Calls.{laidAfter, Answers}
+use Rattle.parser.specs.After.{pushed}
 use Rattle.parser.specs.Tests.{countsOf, fine}
 use Rattle.parser.specs.Push.{fed, refusedFor, joined}
 use Rattle.parser.specs.declared.Counts.{Counts}
@@ -26,12 +27,13 @@ use Rattle.parser.specs.declared.CCDataParser.{CCDataParser}
 use Rattle.parser.specs.declared.ParserAnswer.{ParserAnswer}
 use Rattle.parser.proofs.Valids.{tested-valid, valid-fine}
 use Rattle.parser.proofs.Laid.{Sound}
-use Rattle.parser.proofs.Kept.{means-pushed}
+use Rattle.parser.proofs.Kept.{means-pushed, frame-head}
+use Rattle.parser.proofs.Calls.{call-refused}
 use Rattle.parser.proofs.Told.{after, Told, told}
 
 -- what is promised of a frame
 abbrev pub Pushed : CCDataParser → List ℕ → ParserAnswer → Type 0
-Pushed p f r = Answers p (saidPush p f) (takeFrame f (means p) .next) (pushed p f) r
+Pushed p f r = Answers (takeFrame f (means p)) (laidAfter p) p r
 
 -- by what the model says of a state within the limits
 pub pushed-by : (p : CCDataParser) (f : List ℕ) (r : ParserAnswer) → Shaped p → (v : valid p ≡ true)
@@ -50,10 +52,7 @@ frame-answer p f s =
 module _ (p : CCDataParser) (f : List ℕ) (shaped : Shaped p) (c : Counts) (counted : c ≡ countsOf p) (b : Bool) (tested : b ≡ fine c (p .pairs) (p .pending) (p .waiting)) where
   -- a state outside the limits
   pub push-bad : (r : ParserAnswer) → b ≡ false → r ≡ fed (refusedFor BadValue) p → Pushed p f r
-  unfolding pushed
-  push-bad r e q =
-      let v : valid p ≡ false = sym (tested-valid p c b shaped counted tested) ∙ e in
-      rw q (record { answer = rw v; means = λ t. absurd (true≢false (sym t ∙ v)); places = rw v })
+  push-bad r e q = call-refused p (laidAfter p) (takeFrame f (means p)) r (sym (tested-valid p c b shaped counted tested) ∙ e) q
 
   module _ (good : b ≡ true) (q : Plan) (planned : q ≡ planOf f) where
     within : valid p ≡ true
@@ -64,8 +63,8 @@ module _ (p : CCDataParser) (f : List ℕ) (shaped : Shaped p) (c : Counts) (cou
 
     -- what is laid is the state afterwards
     laid : after p (takeFrame f (means p)) ≡ pushed p f
-    unfolding pushed
-    laid = rw within
+    unfolding laidAfter
+    laid = rw (within, frame-head p f (record { valid = within; shaped = shaped }))
 
     module _ (n : ℕ) (k : List ℕ) (lists : record { count = n; places = k } ≡ listedBy (q .lists && c .on) (p .pairs) f)
         (g : Gathered) (l : List ℕ) (gathers : takenBy g l ≡ gatheredBy (q .gathers) (c .first) (c .waiting) (p .waiting) (c .pending) (p .pending) f) where

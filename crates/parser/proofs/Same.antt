@@ -2,8 +2,7 @@
 use mathlib.Core.Path.{_≡_, sym, _∙_}
 use Rattle.caption.specs.declared.Answer.{Answer}
 use Rattle.caption.proofs.Answers.{saidAnswer-injective}
-use Rattle.model.specs.Said.{Said}
-use Rattle.model.specs.Demux.{Demux}
+use Rattle.model.specs.Demux.{Taken}
 use Rattle.packet.specs.declared.DTVCCPacket.{DTVCCPacket}
 use Rattle.parser.specs.Calls.{Answers}
 use Rattle.parser.specs.Items.{Draws}
@@ -14,8 +13,8 @@ use Rattle.parser.specs.declared.Drawn.{Drawn}
 use Rattle.parser.proofs.Items.{saidItem-injective}
 
 -- an answer and a state: of a frame, of 608 turned on and of a flush
-pub answers-same : (p : CCDataParser) (said : Said) (next : Demux) (after : CCDataParser) (r q : ParserAnswer) → Answers p said next after r → Answers p said next after q → r ≡ q
-answers-same p said next after r q a b = by (r .answer) (q .answer) (r .parser) (q .parser) (saidAnswer-injective (r .answer) (q .answer) (a .answer ∙ sym (b .answer))) (a .places ∙ sym (b .places))
+pub answers-same : (t : Taken) (placed : Taken → CCDataParser) (p : CCDataParser) (r q : ParserAnswer) → Answers t placed p r → Answers t placed p q → r ≡ q
+answers-same t placed p r q a b = by (r .answer) (q .answer) (r .parser) (q .parser) (saidAnswer-injective (r .answer) (q .answer) (a .answer ∙ sym (b .answer))) (a .places ∙ sym (b .places))
   where
     by : (x y : Answer) (m n : CCDataParser) → x ≡ y → m ≡ n → _≡_ {A = ParserAnswer} (record { answer = x; parser = m }) (record { answer = y; parser = n })
     by x y m n e f = rw (e, f)

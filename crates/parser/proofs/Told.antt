@@ -41,7 +41,7 @@ cond-same false x = refl
 
 -- what is laid after a frame
 abbrev pub after : CCDataParser → Taken → CCDataParser
-after p t = laidIn p (p .«waiting_first») (setRound (p .«waiting_first» + p .«waiting_count») (p .waiting) (t .runs)) (t .next)
+after p t = laidIn (p .pairs) (p .pending) (p .«waiting_first») (setRound (p .«waiting_first» + p .«waiting_count») (p .waiting) (t .runs)) (t .next)
 
 -- what is told of a frame where there is a place, and where there is none: the answer, and what is laid after it
 pub record Tells (p : CCDataParser) (a : Answer) (l : Listing) (g : Left) (t : Taken) : Type 0 where
@@ -70,7 +70,7 @@ module _ (p : CCDataParser) (v : Fine p) (s : Shaped p) where
   -- the state with pairs qs and what is gathered is that
   join : (l : Listing) (qs : List Cea608) (g : Left) (o : model.Gathered) (d : Demux) → l ≡ listed (p .pairs) qs → g ≡ leaves o → Read (o .runs)
       → d ≡ record { on608 = p .«cea608_on»; pairs = qs; pending = o .bytes; waiting = means p .waiting ++ packetsOf (o .runs) }
-      → joined p l g ≡ laidIn p (p .«waiting_first») (setRound (p .«waiting_first» + p .«waiting_count») (p .waiting) (o .runs)) d
+      → joined p l g ≡ laidIn (p .pairs) (p .pending) (p .«waiting_first») (setRound (p .«waiting_first» + p .«waiting_count») (p .waiting) (o .runs)) d
   unfolding laidIn
   join l qs g o d e q r w =
       let many : length (means p .waiting ++ packetsOf (o .runs)) ≡ p .«waiting_count» + length (o .runs) = omega (arith, length-append (means p .waiting) (packetsOf (o .runs)), packets-many r, waiting-count p v) in

@@ -1,29 +1,31 @@
 -- Laws of the limits, one for each way out of a function, and the facts of a state within them. Assumes nothing.
 use mathlib.Core.Path.{_≡_, refl, sym, ap, _∙_}
 use mathlib.Core.List.{List, [], _∷_, map}
-use mathlib.Core.Bool.{Bool, true, false, cond, _&&_, true≢false}
+use mathlib.Core.Bool.{Bool, true, false, cond, _&&_, _||_}
 use Prim.Native.Nat.{ℕ, zero, suc, _+_, _-_, _*_, _%_, _≤_, _<_}
 use native.Mathlib.Omega.{arith}
-use lib.ListN.{length, getD, take, drop, replicate, length-append}
+use lib.ListN.{length, getD, take, drop, length-append}
 use lib.Seq.{getD-drop, drop-drop}
 use lib.Dec.{eqb, leb}
 use borrow.Author.Tests.{eq-eqb, ne-eqb, eqb-true, eqb-false, lt-leb, le-leb, leb-true}
-use Rattle.model.specs.Lists.{every}
+use Rattle.model.specs.Lists.{every, same}
 use Rattle.model.specs.Packet.{reads}
 use Rattle.model.specs.Demux.{closed, packetsOf, validPending, validDemux}
-use Rattle.model.proofs.Cases.{by-test, both}
+use Rattle.model.proofs.Cases.{by-test, both, and-both}
+use Rattle.model.proofs.Lists.{same-true, same-self}
 use Rattle.model.proofs.Frames.{closed-one}
 use Rattle.model.proofs.DemuxStates.{demux-facts, facts-demux, packets-valid}
+use Rattle.slots.specs.Slot.{noSlot, slotWith}
 use Rattle.slots.specs.declared.Slot.{Slot}
-use Rattle.triples.specs.Pairs.{pairsOf}
-use Rattle.gather.specs.Ring.{noSlot, ringFrom, slotRun, slotFine, ringFine}
-use Rattle.gather.specs.Tests.{pendingFine, headFine, behindFine, oldestOf}
+use Rattle.triples.specs.Pairs.{placedAll, pairsOf}
+use Rattle.gather.specs.Ring.{ringFrom, slotRun, slotFine}
+use Rattle.gather.specs.Tests.{pendingFine, ringFine, headFine, behindFine, oldestOf}
 use Rattle.gather.specs.declared.Front.{Front}
 use Rattle.gather.proofs.Slots.{RingFine, ring-facts, facts-ring, behind-empty, ring-parts, fine-pending}
 use Rattle.gather.proofs.Rings.{ring-length}
 use Rattle.parser.specs.Means.{means, Shaped}
-use Rattle.parser.specs.Valid.{fieldsFine, listFine, inOrder, valid}
-use Rattle.parser.specs.Tests.{countsOf, frontOf, fine}
+use Rattle.parser.specs.Valid.{inOrder, valid}
+use Rattle.parser.specs.Tests.{fieldsFine, listFine, countsOf, frontOf, fine}
 use Rattle.parser.specs.declared.CCDataParser.{CCDataParser}
 use Rattle.parser.specs.declared.Counts.{Counts}
 
@@ -77,7 +79,7 @@ module _ (a : Bool) (l : List ℕ) (n i : ℕ) (e : a ≡ fieldsFine (n - i) (dr
 -- the ring behind its head, and the slot there
 module _ (c : Counts) (slots : List Slot) where
   -- of an empty ring
-  pub front-none : c .waiting ≡ 0 → record { good = leb (c .first) 31; slot = record { len = 0; bytes = replicate 128 0 } } ≡ frontOf c slots
+  pub front-none : c .waiting ≡ 0 → record { good = leb (c .first) 31; slot = slotWith 0 [] } ≡ frontOf c slots
   unfolding frontOf
   front-none z = rw (eq-eqb _ _ z)
 
@@ -133,27 +135,55 @@ module _ (c : Counts) (pairs pending : List ℕ) (slots : List Slot) (o : Front)
 -- the facts of a state within the limits
 pub record Fine (p : CCDataParser) : Type 0 where
   pub few : p .«pair_count» ≤ 31
-  pub fields : fieldsFine (p .«pair_count») (p .pairs) ≡ true
-  pub off : p .«cea608_on» ≡ false → p .«pair_count» ≡ 0
+  pub stand : placedAll (pairsOf (p .«pair_count») (p .pairs)) ≡ take (3 * p .«pair_count») (p .pairs)
+  pub listed : p .«cea608_on» || eqb (p .«pair_count») 0 ≡ true
   pub short : p .«pending_len» ≤ 128
   pub waits : validPending (take (p .«pending_len») (p .pending)) ≡ true
   pub ring : RingFine (p .«waiting_first») (p .«waiting_count») (p .waiting)
 
+-- pairs stand in their places as they are laid exactly where they are of field 1 or 2
+fields-stand : (n : ℕ) (l : List ℕ) → 3 * n ≤ length l → same (placedAll (pairsOf n l)) (take (3 * n) l) ≡ fieldsFine n l
+unfolding placedAll pairsOf fieldsFine same
+fields-stand zero l h = refl
+fields-stand (suc n) [] h = absurd (omega arith)
+fields-stand (suc n) (x ∷ []) h = absurd (omega arith)
+fields-stand (suc n) (x ∷ y ∷ []) h = absurd (omega arith)
+fields-stand (suc n) (x ∷ y ∷ z ∷ l) h =
+    let m : 3 * suc n ≡ suc (suc (suc (3 * n))) = omega arith in
+    let r = fields-stand n l (omega arith) in
+    by-test (eqb x 0)
+    (λ t. let o : x ≡ 0 = eqb-true _ _ t in rw (o, m, eq-eqb y y refl, eq-eqb z z refl, r))
+    (λ t. rw (t, m, eq-eqb y y refl, eq-eqb z z refl, r) (ap (λ (b : Bool). b && fieldsFine n l) (second x (eqb-false x 0 t))))
+  where
+    second : (x : ℕ) → (x ≡ 0 → ⊥) → eqb 1 x ≡ leb x 1
+    second x n =
+        by-test (eqb 1 x)
+        (λ t. let o : 1 ≡ x = eqb-true _ _ t in rw (t, le-leb x 1 (omega arith)))
+        (λ t. rw (t, lt-leb x 1 (omega (arith, n, eqb-false 1 x t))))
+
+-- from the fields,
+pub placed-again : (n : ℕ) (l : List ℕ) → fieldsFine n l ≡ true → 3 * n ≤ length l → placedAll (pairsOf n l) ≡ take (3 * n) l
+placed-again n l e h = same-true _ _ (fields-stand n l h ∙ e)
+
+-- and to them
+pub again-placed : (n : ℕ) (l : List ℕ) → placedAll (pairsOf n l) ≡ take (3 * n) l → 3 * n ≤ length l → fieldsFine n l ≡ true
+again-placed n l e h = sym (fields-stand n l h) ∙ rw e (same-self (take (3 * n) l))
+
 -- the list's
 module _ (on : Bool) (n : ℕ) (l : List ℕ) where
   -- from the test
-  list-facts : listFine on n l ≡ true → (n ≤ 31) × (fieldsFine n l ≡ true) × (on ≡ false → n ≡ 0)
+  list-facts : listFine on n l ≡ true → (n ≤ 31) × (fieldsFine n l ≡ true) × (on || eqb n 0 ≡ true)
   unfolding listFine fieldsFine
   list-facts e =
       let f = both (leb n 31) (cond on (fieldsFine n l) (eqb n 0)) e in
       by-test on
-      (λ t. (leb-true _ _ (f .0), rw t at (f .1), λ o. absurd (true≢false (sym t ∙ o))))
-      (λ t. let z : n ≡ 0 = eqb-true _ _ (rw t at (f .1)) in (leb-true _ _ (f .0), rw z, λ _. z))
+      (λ t. (leb-true _ _ (f .0), rw t at (f .1), rw t))
+      (λ t. let z : n ≡ 0 = eqb-true _ _ (rw t at (f .1)) in (leb-true _ _ (f .0), rw z, rw (t, z)))
 
   -- to the test
-  facts-list : n ≤ 31 → fieldsFine n l ≡ true → (on ≡ false → n ≡ 0) → listFine on n l ≡ true
+  facts-list : n ≤ 31 → fieldsFine n l ≡ true → on || eqb n 0 ≡ true → listFine on n l ≡ true
   unfolding listFine
-  facts-list few fields off = by-test on (λ t. rw (le-leb n 31 few, t) fields) (λ t. rw (le-leb n 31 few, t, off t))
+  facts-list few fields listed = by-test on (λ t. rw (le-leb n 31 few, t) fields) (λ t. rw (le-leb n 31 few, t) (rw t at listed))
 
 -- how many pairs there are
 pub pairs-length : (n : ℕ) (l : List ℕ) → length (pairsOf n l) ≡ n
@@ -181,10 +211,19 @@ module _ (p : CCDataParser) where
   unfolding valid inOrder means
   valid-fine e =
       let u = both (inOrder p) (validDemux (means p)) e in
-      let l = both (listFine (p .«cea608_on») (p .«pair_count») (p .pairs)) _ (u .0) in
+      let l = both (same (placedAll (means p .pairs)) (take (3 * p .«pair_count») (p .pairs))) _ (u .0) in
       let r = both (leb (p .«pending_len») 128) _ (l .1) in
-      let f = list-facts (p .«cea608_on») (p .«pair_count») (p .pairs) (l .0) in
-      record { few = f .0; fields = f .1; off = f .2; short = leb-true _ _ (r .0); waits = demux-facts (means p) (u .1) .pending; ring = ring-facts _ _ _ (r .1) }
+      let w = both (leb (p .«waiting_first») 31) (every slotFine (ringFrom (p .«waiting_first») (p .«waiting_count») (p .waiting))) (r .1) in
+      let d = demux-facts (means p) (u .1) in
+      let many = packets-length _ (w .1) ∙ ring-length (p .«waiting_count») (p .«waiting_first») (p .waiting) in
+      record {
+        few = omega (arith, d .pairs, pairs-length (p .«pair_count») (p .pairs));
+        stand = same-true _ _ (l .0);
+        listed = rw (pairs-length (p .«pair_count») (p .pairs)) at (d .listed);
+        short = leb-true _ _ (r .0);
+        waits = d .pending;
+        ring = record { first = leb-true _ _ (w .0); count = omega (arith, d .waiting, many); reading = w .1 };
+      }
 
   -- the model's limits hold then
   pub fine-demux : Fine p → validDemux (means p) ≡ true
@@ -193,6 +232,7 @@ module _ (p : CCDataParser) where
       facts-demux (means p)
       (record {
         pairs = omega (arith, pairs-length (p .«pair_count») (p .pairs), v .few);
+        listed = rw (pairs-length (p .«pair_count») (p .pairs)) (v .listed);
         waiting = omega (arith, waiting-count v, v .ring .count);
         packets = packets-valid (map slotRun (ringFrom (p .«waiting_first») (p .«waiting_count») (p .waiting)));
         pending = v .waits;
@@ -200,9 +240,10 @@ module _ (p : CCDataParser) where
 
   -- to the test
   pub fine-valid : Fine p → valid p ≡ true
-  unfolding valid inOrder
+  unfolding valid inOrder means
   fine-valid v =
-      rw (facts-list (p .«cea608_on») (p .«pair_count») (p .pairs) (v .few) (v .fields) (v .off), le-leb _ _ (v .short), facts-ring _ _ _ (v .ring)) (fine-demux v)
+      and-both (inOrder p) (validDemux (means p)) (rw (v .stand, same-self (take (3 * p .«pair_count») (p .pairs)), le-leb _ _ (v .short), le-leb _ _ (v .ring .first)) (v .ring .reading))
+      (fine-demux v)
 
 -- tests that hold together are equal
 same-tests : (a b : Bool) → (a ≡ true → b ≡ true) → (b ≡ true → a ≡ true) → a ≡ b
@@ -218,15 +259,27 @@ tested-valid p c b shaped counted tested = (rw counted at tested) ∙ same-tests
     pending : pendingFine (p .«pending_len») (p .pending) ≡ leb (p .«pending_len») 128 && validPending (take (p .«pending_len») (p .pending))
     pending = fine-pending (p .«pending_len») (p .pending) (shaped .pending)
 
+    room : p .«pair_count» ≤ 31 → 3 * p .«pair_count» ≤ length (p .pairs)
+    room few = omega (arith, shaped .pairs)
+
     there : fine (countsOf p) (p .pairs) (p .pending) (p .waiting) ≡ true → valid p ≡ true
     there e =
         let u = both (listFine (p .«cea608_on») (p .«pair_count») (p .pairs)) _ e in
         let r = both (pendingFine (p .«pending_len») (p .pending)) _ (u .1) in
         let w = both (leb (p .«pending_len») 128) _ (sym pending ∙ r .0) in
         let f = list-facts (p .«cea608_on») (p .«pair_count») (p .pairs) (u .0) in
-        fine-valid p (record { few = f .0; fields = f .1; off = f .2; short = leb-true _ _ (w .0); waits = w .1; ring = ring-facts _ _ _ (r .1) })
+        fine-valid p
+        (record {
+          few = f .0;
+          stand = placed-again (p .«pair_count») (p .pairs) (f .1) (room (f .0));
+          listed = f .2;
+          short = leb-true _ _ (w .0);
+          waits = w .1;
+          ring = ring-facts _ _ _ (r .1);
+        })
 
     back : valid p ≡ true → fine (countsOf p) (p .pairs) (p .pending) (p .waiting) ≡ true
     back e =
         let v = valid-fine p e in
-        rw (facts-list (p .«cea608_on») (p .«pair_count») (p .pairs) (v .few) (v .fields) (v .off), pending, le-leb _ _ (v .short), v .waits) (facts-ring _ _ _ (v .ring))
+        let fields = again-placed (p .«pair_count») (p .pairs) (v .stand) (room (v .few)) in
+        rw (facts-list (p .«cea608_on») (p .«pair_count») (p .pairs) (v .few) fields (v .listed), pending, le-leb _ _ (v .short), v .waits) (facts-ring _ _ _ (v .ring))

@@ -1,61 +1,31 @@
--- What drawing says, in the paper's numbers: an item is told by 1 or 2 and two bytes for a pair of that field, by 3 for a packet, and by
--- nothing where none is left. Assumes nothing.
+-- What drawing answers: the item, the packet beside it, and the state. Assumes nothing.
 use mathlib.Core.Path.{_≡_}
-use mathlib.Core.Bool.{true}
-use mathlib.Core.List.{List, [], _∷_}
-use Prim.Native.Nat.{ℕ}
+use mathlib.Core.Bool.{true, cond}
+use mathlib.Core.List.{[], _∷_}
 use Rattle.caption.specs.Answers.{saidRefusal}
 use Rattle.caption.specs.Pairs.{cea608Of}
-use Rattle.model.specs.Said.{Said, Outcome, gave, refused, accepted, saysWith, checked}
-use Rattle.model.specs.Frame.{Cea608, field1, field2, pair}
-use Rattle.model.specs.Demux as model
-use Rattle.model.specs.Demux.{aPair, aPacket, noItem}
-use Rattle.packet.specs.Packet.{laid, blank}
-use Rattle.packet.specs.declared.DTVCCPacket.{DTVCCPacket}
+use Rattle.model.specs.Said.{Said, accepted, badValue}
+use Rattle.model.specs.Packet.{noPacket}
+use Rattle.model.specs.Demux.{quiet, draw, pairValues, itemValues, itemPacket}
+use Rattle.packet.specs.Packet.{laid}
 use Rattle.parser.specs.Valid.{valid}
-use Rattle.parser.specs.Means.{means}
-use Rattle.parser.specs.Calls.{drawn}
+use Rattle.parser.specs.Means as state
+use Rattle.parser.specs.Calls.{laidAfter}
 use Rattle.parser.specs.declared.Item.{Item}
 use Rattle.parser.specs.declared.Item.the-variants.{Pair, Packet, Nothing, Refused}
 use Rattle.parser.specs.declared.Drawn.{Drawn}
 use Rattle.parser.specs.declared.CCDataParser.{CCDataParser}
 
--- "a pair says which field"
-abbrev pub pairValues : Cea608 → List ℕ
-pairValues (field1 (pair a b)) = 1 ∷ a ∷ b ∷ []
-pairValues (field2 (pair a b)) = 2 ∷ a ∷ b ∷ []
-
--- what an item says
+-- what an item says: the values of the model's
 abbrev pub saidItem : Item → Said
 saidItem (Pair x) = accepted (pairValues (cea608Of x))
 saidItem Packet = accepted (3 ∷ [])
 saidItem Nothing = accepted []
 saidItem (Refused why) = saidRefusal why
 
--- "An item drawn out is a packet or a pair"
-abbrev pub itemValues : model.Item → List ℕ
-itemValues (aPair x) = pairValues x
-itemValues (aPacket p) = 3 ∷ []
-itemValues noItem = []
-
--- the packet beside the item
-abbrev pub packetOfItem : model.Item → DTVCCPacket
-packetOfItem (aPacket p) = laid p
-packetOfItem (aPair x) = blank
-packetOfItem noItem = blank
-
--- and beside a refusal
-abbrev pub packetBeside : Outcome model.Item → DTVCCPacket
-packetBeside (gave i) = packetOfItem i
-packetBeside (refused why) = blank
-
--- "11 comes first"; then the item that the model draws
-abbrev pub itemFrom : CCDataParser → Outcome model.Item
-itemFrom p = checked (valid p) (gave (model.draw (means p) .item))
-
--- what drawing answers, what the state means afterwards where it was not refused 11, and where it stands
+-- drawing answers the item that the model draws, with its packet, and leaves what the model leaves; "11 comes first", and then all stays
 pub record Draws (p : CCDataParser) (r : Drawn) : Type 0 where
-  pub item : saidItem (r .item) ≡ saysWith itemValues (itemFrom p)
-  pub packet : r .packet ≡ packetBeside (itemFrom p)
-  pub means : valid p ≡ true → means (r .parser) ≡ model.draw (means p) .next
-  pub places : r .parser ≡ drawn p
+  pub item : saidItem (r .item) ≡ cond (valid p) (accepted (itemValues (draw (state.means p) .item))) badValue
+  pub packet : r .packet ≡ laid (cond (valid p) (itemPacket (draw (state.means p) .item)) noPacket)
+  pub means : valid p ≡ true → state.means (r .parser) ≡ draw (state.means p) .next
+  pub places : r .parser ≡ cond (valid p) (laidAfter p (quiet (draw (state.means p) .next))) p

@@ -1,19 +1,18 @@
 -- The steps of drawing an item. No public contract reaches this file. Assumes nothing.
 use mathlib.Core.List.{List, _++_}
 use mathlib.Core.Bool.{Bool, cond}
-use Prim.Native.Nat.{ℕ, _-_, _*_, _≤_}
+use Prim.Native.Nat.{ℕ, _+_, _-_, _*_, _%_, _≤_}
 use lib.ListN.{getD, take, drop}
 use lib.Dec.{eqb}
 use Rattle.caption.specs.declared.Cea608.{Cea608}
 use Rattle.caption.specs.declared.Cea608.the-variants.{Field1, Field2}
 use Rattle.caption.specs.declared.Refusal.the-variants as refusal
 use Rattle.model.specs.Said.{mapped, after}
-use Rattle.model.specs.Packet.{readPacket}
+use Rattle.model.specs.Packet.{noPacket, readPacket}
 use Rattle.packet.specs.Packet.{laid, blank}
 use Rattle.slots.specs.declared.Slot.{Slot}
 use Rattle.packet.specs.declared.DTVCCPacket.{DTVCCPacket}
 use Rattle.gather.specs.Ring.{slotFine}
-use Rattle.parser.specs.Calls.{placeBehind}
 use Rattle.parser.specs.declared.Counts.{Counts}
 use Rattle.parser.specs.declared.Took.{Took}
 use Rattle.parser.specs.declared.Item.{Item}
@@ -24,6 +23,10 @@ use Rattle.parser.specs.declared.Drawn.{Drawn}
 -- the first n elements are those that stood k further, and the others stay
 unfoldable pub slid : {A : Type 0} → ℕ → ℕ → List A → List A
 slid k n l = take n (drop k l) ++ drop n l
+
+-- the place of the ring's head once the slot there is taken; a ring that is emptied starts again at its first place
+unfoldable pub placeBehind : ℕ → ℕ → ℕ
+placeBehind first waiting = cond (eqb waiting 1) 0 ((first + 1) % 32)
 
 -- the pair at the head of the list's places
 unfoldable pub firstPair : List ℕ → Cea608
@@ -55,7 +58,7 @@ unfoldable pub takePair : Counts → List ℕ → Taken
 takePair c l =
     record {
       item = Pair (firstPair l);
-      packet = blank;
+      packet = laid noPacket;
       pairs = c .pairs - 1;
       places = slid 3 (3 * (c .pairs - 1)) l;
       first = c .first;
@@ -76,11 +79,11 @@ takePacket c l slot =
 
 -- nothing taken
 abbrev pub takeNone : Item → Counts → List ℕ → Taken
-takeNone item c l = record { item = item; packet = blank; pairs = c .pairs; places = l; first = c .first; waiting = c .waiting }
+takeNone item c l = record { item = item; packet = laid noPacket; pairs = c .pairs; places = l; first = c .first; waiting = c .waiting }
 
 -- as a taker answers it
 abbrev pub noneTook : Item → Counts → Took
-noneTook item c = record { item = item; packet = blank; pairs = c .pairs; first = c .first; waiting = c .waiting }
+noneTook item c = record { item = item; packet = laid noPacket; pairs = c .pairs; first = c .first; waiting = c .waiting }
 
 -- "first the list's pairs in order, then packets, oldest first"; "with none left it says so"
 unfoldable pub takeItem : Bool → Counts → List ℕ → Slot → Taken

@@ -6,16 +6,16 @@ ghost use Prim.Native.Nat.{ℕ, _≤_};
 ghost use lib.ListN.{length};
 ghost use Rattle.caption.specs.Answers.{saidCounted};
 ghost use Rattle.model.specs.Said.{measured};
-ghost use Rattle.packet.specs.Packet.{blank};
-ghost use Rattle.model.specs.Demux.{freshDemux, turn608On, flushDemux, takeFrame};
+ghost use Rattle.model.specs.Packet.{noPacket};
+ghost use Rattle.packet.specs.Packet.{laid};
+ghost use Rattle.model.specs.Demux.{freshDemux, quiet, turn608On, flushDemux, takeFrame};
 ghost use Rattle.gather.specs.Tests.{headFine, pendingFine};
-ghost use Rattle.parser.specs.Means.{means};
-ghost use Rattle.parser.specs.Valid.{fieldsFine, listFine, valid};
-ghost use Rattle.parser.specs.Fresh.{fresh};
-ghost use Rattle.parser.specs.Calls.{Answers, saidPush, saidCall, afterCall, turnedOn, pushed, placeBehind};
-ghost use Rattle.parser.specs.Tests.{frontOf, countsOf};
+ghost use Rattle.parser.specs.Means.{means, Shaped};
+ghost use Rattle.parser.specs.Valid.{valid};
+ghost use Rattle.parser.specs.Calls.{fresh, laidAfter, Answers};
+ghost use Rattle.parser.specs.Tests.{fieldsFine, listFine, frontOf, countsOf};
 ghost use Rattle.parser.specs.Push.{fed, refusedFor};
-ghost use Rattle.parser.specs.Take.{firstPair, slid, takenBy, takePair, takeNone, takeHead, takeBehind, takeItem, noneTook, Takes};
+ghost use Rattle.parser.specs.Take.{placeBehind, firstPair, slid, takenBy, takePair, takeHead, takeBehind, takeItem, noneTook, Takes};
 ghost use Rattle.parser.specs.Items.{Draws};
 use caption::Answer;
 use caption::Cea608;
@@ -204,15 +204,10 @@ fn place_behind(first: usize, waiting: usize) -> usize
 
 // No packet.
 fn no_packet() -> DTVCCPacket
-    ensures { λ r. ⌜ r ≡ blank ⌝ }
+    ensures { λ r. ⌜ r ≡ laid noPacket ⌝ }
 {
-    DTVCCPacket {
-        seq_no: 0,
-        count: 0,
-        numbers: [0u8; 63],
-        sizes: [0u8; 63],
-        payload: [0u8; 127],
-    }
+    let r = DTVCCPacket::new(0);
+    r.packet
 }
 
 // Takes nothing.
@@ -323,9 +318,9 @@ impl CCDataParser {
         }
     }
 
-    // The numbers of the state.
+    // The numbers of the state, whose arrays have their lengths.
     fn counts(self) -> Counts
-        ensures { λ r. ⌜ r ≡ countsOf self ⌝ }
+        ensures { λ r. ⌜ (r ≡ countsOf self) × Shaped self ⌝ }
     {
         Counts {
             on: self.cea608_on,
@@ -361,7 +356,7 @@ impl CCDataParser {
 
     // Turns 608 on: the pairs of frames are listed from now on, and the list is empty.
     pub fn handle_cea608(self) -> ParserAnswer
-        ensures { λ r. ⌜ Answers self (saidCall self) (turn608On (means self)) (afterCall self (turnedOn self)) r ⌝ }
+        ensures { λ r. ⌜ Answers (quiet (turn608On (means self))) (laidAfter self) self r ⌝ }
     {
         if self.is_valid() {
             let mut parser = self;
@@ -377,7 +372,7 @@ impl CCDataParser {
 
     // Returns to fresh, with 608 off.
     pub fn flush(self) -> ParserAnswer
-        ensures { λ r. ⌜ Answers self (saidCall self) (flushDemux (means self)) (afterCall self fresh) r ⌝ }
+        ensures { λ r. ⌜ Answers (quiet (flushDemux (means self))) (λ _. fresh) self r ⌝ }
     {
         if self.is_valid() {
             let parser = CCDataParser::new();
@@ -441,7 +436,7 @@ impl CCDataParser {
 
     // Reads a frame.
     pub fn push(self, frame: &[u8]) -> ParserAnswer
-        ensures { λ r. ⌜ Answers self (saidPush self (now (frame .entry))) (takeFrame (now (frame .entry)) (means self) .next) (pushed self (now (frame .entry))) r ⌝ }
+        ensures { λ r. ⌜ Answers (takeFrame (now (frame .entry)) (means self)) (laidAfter self) self r ⌝ }
     {
         let mut pairs = self.pairs;
         let mut pending = self.pending;

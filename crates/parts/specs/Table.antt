@@ -15,14 +15,13 @@ use Rattle.caption.specs.Pairs.{cea608Of}
 use Rattle.caption.specs.Rates.{rate}
 use Rattle.service.specs.Service as block
 use Rattle.packet.specs.Packet as packet
-use Rattle.parser.specs.Fresh as parser
-use Rattle.parser.specs.Calls.{saidPush, saidCall, afterCall, turnedOn, pushed as pushedFrame}
+use Rattle.parser.specs.Calls as parser
 use Rattle.writer.specs.declared.CCDataWriter.{CCDataWriter}
 use Rattle.writer.specs.Writer as writer
 use Rattle.writer.specs.Writer.{means, validWriter, stored, emptied}
 use Rattle.records.specs.Reading.{highestFirst}
 use Rattle.answers.specs.Script.{answerLine, runLine, blockMeasures, packetMeasures, durations, readBlockLine, readPacketLine}
-use Rattle.answers.specs.Steps.{Effect, tells, lays, makes, reads, becomes}
+use Rattle.answers.specs.Steps.{Effect, lays, makes, reads, becomes}
 use Rattle.values.specs.Fields as values
 use Rattle.machines.specs.Counts as machines
 use Rattle.parts.specs.declared.Machine.{Machine}
@@ -106,13 +105,13 @@ parserRows =
     -- "r becomes a fresh demultiplexer"
     row "R" (exactly 0) (λ m a. onParser m (becomes parser.fresh))
     -- "608 turned on in r"
-    ∷ row "H" (exactly 0) (λ m a. onParser m (tells (saidCall (m .r)) (afterCall (m .r) (turnedOn (m .r)))))
+    ∷ row "H" (exactly 0) (λ m a. onParser m (machines.turnsOn (m .r)))
     -- "a frame pushed into r"
-    ∷ row "f" allOfThem (λ m a. onParser m (tells (saidPush (m .r) a) (pushedFrame (m .r) a)))
+    ∷ row "f" allOfThem (λ m a. onParser m (machines.pushes a (m .r)))
     -- "one item drawn from r"
     ∷ row "n" (exactly 0) (λ m a. onParser m (machines.draws (m .r)))
     -- "r flushed"
-    ∷ row "F" (exactly 0) (λ m a. onParser m (tells (saidCall (m .r)) (afterCall (m .r) parser.fresh)))
+    ∷ row "F" (exactly 0) (λ m a. onParser m (machines.flushes (m .r)))
     ∷ []
 
 -- on the multiplexer:

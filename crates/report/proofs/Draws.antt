@@ -8,25 +8,25 @@ use lib.ListN.{length}
 use Rattle.model.specs.Lists.{every}
 use Rattle.caption.specs.declared.Cea608.the-variants.{Field1, Field2}
 use Rattle.model.specs.Said.{Said, accepted}
-use Rattle.model.specs.Packet.{Packet, validPacket}
+use Rattle.model.specs.Packet.{Packet, noPacket, packetLength, validPacket}
 use Rattle.model.specs.Frame.{Cea608, field1, field2, pair}
 use Rattle.model.specs.Demux as model
-use Rattle.model.specs.Demux.{Demux, aPair, aPacket, noItem}
+use Rattle.model.specs.Demux.{Demux, aPair, aPacket, noItem, itemValues, itemPacket}
 use Rattle.model.proofs.Cases.{both}
 use Rattle.model.proofs.Packets.{Valid, valid-facts}
 use Rattle.model.proofs.DemuxStates.{demux-facts}
 use Rattle.packet.specs.Packet.{packetOf, blank, laid, validDTVCC}
-use Rattle.packet.proofs.Keeps.{blank-places, blank-valid, laid-over}
+use Rattle.packet.proofs.Keeps.{blank-places, laid-over}
 use Rattle.parser.specs.Valid.{valid}
 use Rattle.parser.specs.Means.{means}
-use Rattle.parser.specs.Calls.{headAfter, drawn}
-use Rattle.parser.specs.Items.{Draws, saidItem, itemValues, packetOfItem}
+use Rattle.parser.specs.After.{drawn}
+use Rattle.parser.specs.Items.{Draws, saidItem}
 use Rattle.parser.specs.declared.Item.{Item}
 use Rattle.parser.specs.declared.Item.the-variants as item
 use Rattle.parser.specs.declared.Drawn.{Drawn}
 use Rattle.parser.specs.declared.CCDataParser.{CCDataParser}
-use Rattle.parser.proofs.Laid.{Sound, laid-same}
-use Rattle.parser.proofs.Kept.{sound-fine, sound-demux}
+use Rattle.parser.proofs.Laid.{Sound}
+use Rattle.parser.proofs.Kept.{sound-demux, laid-still}
 use Rattle.parser.proofs.Items.{saidItem-injective}
 use Rattle.report.specs.Report.{pairLine, packetLines, pairLines, packetsLines, waitingLines, itemLines, drawnOut}
 
@@ -89,22 +89,18 @@ item-said noItem = refl
 
 -- a packet that is drawn is within its limits
 abbrev Holds : model.Item → Type 0
-Holds (aPacket p) = Valid p
-Holds (aPair x) = Unit {0}
-Holds noItem = Unit {0}
+Holds i = Valid (itemPacket i)
 
 -- the lines of the item, beside which the packet stands
-item-lines : (i : model.Item) → Holds i → itemLines (itemAs i) (packetOf (packetOfItem i)) ≡ linesOf i
+item-lines : (i : model.Item) → Holds i → itemLines (itemAs i) (packetOf (laid (itemPacket i))) ≡ linesOf i
 unfolding itemLines
 item-lines (aPair (field1 (pair a b))) h = refl
 item-lines (aPair (field2 (pair a b))) h = refl
 item-lines (aPacket p) h = ap packetLines (laid-over blank blank-places p h .holds)
 item-lines noItem h = refl
 
-beside-valid : (i : model.Item) → Holds i → validDTVCC (packetOfItem i) ≡ true
-beside-valid (aPair x) h = blank-valid
-beside-valid (aPacket p) h = laid-over blank blank-places p h .valid
-beside-valid noItem h = blank-valid
+beside-valid : (i : model.Item) → Holds i → validDTVCC (laid (itemPacket i)) ≡ true
+beside-valid i h = laid-over blank blank-places (itemPacket i) h .valid
 
 -- a draw that tells nothing found nothing
 none-told : (i : model.Item) → length (itemValues i) ≡ 0 → i ≡ noItem
@@ -125,6 +121,10 @@ none-left d e = by-items (d .on608) (d .pairs) (d .pending) (d .waiting) e
     by-items on [] g (p ∷ ps) k = absurd (omega (arith, ap (λ (i : model.Item). length (itemValues i)) k))
     by-items on [] g [] k = refl
 
+none-valid : validPacket noPacket ≡ true
+unfolding validPacket every packetLength
+none-valid = refl
+
 first-holds : (d : Demux) → every validPacket (d .waiting) ≡ true → Holds (model.draw d .item)
 unfolding model.draw every
 first-holds d v = by-items (d .on608) (d .pairs) (d .pending) (d .waiting) v
@@ -132,9 +132,9 @@ first-holds d v = by-items (d .on608) (d .pairs) (d .pending) (d .waiting) v
     by-items : (on : _) (xs : List Cea608) (g : List ℕ) (ps : List Packet)
         → let w : Demux = record { on608 = on; pairs = xs; pending = g; waiting = ps } in
         every validPacket ps ≡ true → Holds (model.draw w .item)
-    by-items on (x ∷ xs) g ps k = tt
+    by-items on (x ∷ xs) g ps k = valid-facts noPacket none-valid
     by-items on [] g (p ∷ ps) k = valid-facts p (both (validPacket p) (every validPacket ps) k .0)
-    by-items on [] g [] k = tt
+    by-items on [] g [] k = valid-facts noPacket none-valid
 
 -- with none left a draw leaves all as it is
 draw-none : (d : Demux) → itemsIn d ≡ 0 → model.draw d ≡ record { item = noItem; next = d }
@@ -159,7 +159,7 @@ module _ (p : CCDataParser) (s : Sound p) (r : Drawn) (h : Draws p r) where
   said : saidItem (r .item) ≡ accepted (itemValues first)
   said = rw (s .valid) at (h .item)
 
-  beside : r .packet ≡ packetOfItem first
+  beside : r .packet ≡ laid (itemPacket first)
   beside = rw (s .valid) at (h .packet)
 
   item-is : r .item ≡ itemAs first
@@ -183,8 +183,7 @@ module _ (p : CCDataParser) (s : Sound p) where
 
   -- where nothing waits a draw changes nothing,
   drawn-stays : itemsIn (means p) ≡ 0 → drawn p ≡ p
-  unfolding drawn headAfter
-  drawn-stays z = rw (s .valid, draw-none (means p) z) (laid-same p (sound-fine p s) (s .shaped))
+  drawn-stays z = rw (s .valid, draw-none (means p) z) (laid-still p s)
 
   -- nor do more
   pub stays : (n : ℕ) → itemsIn (means p) ≡ 0 → drawnOut n p ≡ p

@@ -2,10 +2,9 @@
 use mathlib.Core.Path.{_≡_, sym, ap, _∙_}
 use mathlib.Core.Bool.{true, false}
 use mathlib.Core.List.{List, _++_, append-nil}
-use Prim.Native.Nat.{ℕ, _≤_}
+use Prim.Native.Nat.{ℕ}
 use native.Mathlib.Omega.{arith}
 use lib.Dec.{eqb}
-use lib.ListN.{length}
 use borrow.Author.Tests.{eq-eqb, ne-eqb}
 use Rattle.caption.specs.declared.Refusal.{Refusal}
 use Rattle.caption.specs.declared.Refusal.the-variants.{LengthMismatch, Cea608AfterCea708, WouldOverflow, ReadOnly, EmptyService, BadNumber, BadRun, BadRate, OutShort, Full, BadValue}
@@ -19,7 +18,8 @@ use Rattle.records.proofs.Layings.{laid-append}
 use Rattle.lines.specs.Lines.{frameLine}
 use Rattle.parser.specs.Valid.{valid}
 use Rattle.parser.specs.Means.{means, Shaped}
-use Rattle.parser.specs.Calls.{Answers, saidPush, pushed}
+use Rattle.parser.specs.Calls.{laidAfter, Answers}
+use Rattle.parser.specs.After.{saidOf}
 use Rattle.parser.specs.declared.ParserAnswer.{ParserAnswer}
 use Rattle.parser.specs.declared.CCDataParser.{CCDataParser}
 use Rattle.parser.proofs.Laid.{Sound}
@@ -41,13 +41,13 @@ refusal-numbered Full z = omega arith
 refusal-numbered BadValue z = omega arith
 
 -- a frame pushed
-module _ (p : CCDataParser) (f : List ℕ) (shaped : Shaped p) (a : ParserAnswer) (h : Answers p (saidPush p f) (takeFrame f (means p) .next) (pushed p f) a) where
+module _ (p : CCDataParser) (f : List ℕ) (shaped : Shaped p) (a : ParserAnswer) (h : Answers (takeFrame f (means p)) (laidAfter p) p a) where
   abbrev number : Said → ℕ
   number s = s .number
 
   -- it is accepted
   module _ (e : a .answer ≡ Accepted) where
-    zero-said : saidPush p f .number ≡ 0
+    zero-said : saidOf p (takeFrame f (means p)) .number ≡ 0
     zero-said = ap number (sym (h .answer) ∙ ap saidAnswer e)
 
     sound : Sound p
@@ -77,7 +77,7 @@ module _ (p : CCDataParser) (f : List ℕ) (shaped : Shaped p) (a : ParserAnswer
 
   -- it is refused
   module _ (why : Refusal) (e : a .answer ≡ Refused why) where
-    some-said : eqb (saidPush p f .number) 0 ≡ false
+    some-said : eqb (saidOf p (takeFrame f (means p)) .number) 0 ≡ false
     some-said = ne-eqb _ _ (λ z. refusal-numbered why (ap number (ap saidAnswer (sym e) ∙ h .answer) ∙ z))
 
     pub refused-lines : (r : ℕ) → frameLine r (saidAnswer (a .answer)) ≡ frameLines r f p

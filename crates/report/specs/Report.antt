@@ -13,7 +13,7 @@ use Rattle.records.specs.Text.{word}
 use Rattle.lines.specs.Lines.{pairText, packetText, frameLine, blockLine}
 use Rattle.parser.specs.Valid.{valid}
 use Rattle.parser.specs.Means.{means}
-use Rattle.parser.specs.Calls.{saidPush, pushed, drawn}
+use Rattle.parser.specs.After.{saidOf, pushed, drawn}
 use Rattle.parser.specs.declared.Item.{Item}
 use Rattle.parser.specs.declared.Item.the-variants as item
 use Rattle.parser.specs.declared.CCDataParser.{CCDataParser}
@@ -59,7 +59,7 @@ drawnOut (suc n) p = drawnOut n (drawn p)
 
 -- and after a frame of which everything is drawn: no frame leaves more than 31 pairs and 32 packets
 unfoldable pub settled : CCDataParser → List ℕ → CCDataParser
-settled p f = cond (eqb (saidPush p f .number) 0) (drawnOut 63 (pushed p f)) (pushed p f)
+settled p f = cond (eqb (saidOf p (takeFrame f (means p)) .number) 0) (drawnOut 63 (pushed p f)) (pushed p f)
 
 -- the lines of an item beside which a packet stands
 unfoldable pub itemLines : Item → Packet → List ℕ

@@ -1,35 +1,20 @@
 -- What a slot that is a written packet holds, and what makes one. Assumes nothing.
-use mathlib.Core.Path.{_≡_, refl, sym, ap, _∙_}
-use mathlib.Core.Bool.{true, false, false≢true}
-use mathlib.Core.List.{List, [], _∷_}
-use Prim.Native.Nat.{ℕ, _+_, _*_, _/_, _≤_}
+use mathlib.Core.Path.{_≡_, sym, ap, _∙_}
+use mathlib.Core.Bool.{true}
+use Prim.Native.Nat.{_+_, _*_, _/_, _≤_}
 use native.Mathlib.Omega.{arith}
 use borrow.Author.Tests.{eq-eqb, eqb-true, le-leb, leb-true}
 use lib.Dec.{eqb}
 use lib.ListN.{length}
-use Rattle.model.specs.Lists.{same}
 use Rattle.model.specs.Packet.{Packet, packetLength, writtenPacket, validPacket}
 use Rattle.model.specs.Mux.{storable, started}
-use Rattle.model.proofs.Cases.{both, and-both}
+use Rattle.model.proofs.Cases.{both}
+use Rattle.model.proofs.Lists.{same-true, same-self}
 use Rattle.model.proofs.Packets.{Valid, valid-facts, facts-valid, Shape, shape, plain-back}
 use Rattle.model.proofs.Sends.{triples-written}
 use Rattle.slots.specs.Slot.{writtenBytes, slotPacket, writtenSlot}
 use Rattle.slots.specs.Walk.{Carries}
 use Rattle.slots.specs.declared.Slot.{Slot}
-
--- bytes that are the same
-same-true : (d e : List ℕ) → same d e ≡ true → d ≡ e
-unfolding same
-same-true [] [] z = refl
-same-true [] (y ∷ e) z = absurd (false≢true z)
-same-true (x ∷ d) [] z = absurd (false≢true z)
-same-true (x ∷ d) (y ∷ e) z = let t = both (eqb x y) (same d e) z in (cc (eqb-true x y (t .0), same-true d e (t .1)))
-
--- bytes are the same as they are
-same-self : (d : List ℕ) → same d d ≡ true
-unfolding same
-same-self [] = refl
-same-self (x ∷ d) = and-both _ _ (eq-eqb x x refl) (same-self d)
 
 -- what makes a written packet
 module _ (s : Slot) (p : Packet) (v : Valid p) (some : 1 ≤ length (p .blocks)) (l : packetLength p ≡ s .len) (w : writtenBytes s ≡ writtenPacket p) where

@@ -9,7 +9,7 @@ use Rattle.model.specs.Said.{accepted}
 use Rattle.model.specs.Packet.{Packet, validPacket}
 use Rattle.model.specs.Frame.{pair, Cea608, field1, field2}
 use Rattle.model.specs.Demux as model
-use Rattle.model.specs.Demux.{Demux, aPair, aPacket, noItem}
+use Rattle.model.specs.Demux.{Demux, aPair, aPacket, noItem, itemValues, itemPacket}
 use Rattle.model.specs.Run.{emptied, ofField1, ofField2, others}
 use Rattle.model.proofs.Cases.{both}
 use Rattle.model.proofs.Packets.{valid-facts}
@@ -23,7 +23,7 @@ use Rattle.packet.specs.Packet.{packetOf, laid, blank}
 use Rattle.packet.specs.declared.DTVCCPacket.{DTVCCPacket}
 use Rattle.packet.proofs.Holds.{over-holds}
 use Rattle.parser.specs.Means.{means}
-use Rattle.parser.specs.Items.{Draws, saidItem, itemValues, packetOfItem}
+use Rattle.parser.specs.Items.{Draws, saidItem}
 use Rattle.parser.proofs.Laid.{Sound}
 use Rattle.parser.proofs.Kept.{drawn-sound}
 use Rattle.parser.proofs.Items.{saidItem-injective}
@@ -79,7 +79,7 @@ toldOf d = draws.itemsIn d ++ (noItem ∷ [])
 -- what the contract of a draw says of a state within the limits: the item is what the model draws, and so is what is left
 pub record Drew (i : model.Item) (next : Demux) (r : Drawn) : Type 0 where
   pub item : r .item ≡ itemFor i
-  pub packet : r .packet ≡ packetOfItem i
+  pub packet : r .packet ≡ laid (itemPacket i)
   pub sound : Sound (r .parser)
   pub means : means (r .parser) ≡ next
 

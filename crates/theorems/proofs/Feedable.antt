@@ -9,9 +9,10 @@ use Rattle.model.specs.Packet.{Packet}
 use Rattle.model.specs.Frame.{Cea608}
 use Rattle.model.specs.Demux as model
 use Rattle.caption.specs.declared.Answer.{Answer}
+use Rattle.packet.specs.Packet.{laid}
 use Rattle.parser.specs.Means.{means}
-use Rattle.parser.specs.Calls.{pushed, drawn}
-use Rattle.parser.specs.Items.{Draws, packetOfItem}
+use Rattle.parser.specs.After.{pushed, drawn}
+use Rattle.parser.specs.Items.{Draws}
 use Rattle.parser.proofs.Laid.{Sound}
 use Rattle.parser.proofs.Kept.{pushed-sound, means-drawn}
 use Rattle.parser.proofs.Pushes.{frame-answer}
@@ -31,7 +32,7 @@ lent bytes = record { ptr = (0, 0); name = 0; now = bytes }
 
 -- a draw that the contract allows: what the model draws
 abbrev drawing : CCDataParser → Drawn
-drawing p = record { item = itemFor (model.draw (means p) .item); packet = packetOfItem (model.draw (means p) .item); parser = drawn p }
+drawing p = record { item = itemFor (model.draw (means p) .item); packet = laid (model.itemPacket (model.draw (means p) .item)); parser = drawn p }
 
 -- the contract allows it
 draw-allowed : (p : CCDataParser) → Sound p → Draw p (drawing p)

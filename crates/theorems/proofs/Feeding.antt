@@ -22,7 +22,7 @@ use Rattle.caption.specs.declared.Refusal.{Refusal}
 use Rattle.caption.specs.declared.Answer.the-variants.{Accepted, Refused}
 use Rattle.caption.proofs.Answers.{saidAnswer-injective}
 use Rattle.parser.specs.Means.{means}
-use Rattle.parser.specs.Calls.{Answers, saidPush, pushed}
+use Rattle.parser.specs.Calls.{laidAfter, Answers}
 use Rattle.parser.proofs.Laid.{Sound}
 use Rattle.parser.proofs.Kept.{sound-demux, pushed-sound}
 use Rattle.parser.specs.declared.CCDataParser.{CCDataParser}
@@ -66,7 +66,7 @@ feeds-at no-frame d s e = record { said = refl; tells = refl; items = refl; soun
 feeds-at {p} (feed {q} {fs} {answers} {told} {told′} {is} {is′} κs frame r a c k) d s e =
     let f : List ℕ = now frame in
     let t : Demux = takeFrame f d .next in
-    let b : Answers p (saidPush p f) (takeFrame f (means p) .next) (pushed p f) r = a in
+    let b : Answers (takeFrame f (means p)) (laidAfter p) p r = a in
     let next : means (r .parser) ≡ t = b .means (s .valid) ∙ ap (λ (x : Demux). takeFrame f x .next) e in
     let sound : Sound (r .parser) = rw (b .places) (pushed-sound p f s) in
     let m = empties-from c sound t next (demux-facts t (rw next at (sound-demux (r .parser) sound)) .packets) in

@@ -5,7 +5,7 @@ use Prim.Native.Nat.{ℕ}
 use native.Mathlib.Omega.{arith}
 use lib.ListN.{length, replicate}
 use Rattle.model.specs.Said as said
-use Rattle.model.specs.Demux.{freshDemux, turn608On}
+use Rattle.model.specs.Demux.{quiet, freshDemux, turn608On}
 use Rattle.model.specs.Run as model
 use Rattle.model.specs.Run.{Read, readFrames}
 use Rattle.journey.proofs.Trip as journey
@@ -20,7 +20,7 @@ use Rattle.writer.proofs.Triples.{left-end}
 use Rattle.writer.specs.declared.CCDataWriter.{CCDataWriter}
 use Rattle.parser.specs.Means as parser
 use Rattle.parser.specs.Calls as calls
-use Rattle.parser.specs.Fresh as parser-fresh
+use Rattle.parser.specs.After as after
 use Rattle.parser.proofs.Laid as places
 use Rattle.parser.proofs.Kept as kept
 use Rattle.parser.specs.declared.CCDataParser.{CCDataParser}
@@ -56,10 +56,10 @@ record Ready (on : ParserAnswer) : Type 0 where
 -- from the contracts
 ready : (p : CCDataParser) (on : ParserAnswer) → NewParser p → HandleCea608 p on → Ready on
 ready p on a h =
-    let e : p ≡ parser-fresh.fresh = a .1 in
-    let c : calls.Answers p (calls.saidCall p) (turn608On (parser.means p)) (calls.afterCall p (calls.turnedOn p)) on = h in
+    let e : p ≡ calls.fresh = a .1 in
+    let c : calls.Answers (quiet (turn608On (parser.means p))) (calls.laidAfter p) p on = h in
     let s : places.Sound p = rw e kept.fresh-sound in
-    let t : on .parser ≡ calls.turnedOn p = rw (s .valid) at (c .places) in
+    let t : on .parser ≡ after.turnedOn p = rw (s .valid) at (c .places) in
     record {
       answer = saidAnswer-injective (on .answer) Accepted (rw (s .valid) at (c .answer));
       sound = rw t (kept.turned-sound p s);

@@ -1,6 +1,6 @@
 -- Laws of listing the pairs. Assumes nothing.
 use mathlib.Core.Path.{_≡_, refl, sym, _∙_}
-use mathlib.Core.List.{List, [], _∷_}
+use mathlib.Core.List.{List, _∷_}
 use Prim.Native.Nat.{ℕ, suc, _+_, _*_, _%_, _≤_, _<_}
 use native.Mathlib.Omega.{arith}
 use lib.ListN.{length, getD, set}
@@ -11,7 +11,7 @@ use Rattle.model.proofs.Cases.{by-test}
 use Rattle.model.specs.Frame.{tri, Seen, seen, first, second, Cea608, field1, field2, pair}
 use Rattle.model.specs.Demux.{pairsIn}
 use Rattle.triples.specs.Walk.{seenFrom}
-use Rattle.triples.specs.Pairs.{placed, placedAll}
+use Rattle.triples.specs.Pairs.{placedAll}
 use Rattle.triples.specs.Listing.{Listing, listing}
 use Rattle.triples.proofs.Walks.{seen-next, seen-none, sees-void608, sees-first, sees-second, sees-void708, sees-708}
 
@@ -22,7 +22,7 @@ stored l p q r s k x y vs e f g = rw (← g, ← f, ← e)
 
 module _ (n : ℕ) (l : List ℕ) where
   -- one pair more, laid by three stores
-  listed : (p : Cea608) (k x y : ℕ) (ts : List Seen) (t : Seen) → pairsIn (t ∷ ts) ≡ p ∷ pairsIn ts → placed p ≡ k ∷ x ∷ y ∷ []
+  listed : (p : Cea608) (k x y : ℕ) (ts : List Seen) (t : Seen) → pairsIn (t ∷ ts) ≡ p ∷ pairsIn ts → placedAll (p ∷ pairsIn ts) ≡ k ∷ x ∷ y ∷ placedAll (pairsIn ts)
       → listing n l (t ∷ ts) ≡ listing (n + 1) (set (set (set l (3 * n) k) (3 * n + 1) x) (3 * n + 2) y) ts
   unfolding listing placedAll
   listed p k x y ts t e f =
@@ -38,7 +38,7 @@ module _ (n : ℕ) (l : List ℕ) where
     -- a valid one lists its pair
     pub list-pair : c % 4 < 2 → 4 ≤ c % 8
         → listing n l (seen (tri c x y) ∷ ts) ≡ listing (n + 1) (set (set (set l (3 * n) (c % 4)) (3 * n + 1) x) (3 * n + 2) y) ts
-    unfolding pairsIn
+    unfolding pairsIn placedAll
     list-pair h k =
         by-test (eqb (c % 8) 4)
         (λ e. let z : c % 4 ≡ 0 = omega (arith, eqb-true (c % 8) 4 e) in

@@ -1,20 +1,16 @@
 -- The list of pairs as bytes: three places a pair, its field (0 for field 1, 1 for field 2) and its two bytes. Assumes nothing.
-use mathlib.Core.List.{List, [], _∷_, _++_}
+use mathlib.Core.List.{List, [], _∷_}
 use mathlib.Core.Bool.{cond}
 use Prim.Native.Nat.{ℕ, zero, suc}
 use lib.ListN.{getD, drop}
 use lib.Dec.{eqb}
 use Rattle.model.specs.Frame.{pair, Cea608, field1, field2}
 
--- "a pair says which field": the places of a pair
-abbrev pub placed : Cea608 → List ℕ
-placed (field1 (pair a b)) = 0 ∷ a ∷ b ∷ []
-placed (field2 (pair a b)) = 1 ∷ a ∷ b ∷ []
-
--- the places of pairs, one behind the other
+-- "a pair says which field": the places of pairs, one behind the other
 unfoldable pub placedAll : List Cea608 → List ℕ
 placedAll [] = []
-placedAll (p ∷ ps) = placed p ++ placedAll ps
+placedAll (field1 (pair a b) ∷ ps) = 0 ∷ a ∷ b ∷ placedAll ps
+placedAll (field2 (pair a b) ∷ ps) = 1 ∷ a ∷ b ∷ placedAll ps
 
 -- the pair that stands at the head of places
 abbrev pub pairAt : List ℕ → Cea608

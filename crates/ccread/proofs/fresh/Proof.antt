@@ -1,17 +1,17 @@
 -- A fresh demultiplexer is within its limits, so that 608 is turned on. Assumes nothing.
-use mathlib.Core.Path.{_≡_, refl, ap, _∙_}
-use mathlib.Core.Bool.{true}
+use mathlib.Core.Path.{_≡_, ap, _∙_}
+use mathlib.Core.Bool.{true, cond}
 use borrow.Author.Needs.{needs}
-use Rattle.parser.specs.Fresh.{fresh}
-use Rattle.parser.specs.Calls.{afterCall, turnedOn}
+use Rattle.parser.specs.Valid.{valid}
+use Rattle.parser.specs.Calls.{fresh}
+use Rattle.parser.specs.After.{turnedOn}
 use Rattle.parser.specs.declared.CCDataParser.{CCDataParser}
 use Rattle.parser.proofs.Kept.{fresh-sound}
-use Rattle.ccread.specs.Walk.{freshState}
 use Rattle.ccread.specs.declared.State.{State}
 use Rattle.ccread.proofs.fresh.Statement.{statement}
 use Rattle.ccread.proofs.fresh.Tie as tie
 
-turned-on : (p q : CCDataParser) → p ≡ fresh → q ≡ afterCall p (turnedOn p) → q ≡ turnedOn fresh
+turned-on : (p q : CCDataParser) → p ≡ fresh → q ≡ cond (valid p) (turnedOn p) p → q ≡ turnedOn fresh
 turned-on p q e h = h ∙ rw (e, fresh-sound .valid)
 
 -- a state in which nothing is read

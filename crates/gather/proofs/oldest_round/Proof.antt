@@ -6,7 +6,8 @@ use mathlib.Core.Path.{_≡_, refl}
 use Prim.Native.Nat.{_+_, _-_, _%_, _≤_, _<_}
 use native.Mathlib.Omega.{arith}
 use lib.ListN.{getD}
-use Rattle.gather.specs.Ring.{noSlot, ringFrom, slotFine}
+use Rattle.slots.specs.Slot.{noSlot}
+use Rattle.gather.specs.Ring.{ringFrom, slotFine}
 use Rattle.gather.specs.Tests.{behindFine}
 use Rattle.gather.proofs.oldest_round.Statement.{statement}
 use Rattle.gather.proofs.oldest_round.Tie as tie

@@ -4,7 +4,7 @@ use mathlib.Core.Path.{_≡_}
 use Prim.Native.Nat.{_*_, _-_, _≤_}
 use native.Mathlib.Omega.{arith}
 use lib.ListN.{drop}
-use Rattle.parser.specs.Valid.{fieldsFine}
+use Rattle.parser.specs.Tests.{fieldsFine}
 use Rattle.parser.proofs.Valids.{fields-start, fields-done, fields-again, fields-bad}
 use Rattle.parser.proofs.fields_good.Statement.{statement}
 use Rattle.parser.proofs.fields_good.Tie as tie

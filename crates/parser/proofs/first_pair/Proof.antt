@@ -14,7 +14,7 @@ element-copy-out-t11 : tie.Need-element-copy-out-t11
 element-copy-out-t11 c = search needs
 
 returns : tie.Need-returns
-returns c = search (needs, pair-first, pair-second)
+returns c = search (needs, pair-first)
 
 element-copy-out-t4 : tie.Need-element-copy-out-t4
 element-copy-out-t4 c = search needs
@@ -23,7 +23,7 @@ element-copy-out-t16 : tie.Need-element-copy-out-t16
 element-copy-out-t16 c = search needs
 
 returns-2 : tie.Need-returns-2
-returns-2 c = search (needs, pair-first, pair-second)
+returns-2 c = search (needs, pair-second)
 
 pub first-pair-spec : {M : Type 1} → statement M
 first-pair-spec =

@@ -1,6 +1,6 @@
 -- `parser::place_behind` meets its contract. Assumes nothing.
 use borrow.Author.Tests.{eq-eqb, ne-eqb}
-use Rattle.parser.specs.Calls.{placeBehind}
+use Rattle.parser.specs.Take.{placeBehind}
 use borrow.Author.Needs.{needs}
 use Rattle.parser.proofs.place_behind.Statement.{statement}
 use Rattle.parser.proofs.place_behind.Tie as tie

@@ -1,6 +1,8 @@
 -- `parser::CCDataParser::handle_cea608` meets its contract: one law of `Calls` for each way out. Assumes nothing.
-use mathlib.Core.Path.{sym, _∙_}
-use Rattle.parser.specs.Means.{Shaped}
+use mathlib.Core.Path.{sym, ap, _∙_}
+use Rattle.parser.specs.Means.{means, Shaped}
+use Rattle.parser.specs.Calls.{laidAfter}
+use Rattle.parser.proofs.Laid.{Sound}
 use Rattle.parser.proofs.Kept.{means-turned}
 use Rattle.parser.proofs.Calls.{length-mapped, call-accepted, call-refused, turned-is}
 use borrow.Author.Needs.{needs}
@@ -21,15 +23,15 @@ is-valid-requires c κs = search needs
 returns : tie.Need-returns
 returns c =
     let t = c .before in
-    let s = shaped (t .before) in
     let v = sym (t .is-valid .ensures) ∙ c .if1 .taken in
-    call-accepted _ _ (t .is-valid .ensures) _ _ _ (c .if1 .taken) (turned-is _ s v) (means-turned _ (record { valid = v; shaped = s }))
+    let s : Sound (t .before .args .self) = record { valid = v; shaped = shaped (t .before) } in
+    call-accepted _ (laidAfter _) _ _ v (turned-is _ s) (ap means (turned-is _ s) ∙ means-turned _ s)
 
 refused-requires : tie.Need-refused-requires
 refused-requires c κs = search needs
 
 returns-2 : tie.Need-returns-2
-returns-2 c = search (needs, call-refused)
+returns-2 c = call-refused _ (laidAfter _) _ _ (sym (c .before .before .is-valid .ensures) ∙ c .before .if1 .left) (c .refused .ensures)
 
 pub handle-cea608-spec : {M : Type 1} → statement M
 handle-cea608-spec = tie.close (tie.spec is-valid-requires returns refused-requires returns-2)

@@ -1,0 +1,23 @@
+-- Bytes that are tested to be the same are equal, and equal ones pass the test. Assumes nothing.
+use mathlib.Core.Path.{_≡_, refl}
+use mathlib.Core.Bool.{true, false≢true}
+use mathlib.Core.List.{List, [], _∷_}
+use Prim.Native.Nat.{ℕ}
+use borrow.Author.Tests.{eq-eqb, eqb-true}
+use lib.Dec.{eqb}
+use Rattle.model.specs.Lists.{same}
+use Rattle.model.proofs.Cases.{both, and-both}
+
+-- bytes that are the same
+pub same-true : (d e : List ℕ) → same d e ≡ true → d ≡ e
+unfolding same
+same-true [] [] z = refl
+same-true [] (y ∷ e) z = absurd (false≢true z)
+same-true (x ∷ d) [] z = absurd (false≢true z)
+same-true (x ∷ d) (y ∷ e) z = let t = both (eqb x y) (same d e) z in (cc (eqb-true x y (t .0), same-true d e (t .1)))
+
+-- bytes are the same as they are
+pub same-self : (d : List ℕ) → same d d ≡ true
+unfolding same
+same-self [] = refl
+same-self (x ∷ d) = and-both _ _ (eq-eqb x x refl) (same-self d)
