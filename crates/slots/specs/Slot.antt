@@ -3,7 +3,8 @@ use mathlib.Core.Bool.{Bool, true, false, _&&_}
 use mathlib.Core.List.{List, [], _∷_}
 use Prim.Native.Nat.{ℕ, _+_, _%_}
 use lib.Dec.{eqb}
-use lib.ListN.{take}
+use lib.ListN.{take, replicate}
+use lib.Seq.{sets}
 use Rattle.model.specs.Lists.{same}
 use Rattle.model.specs.Said.{after}
 use Rattle.model.specs.Packet.{Packet, packetLength, readPacket, writtenPacket}
@@ -13,6 +14,10 @@ use Rattle.slots.specs.declared.Slot.{Slot}
 -- what stands past an array's end
 abbrev pub noSlot : Slot
 noSlot = record { len = 0; bytes = [] }
+
+-- a slot of a length and bytes, over zeros
+abbrev pub slotWith : ℕ → List ℕ → Slot
+slotWith n g = record { len = n; bytes = sets (replicate 128 0) 0 g }
 
 -- "the blocks, one 0x00 if the length is odd": so many bytes are written
 abbrev pub writtenLength : Slot → ℕ
