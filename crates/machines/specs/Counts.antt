@@ -1,15 +1,15 @@
 -- What operations on the two machines do: counts that are set, "and check nothing", an item drawn, a frame written. Assumes nothing.
 use mathlib.Core.List.{List, [], _∷_}
 use Prim.Native.Nat.{ℕ}
+use lib.ListN.{length}
 use Rattle.model.specs.Said.{saysWith, mapped, after}
 use Rattle.caption.specs.declared.Framerate.{Framerate}
 use Rattle.parser.specs.declared.CCDataParser.{CCDataParser}
 use Rattle.parser.specs.Calls.{drawn}
 use Rattle.parser.specs.Items.{itemFrom, itemValues, packetBeside}
-use Rattle.turns.specs.declared.PairQueue.{PairQueue}
 use Rattle.writer.specs.declared.CCDataWriter.{CCDataWriter}
 use Rattle.writer.specs.Writer.{moved}
-use Rattle.writer.specs.Calls.{written, frameLength}
+use Rattle.writer.specs.Calls.{written}
 use Rattle.answers.specs.Script.{lentLine, itemLine}
 use Rattle.answers.specs.Steps.{Effect}
 
@@ -51,7 +51,7 @@ abbrev pub wrote : Framerate → List ℕ → CCDataWriter → Effect CCDataWrit
 wrote rate out w =
     record {
       line =
-          lentLine (saysWith (λ _. frameLength rate w ∷ []) (written rate out w))
+          lentLine (saysWith (λ x. length (x .frame) ∷ []) (written rate out w))
           (after out (mapped (λ x. x .out) (written rate out w)));
       next = after w (mapped (λ x. moved w (x .next)) (written rate out w));
     }
