@@ -1,8 +1,5 @@
--- `writer::CCDataWriter::build` meets its contract: each call gives what `Builds` says, one after another. Assumes nothing.
-use mathlib.Core.Path.{_≡_, refl, _∙_}
-use native.Mathlib.Omega.{arith}
-use Rattle.writer.proofs.Builds.{Steps, due-is, turns-few, room-is, next-is, built-is}
-use Rattle.model.specs.Rate.{Budgets}
+-- `writer::CCDataWriter::build` meets its contract: each call gives what `built` says, one after another. Assumes nothing.
+use Rattle.writer.proofs.Builds.{built-by}
 use borrow.Author.Needs.{needs}
 use Rattle.writer.proofs.CCDataWriter.build.Statement.{statement}
 use Rattle.writer.proofs.CCDataWriter.build.Tie as tie
@@ -10,8 +7,8 @@ use Rattle.writer.proofs.CCDataWriter.build.Reads as reads
 use Rattle.writer.proofs.CCDataWriter.build.Lts as lts
 use Rattle.frames.proofs.Frame.start.Reads as start-reads
 use Rattle.turns.proofs.Turns.take.Reads as take-reads
-use Rattle.writer.proofs.count_of.Reads as count-of-reads
-use Rattle.writer.proofs.fill.Reads as fill-reads
+use Rattle.sending.proofs.count_of.Reads as count-of-reads
+use Rattle.sending.proofs.fill.Reads as fill-reads
 use Rattle.writer.proofs.made_of.Reads as made-of-reads
 use Rattle.writer.proofs.turns_of.Reads as turns-of-reads
 
@@ -19,10 +16,7 @@ turns-of-requires : tie.Need-turns-of-requires
 turns-of-requires c κs = search needs
 
 count-of-requires : tie.Need-count-of-requires
-count-of-requires c κs = let s = c .before .before .before .before .before in
-    let b : Budgets = record { pairs = s .args .pairs; triples = s .args .triples } in
-    let d = due-is (s .args .self) b (s .pre .0) (s .pre .1 .0) (s .pre .1 .1) _ (c .turns-of .ensures) in
-    (s .pre .0 .queued, (s .pre .0 .held, rw d (turns-few (s .args .self) b (s .pre .0) (s .pre .1 .0) (s .pre .1 .1))))
+count-of-requires c κs = search needs
 
 start-requires : tie.Need-start-requires
 start-requires c κs = search needs
@@ -31,19 +25,15 @@ take-requires : tie.Need-take-requires
 take-requires c κs = search needs
 
 fill-requires : tie.Need-fill-requires
-fill-requires c κs = let s = c .before .before .before .before .before .before .before .before .before .before in
-    let b : Budgets = record { pairs = s .args .pairs; triples = s .args .triples } in
-    (s .pre .0 .queued, (s .pre .0 .held, (refl, room-is (s .args .self) b (s .pre .0) (s .pre .1 .0) (s .pre .1 .1) _ _ _ _ (record { turns = c .before .before .before .before .before .turns-of .ensures; count = c .before .before .before .before .count-of .ensures; header = c .before .before .before .start .ensures; taken = c .before .before .take .ensures }))))
+fill-requires c κs = search needs
 
 made-of-requires : tie.Need-made-of-requires
-made-of-requires c κs = let s = c .before .before .before .before .before .before .before .before .before .before .before in
-    let b : Budgets = record { pairs = s .args .pairs; triples = s .args .triples } in
-    next-is (s .args .self) b (s .pre .0) (s .pre .1 .0) (s .pre .1 .1) _ _ _ _ (record { turns = c .before .before .before .before .before .before .turns-of .ensures; count = c .before .before .before .before .before .count-of .ensures; header = c .before .before .before .before .start .ensures; taken = c .before .before .before .take .ensures }) _ (c .fill .ensures) .1
+made-of-requires c κs = search needs
 
 returns : tie.Need-returns
-returns c = let s = c .before .before .before .before .before .before .before .before .before .before .before .before in
-    let b : Budgets = record { pairs = s .args .pairs; triples = s .args .triples } in
-    built-is (s .args .self) b (s .pre .0) (s .pre .1 .0) (s .pre .1 .1) _ _ _ _ (record { turns = c .before .before .before .before .before .before .before .turns-of .ensures; count = c .before .before .before .before .before .before .count-of .ensures; header = c .before .before .before .before .before .start .ensures; taken = c .before .before .before .before .take .ensures }) _ _ (c .before .fill .ensures) (c .made-of .ensures)
+returns c =
+    built-by _ _ _ _ _ _ _ _ _ (c .before .before .before .before .before .before .before .turns-of .ensures) (c .before .before .before .before .before .before .count-of .ensures) (c .before .before .before .before .before .start .ensures)
+    (c .before .before .before .before .take .ensures) (c .before .fill .ensures) (c .made-of .ensures)
 
 pub build-spec : {M : Type 1} → statement M
 build-spec =
