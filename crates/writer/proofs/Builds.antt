@@ -2,14 +2,14 @@
 use mathlib.Core.Path.{_≡_, refl, sym, ap}
 use mathlib.Core.Bool.{true, cond}
 use mathlib.Core.List.{List, _++_}
-use Prim.Native.Nat.{ℕ, _+_, _-_, _*_, _%_, _≤_}
+use Prim.Native.Nat.{ℕ, _+_, _-_, _*_, _%_, _≤_, min}
 use native.Mathlib.Omega.{arith}
 use lib.ListN.{length, take}
 use lib.Seq.{length-take-le}
 use Rattle.model.specs.Frame as model
 use Rattle.model.specs.Frame.{Triple, flat}
 use Rattle.model.specs.Rate.{Budgets}
-use Rattle.model.specs.Mux.{Mux, Turned, turned, turnsDue, countDue, Sent, padding, framed, writeFrame, validMux}
+use Rattle.model.specs.Mux.{Mux, Turned, turned, turnsDue, countDue, Sent, padding, framed, writeFrame, validMux, mostQueued}
 use Rattle.model.proofs.Cases.{by-cond}
 use Rattle.model.proofs.Frames.{flat-length}
 use Rattle.model.proofs.MuxStates.{write-valid}
@@ -28,11 +28,12 @@ use Rattle.sending.proofs.Sends.{triples-queued}
 use Rattle.sending.proofs.Fills.{filled-is}
 use Rattle.sending.specs.declared.Sending.{Sending}
 use Rattle.writer.specs.Writer.{means, moved}
-use Rattle.writer.specs.Making.{madeOf, joined, turnsOf, turnsOn, takes, built}
+use Rattle.building.specs.Building.{turnsOf, takes, madeOf, built}
+use Rattle.building.specs.declared.Made.{Made}
+use Rattle.writer.specs.Making.{joined, builtFrom}
 use Rattle.writer.proofs.Valid.{Shaped, Ok, Order}
 use Rattle.writer.proofs.Moved as moved
 use Rattle.writer.specs.declared.CCDataWriter.{CCDataWriter}
-use Rattle.writer.specs.declared.Made.{Made}
 
 -- the bytes of a frame in their places
 abbrev pub laid : model.Frame → Frame
@@ -93,7 +94,9 @@ module _ (w : CCDataWriter) (b : Budgets) (ok : Ok w) (within : b .pairs ≤ b .
   -- the turns are the model's
   pub turns-are : turnsOf (w .«output_cea608_padding») (b .pairs) (w .field1 .count) (w .field2 .count) ≡ turnsDue (b .pairs) (means w)
   unfolding turnsDue means
-  turns-are = rw (queue-length (w .field1) (ok .first), queue-length (w .field2) (ok .second))
+  turns-are =
+      let n : min (w .field2 .count) mostQueued ≡ w .field2 .count = omega (arith, ok .second .few) in
+      rw (n, queue-length (w .field1) (ok .first), queue-length (w .field2) (ok .second))
 
   -- the slots of the packets that are queued
   abbrev slots : List Slot
@@ -132,11 +135,15 @@ module _ (w : CCDataWriter) (b : Budgets) (ok : Ok w) (within : b .pairs ≤ b .
   count-few : count ≤ 31
   count-few = omega (arith, count-most b (means w) within)
 
+  -- the queues and a frame when the turns start
+  abbrev turnsOn : Frame → Turns
+  turnsOn f = record { field1 = w .field1; field2 = w .field2; «field2_next» = w .«field2_next»; frame = f }
+
   -- the turns that are taken
-  taken-are : takes due (w .«output_cea608_padding») (turnsOn w (headed count)) ≡ taken (turnsOn w (headed count)) turns
+  taken-are : takes due (w .«output_cea608_padding») (turnsOn (headed count)) ≡ taken (turnsOn (headed count)) turns
   unfolding turnsFrom turned means headed
   taken-are =
-      rw (fit (turnsOn w (headed count)) due (w .«output_cea608_padding») (record { first = ok .first .few; second = ok .second .few; room = omega (arith, turns-few) }))
+      rw (fit (turnsOn (headed count)) due (w .«output_cea608_padding») (record { first = ok .first .few; second = ok .second .few; room = omega (arith, turns-few) }))
 
   -- three bytes a triple behind the header
   frame-length : frame .len ≡ 2 + 3 * length (turns .out)
@@ -164,7 +171,7 @@ module _ (w : CCDataWriter) (b : Budgets) (ok : Ok w) (within : b .pairs ≤ b .
       rw n at (filled-is slots (w .sending) (w .sent) frame (length (turns .out)) count (ok .slots) (ok .held) frame-length few-turns count-few (w .«output_padding»))
 
   -- so the frame and what is left are those of the model's turns and packet triples
-  built-are : built (b .pairs) (b .triples) w ≡ madeOf (taken (turnsOn w (headed count)) turns) sent
+  built-are : builtFrom (b .pairs) (b .triples) w ≡ madeOf (taken (turnsOn (headed count)) turns) sent
   unfolding built
   built-are =
       let c : count % 32 ≡ count = omega (arith, count-few) in
@@ -176,19 +183,12 @@ module _ (w : CCDataWriter) (b : Budgets) (ok : Ok w) (within : b .pairs ≤ b .
   frame-are = appended-flat (headed count) (turns .out) (sends .out ++ fillings)
 
   -- the state is what the model leaves
-  writer-are : joined w (madeOf (taken (turnsOn w (headed count)) turns) sent) ≡ moved w (writeFrame b (means w) .next)
+  writer-are : joined w (madeOf (taken (turnsOn (headed count)) turns) sent) ≡ moved w (writeFrame b (means w) .next)
   unfolding means writeFrame framed
   writer-are =
       let k : w .«packet_count» - (w .«packet_count» - length (sends .packets)) ≡ length (sends .packets) = omega (arith, moved.fewer w ok (count - length (turns .out))) in
       rw k (sym (moved.moved-is w ok (count - length (turns .out)) (writeFrame b (means w) .next) refl refl))
 
   -- frame and state are what the model says
-  pub built-is : (m : Made) → m ≡ built (b .pairs) (b .triples) w → Builds b w m
+  pub built-is : (m : Made) → m ≡ builtFrom (b .pairs) (b .triples) w → Builds b w m
   built-is m e = rw (e, built-are) (record { answer = refl; frame = frame-are; writer = writer-are; few = omega arith })
-
--- what the calls of a build give, one after another
-pub built-by : (w : CCDataWriter) (pairs triples n c : ℕ) (h : Frame) (t : Turns) (s : Sending) (m : Made) → n ≡ turnsOf (w .«output_cea608_padding») pairs (w .field1 .count) (w .field2 .count)
-    → c ≡ countOf (w .«output_padding») triples n (take (w .«packet_count») (w .packets)) (w .sending) (w .sent) → h ≡ headed (c % 32) → t ≡ takes n (w .«output_cea608_padding») (turnsOn w h)
-    → s ≡ filled (take (w .«packet_count») (w .packets)) (w .sending) (w .sent) (t .frame) c (w .«output_padding») → m ≡ madeOf t s → m ≡ built pairs triples w
-unfolding built
-built-by w pairs triples n c h t s m turns counts heads takes fills made = rw (made, fills, takes, heads, counts, turns)

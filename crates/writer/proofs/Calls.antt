@@ -33,7 +33,7 @@ use Rattle.frames.proofs.Stores.{emitted-whole}
 use Rattle.turns.specs.Queue.{queueOf, queueOver}
 use Rattle.writer.specs.Writer.{means, validWriter, stored, emptied}
 use Rattle.writer.specs.Calls.{Answers, written, Writes}
-use Rattle.writer.specs.Making.{unmadeOf, joined, built, withPadding, withFields, pairOutcome, Makes}
+use Rattle.writer.specs.Making.{unmadeOf, joined, builtFrom, withPadding, withFields, pairOutcome, Makes}
 use Rattle.turns.proofs.Queues.{queue-length}
 use Rattle.frames.specs.declared.Frame.{Frame}
 use Rattle.turns.specs.declared.PairQueue.{PairQueue}
@@ -48,7 +48,7 @@ use Rattle.writer.proofs.Valid.{Shaped, Ok, Order, valid-order, valid-o
 use Rattle.writer.proofs.Builds.{laid, Builds, built-is, leaves, count-most, count-least, means-frame}
 use Rattle.writer.proofs.Stored.{Grows, grows-pads, grows-pair, stored-pads, stored-first, stored-second, means-stored, means-emptied}
 use Rattle.writer.specs.declared.CCDataWriter.{CCDataWriter}
-use Rattle.writer.specs.declared.Made.{Made}
+use Rattle.building.specs.declared.Made.{Made}
 
 -- an answer, by what it says and where the state stands, if the places of what the model gives mean it
 pub answered : (o : Outcome Mux) {f : Mux → CCDataWriter} {w y : CCDataWriter} {r : Answer} → saidAnswer r ≡ says o → y ≡ after w (mapped f o) → Gives (λ (x : Mux). means (f x) ≡ x) o
@@ -225,7 +225,7 @@ module _ (w : CCDataWriter) (rate : Framerate) (out : List ℕ) {v : Bool} (e : 
       pub sane : (p ≤ n) × (n ≤ 31)
       sane = let s = accepted-sane (rate .numer) (rate .denom) given in (omega (arith, s .apart), s .few-triples)
 
-      module _ (shaped : Shaped w) (f : Made) (found : f ≡ built p n w) where
+      module _ (shaped : Shaped w) (f : Made) (found : f ≡ builtFrom p n w) where
         -- what was built is the model's
         pub made : Builds b w f
         made = built-is w b (valid-ok w shaped within) (sane .0) (sane .1) f found

@@ -1,8 +1,8 @@
 -- How a frame is made and a packet stored, part by part. No public contract reaches this file. Document 01, "Writing frames". Assumes nothing.
 use mathlib.Core.Path.{_≡_}
-use mathlib.Core.Bool.{Bool, true, false, cond, _&&_}
+use mathlib.Core.Bool.{Bool, true, false, _&&_}
 use mathlib.Core.List.{List}
-use Prim.Native.Nat.{ℕ, _+_, _-_, _*_, _%_, _≤_, _<_, min, max}
+use Prim.Native.Nat.{ℕ, _+_, _-_, _≤_, _<_}
 use lib.ListN.{length, take, drop, set, replicate}
 use lib.Seq.{sets}
 use Rattle.model.specs.Said.{Outcome, checked}
@@ -13,41 +13,22 @@ use Rattle.caption.specs.declared.Framerate.{Framerate}
 use Rattle.caption.specs.declared.Answer.the-variants.{Refused}
 use Rattle.caption.specs.declared.Refusal.the-variants.{BadValue}
 use Rattle.caption.specs.declared.Counted.{Counted}
-use Rattle.caption.specs.declared.Counted.the-variants.{Count}
 use Rattle.packet.specs.Packet.{packetOf, validDTVCC}
 use Rattle.packet.specs.declared.DTVCCPacket.{DTVCCPacket}
-use Rattle.turns.specs.Turn.{fits, takenFrom}
 use Rattle.turns.specs.declared.PairQueue.{PairQueue}
-use Rattle.turns.specs.declared.Turns.{Turns}
-use Rattle.frames.specs.Frame.{headed, emitted}
-use Rattle.frames.specs.declared.Frame.{Frame}
+use Rattle.frames.specs.Frame.{emitted}
 use Rattle.slots.specs.declared.Slot.{Slot}
-use Rattle.sending.specs.Slots.{countOf, filled}
-use Rattle.sending.specs.declared.Sending.{Sending}
+use Rattle.building.specs.Building.{built}
+use Rattle.building.specs.declared.Made.{Made}
 use Rattle.writer.specs.Writer.{means, validWriter, stored}
 use Rattle.writer.specs.Calls.{Answers, Writes}
 use Rattle.writer.specs.declared.CCDataWriter.{CCDataWriter}
 use Rattle.writer.specs.declared.WriterAnswer.{WriterAnswer}
-use Rattle.writer.specs.declared.Made.{Made}
 use Rattle.writer.specs.declared.Placed.{Placed}
 
 -- "11 comes first": the state as it was
 abbrev pub refusedOf : CCDataWriter → WriterAnswer
 refusedOf w = record { answer = Refused BadValue; writer = w }
-
--- the frame and what is left, once the turns and the packet triples of it have left
-abbrev pub madeOf : Turns → Sending → Made
-madeOf t s =
-    record {
-      answer = Count (s .frame .len);
-      frame = s .frame;
-      field1 = t .field1;
-      field2 = t .field2;
-      «field2_next» = t .«field2_next»;
-      slot = s .slot;
-      sent = s .sent;
-      next = s .next;
-    }
 
 -- where no frame is written all is left
 abbrev pub unmadeOf : CCDataWriter → Counted → Made
@@ -78,26 +59,10 @@ joined w m =
       «field2_next» = m .«field2_next»;
     }
 
--- "Turns this frame: pairs if 608 padding is on, else the lesser of pairs and max(queue 1, 2·queue 2)."
-abbrev pub turnsOf : Bool → ℕ → ℕ → ℕ → ℕ
-turnsOf pad pairs n1 n2 = cond pad pairs (min pairs (max n1 (2 * n2)))
-
--- the queues and the frame when the turns start
-abbrev pub turnsOn : CCDataWriter → Frame → Turns
-turnsOn w f = record { field1 = w .field1; field2 = w .field2; «field2_next» = w .«field2_next»; frame = f }
-
--- the turns are taken where they fit
-abbrev pub takes : ℕ → Bool → Turns → Turns
-takes n pad t = cond (fits t n) (takenFrom n pad t) t
-
--- the frame at budgets of `pairs` and `triples`, and what it leaves: the turns, then packet triples up to the count, then padding
-unfoldable pub built : ℕ → ℕ → CCDataWriter → Made
-built pairs triples w =
-    let slots = take (w .«packet_count») (w .packets) in
-    let due = turnsOf (w .«output_cea608_padding») pairs (w .field1 .count) (w .field2 .count) in
-    let count = countOf (w .«output_padding») triples due slots (w .sending) (w .sent) in
-    let turns = takes due (w .«output_cea608_padding») (turnsOn w (headed (count % 32))) in
-    madeOf turns (filled slots (w .sending) (w .sent) (turns .frame) count (w .«output_padding»))
+-- the frame at budgets of `pairs` and `triples`, and what it leaves
+abbrev pub builtFrom : ℕ → ℕ → CCDataWriter → Made
+builtFrom pairs triples w =
+    built (w .«output_cea608_padding») (w .«output_padding») pairs triples (w .field1) (w .field2) (w .«field2_next») (take (w .«packet_count») (w .packets)) (w .sending) (w .sent)
 
 -- the two "padding switches"
 abbrev pub withPadding : Bool → Bool → CCDataWriter → CCDataWriter

@@ -1,4 +1,5 @@
 // The multiplexer: packets and CEA-608 pairs in, frames of `cc_data` out.
+use building::Made;
 use caption::Answer;
 use caption::Budgets;
 use caption::Cea608;
@@ -16,10 +17,9 @@ use sending::fill;
 use sending::move_down;
 use slots::Slot;
 use turns::PairQueue;
-use turns::Turns;
 ghost use mathlib.Core.Path.{_≡_};
 ghost use mathlib.Core.Bool.{true, false, cond, _&&_};
-ghost use Prim.Native.Nat.{_≤_, max};
+ghost use Prim.Native.Nat.{_≤_};
 ghost use Rattle.model.specs.Said.{gave, measured, checked};
 ghost use Rattle.model.specs.Mux.{freshMux, withPads, flushMux, pushPacket, pushCea608};
 ghost use Rattle.model.specs.Duration.{pairsDuration, bytesDuration, field1Duration, field2Duration, packetDuration};
@@ -28,7 +28,7 @@ ghost use Rattle.caption.specs.Pairs.{cea608Of};
 ghost use Rattle.packet.specs.Packet.{packetOf, validDTVCC};
 ghost use Rattle.writer.specs.Writer.{means, validWriter, fresh, stored, emptied};
 ghost use Rattle.writer.specs.Calls.{saidMicros, Answers, Writes};
-ghost use Rattle.writer.specs.Making.{refusedOf, madeOf, unmadeOf, built, turnsOf, withFields, pairOutcome, Stores, Makes};
+ghost use Rattle.writer.specs.Making.{refusedOf, builtFrom, unmadeOf, withFields, pairOutcome, Stores, Makes};
 
 // The packets that wait, beside the one being sent.
 const MOST_PACKETS: usize = 16;
@@ -68,19 +68,6 @@ pub enum Micros {
     Refused(Refusal),
 }
 
-// What writing a frame answers, the frame, and what it leaves of the state: each field's queue, whose turn is next, the packet being sent and
-// how many of its bytes have left; `next` packets of the queue were begun.
-pub struct Made {
-    pub answer: Counted,
-    pub frame: Frame,
-    pub field1: PairQueue,
-    pub field2: PairQueue,
-    pub field2_next: bool,
-    pub slot: Slot,
-    pub sent: usize,
-    pub next: usize,
-}
-
 // What pushing a pair answers, and the queues after it.
 pub struct Pushed {
     pub answer: Answer,
@@ -95,51 +82,28 @@ pub struct Placed {
     pub slot: Slot,
 }
 
-// The greater of two numbers.
-fn greater(a: usize, b: usize) -> usize
-    ensures { λ r. ⌜ r ≡ max a b ⌝ }
-{
-    if a < b { b } else { a }
-}
-
-// The turns of a frame, where the fields have `n1` and `n2` pairs queued.
-fn turns_of(pad: bool, pairs: usize, n1: usize, n2: usize) -> usize
-    requires { ⌜ n2 ≤ 64 ⌝ }
-    ensures { λ r. ⌜ r ≡ turnsOf pad pairs n1 n2 ⌝ }
-{
-    if pad {
-        return pairs;
-    }
-    service::lesser(pairs, greater(n1, 2 * n2))
-}
-
 impl CCDataWriter {
     // The frame at budgets of `pairs` and `triples`, and what it leaves.
     fn build(self, pairs: usize, triples: usize) -> Made
-        requires { ⌜ self .field2 .count ≤ 64 ⌝ }
-        ensures { λ r. ⌜ r ≡ built pairs triples self ⌝ }
+        ensures { λ r. ⌜ r ≡ builtFrom pairs triples self ⌝ }
     {
-        let pad = self.output_cea608_padding;
-        let padding = self.output_padding;
-        let queued = self.packet_count;
         let slots = self.packets;
         let slot = self.sending;
         let field1 = self.field1;
         let field2 = self.field2;
-        let turns = turns_of(pad, pairs, field1.count, field2.count);
-        let count = count_of(padding, triples, turns, slots, queued, slot, self.sent);
-        let empty = Frame::start(count);
-        let start = Turns {
+        building::build(
+            self.output_cea608_padding,
+            self.output_padding,
+            pairs,
+            triples,
             field1,
             field2,
-            field2_next: self.field2_next,
-            frame: empty,
-        };
-        let t = start.take(pad, turns);
-        let frame = t.frame;
-        let packets = self.packets;
-        let s = fill(packets, queued, slot, self.sent, frame, count, padding);
-        made_of(t, s)
+            self.field2_next,
+            slots,
+            self.packet_count,
+            slot,
+            self.sent,
+        )
     }
 
     // What is made where no frame is written.
@@ -183,26 +147,6 @@ impl CCDataWriter {
             return made;
         }
         self.unmade(Counted::Refused(Refusal::BadValue))
-    }
-}
-
-// The frame after its turns and its packet triples, and what they leave.
-fn made_of(t: Turns, s: Sending) -> Made
-    ensures { λ r. ⌜ r ≡ madeOf t s ⌝ }
-{
-    let frame = s.frame;
-    let field1 = t.field1;
-    let field2 = t.field2;
-    let slot = s.slot;
-    Made {
-        answer: Counted::Count(frame.len),
-        frame,
-        field1,
-        field2,
-        field2_next: t.field2_next,
-        slot,
-        sent: s.sent,
-        next: s.next,
     }
 }
 

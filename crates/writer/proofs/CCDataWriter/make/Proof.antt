@@ -1,8 +1,7 @@
 -- `writer::CCDataWriter::make` meets its contract: one law of `Calls` for each way out. Assumes nothing.
-use mathlib.Core.Path.{sym, _∙_}
 use mathlib.Core.List.{[]}
 use Rattle.queues.proofs.Written.{length-mapped}
-use Rattle.writer.proofs.Valid.{Shaped, valid-ok}
+use Rattle.writer.proofs.Valid.{Shaped}
 use Rattle.writer.proofs.Calls.{made, wrote-rate, wrote-short, wrote-done, wrote-value, unmade-makes}
 use borrow.Author.Needs.{needs}
 use Rattle.writer.proofs.CCDataWriter.make.Statement.{statement}
@@ -34,7 +33,7 @@ returns c = let s = c .before .before .before .before .before in
     unmade-makes (s .args .self) (s .args .rate) (s .args .room) _ _ (c .unmade .ensures) (λ out l. wrote-rate (s .args .self) (s .args .rate) out (s .pre) (c .before .before .before .before .if1 .taken) _ (c .before .before .before .budgets .ensures) (c .before .enum-told .given .1))
 
 build-requires : tie.Need-build-requires
-build-requires c κs = let s = c .before .before .before .before .before in valid-ok (s .args .self) (shaped s) (sym (s .pre) ∙ c .before .before .before .before .if1 .taken) .second .few
+build-requires c κs = search needs
 
 unmade-requires-2 : tie.Need-unmade-requires-2
 unmade-requires-2 c κs = search needs
