@@ -12,6 +12,8 @@ pub mod Parser
 pub mod Frames
 pub mod Turns
 pub mod Queues
+pub mod Sending
+pub mod Building
 pub mod Writer
 pub mod Records
 pub mod Lines

@@ -2,6 +2,7 @@
 use mathlib.Core.Bool.{cond}
 use mathlib.Core.List.{List, [], _∷_}
 use Prim.Native.Nat.{ℕ}
+use lib.ListN.{length}
 use Rattle.model.specs.Said.{accepted, badValue, saysWith, mapped, after}
 use Rattle.model.specs.Packet.{noPacket}
 use Rattle.model.specs.Demux.{Taken, quiet, turn608On, flushDemux, takeFrame, draw, itemValues, itemPacket}
@@ -14,7 +15,7 @@ use Rattle.parser.specs.Calls.{fresh, laidAfter}
 use Rattle.parser.specs.After.{saidOf, leftBy, drawn}
 use Rattle.writer.specs.declared.CCDataWriter.{CCDataWriter}
 use Rattle.writer.specs.Writer.{moved}
-use Rattle.writer.specs.Calls.{written, frameLength}
+use Rattle.writer.specs.Calls.{written}
 use Rattle.answers.specs.Script.{lentLine, itemLine}
 use Rattle.answers.specs.Steps.{Effect, tells}
 
@@ -77,7 +78,7 @@ abbrev pub wrote : Framerate → List ℕ → CCDataWriter → Effect CCDataWrit
 wrote rate out w =
     record {
       line =
-          lentLine (saysWith (λ _. frameLength rate w ∷ []) (written rate out w))
+          lentLine (saysWith (λ x. length (x .frame) ∷ []) (written rate out w))
           (after out (mapped (λ x. x .out) (written rate out w)));
       next = after w (mapped (λ x. moved w (x .next)) (written rate out w));
     }

@@ -59,7 +59,7 @@ continued-length (a ∷ []) = refl
 continued-length (a ∷ b ∷ d) = omega (arith, continued-length d)
 
 -- from the first on too
-started-length : (d : List ℕ) → length (started d) ≡ (length d + 1) / 2
+pub started-length : (d : List ℕ) → length (started d) ≡ (length d + 1) / 2
 unfolding started
 started-length [] = refl
 started-length (a ∷ []) = refl

@@ -189,8 +189,9 @@ writeFrame b s =
     let t = turned (turnsDue (b .pairs) s) s in
     framed n t (send (n - length (t .out)) (s .sending) (s .packets)) s
 
--- the lent output and the multiplexer after a write
+-- the bytes of the frame, the lent output with them, and the multiplexer after a write
 pub record Written : Type 0 where
+  pub frame : List ℕ
   pub out : List ℕ
   pub next : Mux
 
@@ -198,4 +199,4 @@ pub record Written : Type 0 where
 unfoldable pub writeAt : ℕ → ℕ → List ℕ → Mux → Outcome Written
 writeAt numer denom out s =
     andThen (budgets numer denom)
-    (λ b. mapped (λ o. record { out = o; next = writeFrame b s .next }) (putInto out (frameBytes (writeFrame b s .frame))))
+    (λ b. let w = writeFrame b s in mapped (λ o. record { frame = frameBytes (w .frame); out = o; next = w .next }) (putInto out (frameBytes (w .frame))))

@@ -21,8 +21,8 @@ unfolding validDTVCC
 within-facts p e = held.held-facts (fieldsOf p) e
 
 -- "what a reader gives is valid", as the model has it
-pub held-valid : (p : DTVCCPacket) → Within p → Places p → Valid (packetOf p)
-held-valid p w places = w .packet
+pub held-valid : (p : DTVCCPacket) → Within p → Valid (packetOf p)
+held-valid p w = w .packet
 
 -- and its entries are within the limits
 pub entries-within : (p : DTVCCPacket) → Within p → Places p → held.Within (fieldsOf p)

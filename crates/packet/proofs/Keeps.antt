@@ -45,15 +45,15 @@ tidily-held d {p} e = laid-over blank blank-places p (tidy-valid d e)
 -- what a valid packet is written in is read back as what it holds, by both readers
 module _ (p : DTVCCPacket) (v : validDTVCC p ≡ true) (places : Places p) where
   pub written-back : readPacket (writtenPacket (packetOf p)) ≡ gave (packetOf p)
-  written-back = plain-back (packetOf p) (held-valid p (within-facts p v) places)
+  written-back = plain-back (packetOf p) (held-valid p (within-facts p v))
 
   pub written-tidily : 1 ≤ length (packetOf p .blocks) → readTidy (writtenPacket (packetOf p)) ≡ gave (packetOf p)
-  written-tidily some = tidy-back (packetOf p) (held-valid p (within-facts p v) places) some
+  written-tidily some = tidy-back (packetOf p) (held-valid p (within-facts p v)) some
 
 -- what a push leaves: the packet that the model gives, within the limits
 module _ (p : DTVCCPacket) (v : validDTVCC p ≡ true) (places : Places p) where
   held : Valid (packetOf p)
-  held = held-valid p (within-facts p v) places
+  held = held-valid p (within-facts p v)
 
   pub run-held : (needsRoom : Bool) (n : ℕ) (run : List ℕ) {q : Packet} → pushRunBy needsRoom n run (packetOf p) ≡ gave q → Laid p q
   run-held needsRoom n run {q} e = laid-over p places q (gives-at Valid _ e (run-valid (packetOf p) held needsRoom n run))

@@ -1,18 +1,18 @@
 -- How soon what is queued leaves, for any sequence of calls that the contracts allow. Assumes nothing.
 use mathlib.Core.Path.{_≡_, refl, sym, ap, _∙_}
 use mathlib.Core.Bool.{true, false≢true}
-use mathlib.Core.List.{List, [], _∷_}
+use mathlib.Core.List.{List, []}
 use Prim.Native.Nat.{ℕ, _+_, _*_, _≤_}
 use native.Mathlib.Omega.{arith}
 use lib.ListN.{length, take, drop, length-map}
 use lib.Seq.{length-take-le}
 use contract.Lifetimes.{Lfts}
 use denote.Ref.{now}
-use Rattle.model.specs.Said.{Outcome, gave, refused, isGiven, saysWith}
+use Rattle.model.specs.Said.{Outcome, gave, refused, isGiven}
 use Rattle.model.specs.Packet.{Packet}
 use Rattle.model.specs.Frame as model
 use Rattle.model.specs.Frame.{frameBytes, triplesIn}
-use Rattle.model.specs.Rate.{Budgets, budgets}
+use Rattle.model.specs.Rate.{Budgets}
 use Rattle.model.specs.Mux.{Mux, freshMux, writeFrame}
 use Rattle.model.specs.Run as runs
 use Rattle.model.proofs.Frames.{unflat}
@@ -21,17 +21,14 @@ use Rattle.journey.specs.Bounds.{Field, one, two, acceptedOf}
 use Rattle.journey.proofs.Leaves as leaves
 use Rattle.journey.proofs.Four as four
 use Rattle.journey.proofs.Drains as drains
-use Rattle.caption.specs.Answers.{saidCounted}
 use Rattle.caption.proofs.Answers.{saidCounted-injective}
-use Rattle.caption.specs.declared.Counted.{Counted}
 use Rattle.caption.specs.declared.Counted.the-variants as counted
 use Rattle.caption.specs.declared.Framerate.{Framerate}
 use Rattle.turns.specs.Queue.{queueOf}
 use Rattle.turns.proofs.Queues.{queue-length}
 use Rattle.slots.specs.Slot.{slotPacket}
 use Rattle.writer.specs.Writer.{means}
-use Rattle.writer.specs.Calls.{frameLength, written}
-use Rattle.writer.proofs.Triples.{left-length}
+use Rattle.sending.proofs.Triples.{left-length}
 use Rattle.writer.proofs.Kept.{Sound, sound-ok}
 use Rattle.writer.proofs.Laws.{write-given}
 use Rattle.writer.specs.declared.CCDataWriter.{CCDataWriter}
@@ -68,7 +65,7 @@ drained-back w s d =
     let ok = sound-ok w s in
     let h = ok .held in
     let n : length (means w .packets) ≡ w .«packet_count» =
-    length-map (take (w .«packet_count») (w .packets)) slotPacket ∙ length-take-le (w .«packet_count») (w .packets) (omega (arith, ok .queued .few, ok .queued .places)) in
+    length-map (take (w .«packet_count») (w .packets)) slotPacket ∙ length-take-le (w .«packet_count») (w .packets) (omega (arith, ok .few, ok .places)) in
     record {
       no-packet = sym n ∙ ap length (d .no-packet);
       no-byte = omega (arith, left-length (w .sending) (w .sent) h, ap length (d .no-triple), h .even, h .within);
@@ -93,11 +90,6 @@ four-by w end r s n e f (one-frame b accepted counts first meant next) =
 pub given-by : {A P : Type 0} (o : Outcome A) → isGiven o ≡ true → ((x : A) → o ≡ gave x → P) → P
 given-by (gave x) e f = f x refl
 given-by (refused why) e f = absurd (false≢true e)
-
--- an answer that says what a given outcome says counts
-counted-given : {A : Type 0} (a : Counted) (n : ℕ) (o : Outcome A) → isGiven o ≡ true → saidCounted a ≡ saysWith (λ _. n ∷ []) o → a ≡ counted.Count n
-counted-given a n (gave x) e s = saidCounted-injective a (counted.Count n) s
-counted-given a n (refused why) e s = absurd (false≢true e)
 
 -- a state that calls of a fresh multiplexer have reached
 module _ {w₀ w : CCDataWriter} {fs₀ : List (List ℕ)} {is₀ : Items} (new : NewWriter w₀) (before : Calls w₀ fs₀ is₀ w) where
@@ -128,11 +120,8 @@ module _ {w₀ w : CCDataWriter} {fs₀ : List (List ℕ)} {is₀ : Items} (new 
 
   -- a write at an accepted rate, with room for the longest frame, is accepted
   pub write-accepted : (κs : Lfts 1) (rate : Framerate) (out end : Lent) (r : WriterCount) → Write κs w rate out end r → AcceptsWrite w rate (now out) (r .answer)
-  write-accepted κs rate out end r a given room =
-      let s = reached .sound in
-      counted-given (r .answer) (frameLength rate w) (written rate (now out) w)
-      (given-by (budgets (rate .numer) (rate .denom)) given (λ b e. ap isGiven (write-given w (s .valid) rate (now out) e (omega arith))))
-      (a .answer)
+  write-accepted κs rate out end r a b given room =
+      saidCounted-injective (r .answer) (counted.Count (length (frameBytes (writeFrame b (means w) .frame)))) (rw (write-given w (reached .sound .valid) rate (now out) given (omega arith)) at (a .answer))
 
   -- so many accepted writes drain a multiplexer, if nothing more is accepted: twice as many as the pairs of either field, and a quarter of the
   -- packet triples

@@ -15,7 +15,7 @@ use Rattle.caption.specs.declared.Answer.the-variants.{Accepted}
 use Rattle.caption.specs.declared.Counted.the-variants.{Count}
 use Rattle.caption.specs.declared.Framerate.{Framerate}
 use Rattle.writer.specs.Writer.{means, validWriter, stored, moved}
-use Rattle.writer.specs.Calls.{Answers, frameLength}
+use Rattle.writer.specs.Calls.{Answers}
 use Rattle.writer.proofs.Laws.{write-given}
 use Rattle.writer.proofs.Builds.{means-frame}
 use Rattle.writer.proofs.Stored.{Grows, grows-pads, means-stored}
@@ -50,7 +50,8 @@ record Writable (κs : Lfts 1) (w : CCDataWriter) : Type 0 where
   end : Lent
   result : WriterCount
   allowed : Write κs w rate out end result
-  counts : result .answer ≡ Count (frameLength rate w)
+  number : ℕ
+  counts : result .answer ≡ Count number
   sound : Sound (result .writer)
   same : result .writer .«output_cea608_padding» ≡ w .«output_cea608_padding»
 
@@ -62,7 +63,8 @@ writable κs w s =
     (λ b e. let g = write-given w (s .valid) rate (now out) e (omega arith) in
     record {
       end = lent (frameBytes (writeFrame b (means w) .frame) ++ drop (length (frameBytes (writeFrame b (means w) .frame))) (now out));
-      result = record { answer = Count (frameLength rate w); writer = moved w (writeFrame b (means w) .next) };
+      number = length (frameBytes (writeFrame b (means w) .frame));
+      result = record { answer = Count (length (frameBytes (writeFrame b (means w) .frame))); writer = moved w (writeFrame b (means w) .next) };
       allowed = record { answer = rw g; means = rw g (means-frame w b (sound-ok w s) (sound-mux w s)); places = rw g; output = rw g };
       counts = refl;
       sound = moved-sound w s b;

@@ -24,8 +24,7 @@ use Rattle.caption.specs.declared.Counted.the-variants as counted
 use Rattle.caption.specs.declared.Framerate.{Framerate}
 use Rattle.writer.specs.Writer.{means, moved}
 use Rattle.writer.specs.Calls as promise
-use Rattle.writer.specs.Calls.{budgetsAt, frameLength, written}
-use Rattle.writer.proofs.Calls.{budgets-at}
+use Rattle.writer.specs.Calls.{written}
 use Rattle.writer.proofs.Kept.{Sound, moved-sound}
 use Rattle.writer.specs.declared.CCDataWriter.{CCDataWriter}
 use Rattle.writer.specs.declared.WriterCount.{WriterCount}
@@ -57,10 +56,6 @@ module _ (w : CCDataWriter) (rate : Framerate) (out end : List ℕ) (r : WriterC
     abbrev bytes : List ℕ
     bytes = frameBytes (writeFrame b (means w) .frame)
 
-    -- these are the rate's budgets
-    at-rate : b ≡ budgetsAt rate
-    at-rate = budgets-at (rate .numer) (rate .denom) b given
-
     -- the output is too short
     refuses-short : ltb (length out) (length bytes) ≡ true → Writes w end r
     unfolding written writeAt putInto
@@ -68,16 +63,15 @@ module _ (w : CCDataWriter) (rate : Framerate) (out end : List ℕ) (r : WriterC
 
     module _ (room : ltb (length out) (length bytes) ≡ false) where
       -- the write is accepted
-      accepts : written rate out w ≡ gave (record { out = bytes ++ drop (length bytes) out; next = writeFrame b (means w) .next })
+      accepts : written rate out w ≡ gave (record { frame = bytes; out = bytes ++ drop (length bytes) out; next = writeFrame b (means w) .next })
       unfolding written writeAt putInto
       accepts = rw (s .valid, given, room)
 
       -- the answer counts the frame's bytes, and they are the first of the output
       writes-frame : Writes w end r
-      unfolding frameLength
       writes-frame =
           one-frame b (accepted-rate (rate .numer) (rate .denom) given)
-          (saidCounted-injective (r .answer) (counted.Count (length bytes)) (rw (accepts, ← at-rate) at (a .answer)))
+          (saidCounted-injective (r .answer) (counted.Count (length bytes)) (rw accepts at (a .answer)))
           (rw (rw accepts at (a .output)) (take-at bytes (drop (length bytes) out) (length bytes) refl))
           (rw accepts at (a .means)) (rw accepts at (a .places))
 

@@ -52,7 +52,7 @@ module _ (w : CCDataWriter) (d : DTVCCPacket) (r : WriterAnswer) (s : Sound w) (
     module _ (v : validDTVCC d ≡ true) where
       -- the packet is within the limits
       held : Valid p
-      held = held-valid d (within-facts d v) (record { numbers = typed .numbers; sizes = typed .sizes; payload = typed .payload })
+      held = held-valid d (within-facts d v)
 
       -- an empty one is not stored
       moves-empty : eqb (length (p .blocks)) 0 ≡ true → Moved w [] item (r .writer) (Unit {0})

@@ -3,12 +3,12 @@
 use mathlib.Core.Path.{_≡_, refl, sym, ap, _∙_}
 use mathlib.Core.Bool.{Bool, true, false, cond}
 use mathlib.Core.List.{List, [], _∷_, _++_, append-assoc, append-nil}
-use Prim.Native.Nat.{ℕ, suc, _-_, _*_, _≤_, _<_}
+use Prim.Native.Nat.{ℕ, suc, _-_, _*_, _≤_}
 use native.Mathlib.Omega.{arith}
-use borrow.Author.Tests.{ne-eqb, eqb-true, le-leb, leb-true}
+use borrow.Author.Tests.{eqb-true, le-leb, leb-true}
 use lib.Dec.{eqb, leb}
 use lib.ListN.{length, take, getD, length-append, length-map, List·getD-map}
-use lib.Seq.{getD-take, length-take-le}
+use lib.Seq.{length-take-le}
 use Rattle.model.specs.Packet.{Packet}
 use Rattle.model.specs.Rate.{Budgets}
 use Rattle.model.specs.Mux.{Mux, Sent, framed, writeFrame, turnsDue, turned, countDue}
@@ -19,9 +19,9 @@ use Rattle.journey.proofs.Carried.{Kept, chain}
 use Rattle.journey.proofs.Sending.{Begins, none-begun, one-begun, begins, sentBy}
 use Rattle.slots.specs.Slot.{noSlot, writtenLength, writtenBytes, slotPacket}
 use Rattle.slots.specs.declared.Slot.{Slot}
-use Rattle.writer.specs.Writer.{packetsOf, leftFrom, means, moved}
-use Rattle.writer.specs.Sending.{Queued, Held, begun}
-use Rattle.writer.proofs.Triples.{left-length}
+use Rattle.sending.proofs.Triples.{leftFrom, Held, left-length}
+use Rattle.sending.proofs.Sends.{slotPackets}
+use Rattle.writer.specs.Writer.{means, moved}
 use Rattle.writer.proofs.Moved.{begun-at}
 use Rattle.writer.proofs.Builds.{means-frame}
 use Rattle.writer.proofs.Kept.{Sound, sound-ok, sound-mux}
@@ -85,43 +85,41 @@ passed-rest slot at h n r few =
     (λ t. rw t (passed-one (slotPacket slot) (leb (writtenLength slot) (writtenLength slot - 2 * n)) r))
 
 -- of a queue of slots and the slot being sent, what is there once the model's o has been sent
-module _ (l : List Slot) (count : ℕ) (q : Queued l count) (slot : Slot) (at : ℕ) (h : Held slot at) (o : Sent) where
+module _ (l : List Slot) (count : ℕ) (q : length l ≡ count) (slot : Slot) (at : ℕ) (h : Held slot at) (o : Sent) where
   -- the slot begun last
   abbrev last : Slot
-  last = begun l slot 0 (count - length (o .packets))
+  last = getD (slot ∷ l) (count - length (o .packets)) noSlot
 
   -- so much of it has left
   abbrev sent : ℕ
   sent = writtenLength last - 2 * length (o .sending)
 
   -- as many packets as are counted
-  number : length (packetsOf (take count l)) ≡ count
-  number = length-map (take count l) slotPacket ∙ length-take-le count l (omega (arith, q .few, q .places))
+  number : length (slotPackets l) ≡ count
+  number = length-map l slotPacket ∙ q
 
   -- no other packet is begun
-  passed-here : o .packets ≡ packetsOf (take count l) → length (o .sending) ≤ length (leftFrom at (writtenBytes slot))
-      → Passed (restIn slot at ++ packetsOf (take count l)) [] (restIn last sent ++ o .packets)
+  passed-here : o .packets ≡ slotPackets l → length (o .sending) ≤ length (leftFrom at (writtenBytes slot))
+      → Passed (restIn slot at ++ slotPackets l) [] (restIn last sent ++ o .packets)
   passed-here e few =
-      let z : count - length (packetsOf (take count l)) ≡ 0 = omega (arith, number) in
-      rw (e, z) (passed-rest slot at h (length (o .sending)) (packetsOf (take count l)) few)
+      let z : count - length (slotPackets l) ≡ 0 = omega (arith, number) in
+      rw (e, z) (passed-rest slot at h (length (o .sending)) (slotPackets l) few)
 
   -- one of the queue is begun
-  passed-on : (gone : List Packet) (p : Packet) → packetsOf (take count l) ≡ gone ++ (p ∷ o .packets)
-      → Passed (restIn slot at ++ packetsOf (take count l)) [] (restIn last sent ++ o .packets)
+  passed-on : (gone : List Packet) (p : Packet) → slotPackets l ≡ gone ++ (p ∷ o .packets)
+      → Passed (restIn slot at ++ slotPackets l) [] (restIn last sent ++ o .packets)
   passed-on gone p e =
       let n = ap length e in
       let m = length-append gone (p ∷ o .packets) in
       let next : count - length (o .packets) ≡ suc (length gone) = omega (arith, number) in
-      let before : suc (length gone) - 1 ≡ length gone = omega arith in
-      let there : length gone < count = omega (arith, number) in
       let it : slotPacket (getD l (length gone) noSlot) ≡ p =
-      ap slotPacket (sym (getD-take count l (length gone) noSlot there)) ∙ sym (List·getD-map slotPacket (take count l) (length gone) noSlot)
+      sym (List·getD-map slotPacket l (length gone) noSlot)
       ∙ ap (λ (ps : List Packet). getD ps (length gone) (slotPacket noSlot)) e ∙ getD-behind gone p (o .packets) (slotPacket noSlot) in
-      rw (next, ne-eqb (suc (length gone)) 0 (λ z. omega arith), before, it, e)
+      rw (next, it, e)
       (passed-front (restIn slot at) (passed-front gone (passed-one p (leb (writtenLength (getD l (length gone) noSlot)) (writtenLength (getD l (length gone) noSlot) - 2 * length (o .sending))) (o .packets))))
 
   -- either way
-  passed-by : Begins (leftFrom at (writtenBytes slot)) (packetsOf (take count l)) o → Passed (restIn slot at ++ packetsOf (take count l)) [] (restIn last sent ++ o .packets)
+  passed-by : Begins (leftFrom at (writtenBytes slot)) (slotPackets l) o → Passed (restIn slot at ++ slotPackets l) [] (restIn last sent ++ o .packets)
   passed-by (none-begun e few) = passed-here e few
   passed-by (one-begun gone p e) = passed-on gone p e
 
@@ -133,11 +131,13 @@ module _ (w : CCDataWriter) (s : Sound w) (b : Budgets) where
 
   -- the slot that is begun last
   abbrev slot : Slot
-  slot = begun (w .packets) (w .sending) 0 (w .«packet_count» - length (x .packets))
+  slot = getD (w .sending ∷ take (w .«packet_count») (w .packets)) (w .«packet_count» - length (x .packets)) noSlot
 
   -- the packet that is being sent then
   sending-after : sendingOf (moved w x) ≡ restIn slot (writtenLength slot - 2 * length (x .sending))
-  sending-after = rw (begun-at (w .packets) (w .sending) (w .«packet_count» - length (x .packets))) (rest-rested slot (length (x .sending)))
+  sending-after =
+      let ok = sound-ok w s in
+      rw (begun-at (w .packets) (w .sending) (w .«packet_count») (w .«packet_count» - length (x .packets)) (omega arith) (omega (arith, ok .few, ok .places))) (rest-rested slot (length (x .sending)))
 
   -- by what the model sends
   passed-model : Passed (thereIn w) [] (restIn slot (writtenLength slot - 2 * length (x .sending)) ++ x .packets)
@@ -145,7 +145,8 @@ module _ (w : CCDataWriter) (s : Sound w) (b : Budgets) where
   passed-model =
       let k = sound-ok w s in
       let t : Mux = means w in
-      passed-by (w .packets) (w .«packet_count») (k .queued) (w .sending) (w .sent) (k .held) (sentBy b t)
+      let n = length-take-le (w .«packet_count») (w .packets) (omega (arith, k .few, k .places)) in
+      passed-by (take (w .«packet_count») (w .packets)) (w .«packet_count») n (w .sending) (w .sent) (k .held) (sentBy b t)
       (begins (countDue b t - length (turned (turnsDue (b .pairs) t) t .out)) (t .sending) (t .packets))
 
   -- in all

@@ -19,7 +19,7 @@ use Rattle.journey.proofs.Carried as journey
 use Rattle.caption.specs.declared.Answer.{Answer}
 use Rattle.slots.specs.Slot.{writtenLength}
 use Rattle.writer.specs.Writer.{means}
-use Rattle.writer.proofs.Triples.{left-length}
+use Rattle.sending.proofs.Triples.{left-length}
 use Rattle.writer.proofs.Kept.{Sound, sound-ok}
 use Rattle.writer.specs.declared.CCDataWriter.{CCDataWriter}
 use Rattle.parser.specs.declared.CCDataParser.{CCDataParser}

@@ -16,7 +16,7 @@ use Rattle.turns.specs.Queue.{queueOf, pairsOf}
 use Rattle.slots.specs.Slot.{writtenBytes}
 use Rattle.writer.specs.Writer.{means}
 use Rattle.writer.proofs.Kept.{Sound, sound-ok}
-use Rattle.writer.proofs.Triples.{left-end}
+use Rattle.sending.proofs.Triples.{left-end}
 use Rattle.writer.specs.declared.CCDataWriter.{CCDataWriter}
 use Rattle.parser.specs.Means as parser
 use Rattle.parser.specs.Calls as calls
@@ -42,7 +42,7 @@ drained w s d =
     let h = sound-ok w s .held in
     record {
       no-packet = rw (d .no-packet);
-      no-triple = left-end (w .sent) (writtenBytes (w .sending)) (omega (arith, h .whole, d .no-byte));
+      no-triple = left-end (w .sent) (writtenBytes (w .sending)) (h .even) (omega (arith, h .whole, d .no-byte));
       no-pair1 = rw (d .no-pair1);
       no-pair2 = rw (d .no-pair2);
     }

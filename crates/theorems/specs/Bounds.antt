@@ -1,20 +1,18 @@
 -- How soon what is queued leaves. Assumes nothing.
 use mathlib.Core.Path.{_≡_}
-use mathlib.Core.Bool.{true}
 use mathlib.Core.List.{List, _++_}
 use Prim.Native.Nat.{ℕ, _+_, _*_, _≤_, min}
 use lib.ListN.{length, take, drop}
-use Rattle.model.specs.Said.{isGiven}
-use Rattle.model.specs.Frame.{Pair, seenAll, triplesIn, mostFrame}
-use Rattle.model.specs.Rate.{budgets}
-use Rattle.model.specs.Mux.{unsent}
+use Rattle.model.specs.Said.{gave}
+use Rattle.model.specs.Frame.{Pair, seenAll, triplesIn, mostFrame, frameBytes}
+use Rattle.model.specs.Rate.{Budgets, budgets}
+use Rattle.model.specs.Mux.{unsent, writeFrame}
 use Rattle.journey.specs.Bounds.{Field, the, Left, packetTriplesIn}
 use Rattle.caption.specs.declared.Counted.{Counted}
 use Rattle.caption.specs.declared.Counted.the-variants.{Count}
 use Rattle.caption.specs.declared.Framerate.{Framerate}
 use Rattle.turns.specs.Queue.{queueOf}
 use Rattle.writer.specs.Writer.{means}
-use Rattle.writer.specs.Calls.{frameLength}
 use Rattle.writer.specs.declared.CCDataWriter.{CCDataWriter}
 use Rattle.theorems.specs.Items.{Items}
 use Rattle.theorems.specs.Writing.{Drained}
@@ -38,7 +36,8 @@ pub record SendsFour (w : CCDataWriter) (frame : List ℕ) (w′ : CCDataWriter)
 
 -- a write at an accepted rate, with room for the longest frame, is accepted: its answer counts the frame's bytes
 abbrev pub AcceptsWrite : CCDataWriter → Framerate → List ℕ → Counted → Type 0
-AcceptsWrite w rate out answer = isGiven (budgets (rate .numer) (rate .denom)) ≡ true → mostFrame ≤ length out → answer ≡ Count (frameLength rate w)
+AcceptsWrite w rate out answer =
+    (b : Budgets) → budgets (rate .numer) (rate .denom) ≡ gave b → mostFrame ≤ length out → answer ≡ Count (length (frameBytes (writeFrame b (means w) .frame)))
 
 -- the pairs of a field among items
 abbrev pub pairsAt : Field → Items → List Pair

@@ -1,33 +1,50 @@
 -- A frame that is built is the model's frame, and the state after it is what the model leaves. Assumes nothing.
-use mathlib.Core.Path.{_≡_, refl, sym, ap, _∙_}
+use mathlib.Core.Path.{_≡_, refl, sym, ap}
 use mathlib.Core.Bool.{true, cond}
-use mathlib.Core.List.{List, [], _++_, append-assoc}
+use mathlib.Core.List.{List, _++_}
 use Prim.Native.Nat.{ℕ, _+_, _-_, _*_, _%_, _≤_, min}
 use native.Mathlib.Omega.{arith}
 use lib.ListN.{length, take}
+use lib.Seq.{length-take-le}
+use Rattle.model.specs.Frame as model
 use Rattle.model.specs.Frame.{Triple, flat}
 use Rattle.model.specs.Rate.{Budgets}
-use Rattle.model.specs.Mux.{Mux, Turned, turned, turnsDue, countDue, triplesQueued, Sent, padding, framed, writeFrame, validMux}
+use Rattle.model.specs.Mux.{Mux, Turned, turned, turnsDue, countDue, Sent, padding, framed, writeFrame, validMux, mostQueued}
 use Rattle.model.proofs.Cases.{by-cond}
 use Rattle.model.proofs.Frames.{flat-length}
 use Rattle.model.proofs.MuxStates.{write-valid}
-use Rattle.frames.specs.Frame.{headed, appended, fillers}
+use Rattle.caption.specs.declared.Counted.the-variants.{Count}
+use Rattle.frames.specs.Frame.{headed, appended}
 use Rattle.frames.proofs.Stores.{appended-flat}
-use Rattle.turns.specs.Turn.{fits, taken, turnsFrom, takenFrom}
-use Rattle.slots.specs.Slot.{writtenBytes}
-use Rattle.writer.specs.Writer.{packetsOf, leftFrom, means, moved}
-use Rattle.writer.specs.Sending.{stands, sentFrom}
-use Rattle.writer.specs.Making.{Ok, madeOf, joined, laid, Builds, turnsOf, triplesIn, padded, filled, startOf, turnsOn, Room}
+use Rattle.frames.specs.declared.Frame.{Frame}
+use Rattle.turns.specs.Turn.{taken, turnsFrom}
+use Rattle.turns.specs.declared.Turns.{Turns}
 use Rattle.turns.proofs.Queues.{queue-length}
 use Rattle.turns.proofs.Steps.{Leaves, leaves1, leaves2, fit}
-use Rattle.frames.specs.declared.Frame.{Frame}
-use Rattle.turns.specs.declared.Turns.{Turns}
-use Rattle.writer.proofs.Valid.{Shaped, Order}
+use Rattle.slots.specs.declared.Slot.{Slot}
+use Rattle.sending.specs.Slots.{countOf, filled}
+use Rattle.sending.proofs.Triples.{left-length, left-triples}
+use Rattle.sending.proofs.Sends.{triples-queued}
+use Rattle.sending.proofs.Fills.{filled-is}
+use Rattle.sending.specs.declared.Sending.{Sending}
+use Rattle.writer.specs.Writer.{means, moved}
+use Rattle.building.specs.Building.{turnsOf, takes, madeOf, built}
+use Rattle.building.specs.declared.Made.{Made}
+use Rattle.writer.specs.Making.{joined, builtFrom}
+use Rattle.writer.proofs.Valid.{Shaped, Ok, Order}
 use Rattle.writer.proofs.Moved as moved
-use Rattle.writer.proofs.Fills.{sent-next, sent-slot}
-use Rattle.writer.specs.declared.Sending.{Sending}
 use Rattle.writer.specs.declared.CCDataWriter.{CCDataWriter}
-use Rattle.writer.specs.declared.Made.{Made}
+
+-- the bytes of a frame in their places
+abbrev pub laid : model.Frame → Frame
+laid f = appended (headed (f .count)) (flat (f .triples))
+
+-- a frame that is made is the model's, and leaves what the model leaves
+pub record Builds (b : Budgets) (w : CCDataWriter) (m : Made) : Type 0 where
+  pub answer : m .answer ≡ Count (m .frame .len)
+  pub frame : m .frame ≡ laid (writeFrame b (means w) .frame)
+  pub writer : joined w m ≡ moved w (writeFrame b (means w) .next)
+  pub few : m .next ≤ w .«packet_count»
 
 -- the turns that the model takes
 pub leaves : (n : ℕ) (s : Mux) → Leaves n (s .queue1) (s .queue2) (turned n s)
@@ -74,16 +91,21 @@ module _ (w : CCDataWriter) (b : Budgets) (ok : Ok w) (v : validMux (means w) �
   shaped-frame = moved.shaped-moved w ok m (writeFrame b (means w) .next) refl refl (write-valid b (means w) v)
 
 module _ (w : CCDataWriter) (b : Budgets) (ok : Ok w) (within : b .pairs ≤ b .triples) (most : b .triples ≤ 31) where
-  -- the turns and the count
+  -- the turns are the model's
   pub turns-are : turnsOf (w .«output_cea608_padding») (b .pairs) (w .field1 .count) (w .field2 .count) ≡ turnsDue (b .pairs) (means w)
   unfolding turnsDue means
-  turns-are = rw (queue-length (w .field1) (ok .first), queue-length (w .field2) (ok .second))
+  turns-are =
+      let n : min (w .field2 .count) mostQueued ≡ w .field2 .count = omega (arith, ok .second .few) in
+      rw (n, queue-length (w .field1) (ok .first), queue-length (w .field2) (ok .second))
 
-  -- the code's count is the model's
-  pub count-are : cond (w .«output_padding») (b .triples)
-      (min (b .triples) (turnsDue (b .pairs) (means w) + (length (leftFrom (w .sent) (writtenBytes (w .sending))) + triplesQueued (packetsOf (take (w .«packet_count») (w .packets)))))) ≡ countDue b (means w)
+  -- the slots of the packets that are queued
+  abbrev slots : List Slot
+  slots = take (w .«packet_count») (w .packets)
+
+  -- and so is the count
+  count-are : countOf (w .«output_padding») (b .triples) (turnsDue (b .pairs) (means w)) slots (w .sending) (w .sent) ≡ countDue b (means w)
   unfolding countDue means
-  count-are = refl
+  count-are = rw (triples-queued slots (ok .slots), left-triples (w .sending) (w .sent) (ok .held), ← left-length (w .sending) (w .sent) (ok .held))
 
   -- the turns of the frame
   abbrev due : ℕ
@@ -106,125 +128,67 @@ module _ (w : CCDataWriter) (b : Budgets) (ok : Ok w) (within : b .pairs ≤ b .
   few-turns = omega (arith, leaves due (means w) .few, count-least b (means w) within)
 
   -- no more turns than triples
-  pub turns-few : due ≤ 31
+  turns-few : due ≤ 31
   turns-few = omega (arith, turns-most (b .pairs) (means w))
 
   -- the count has five bits
-  pub count-few : count ≤ 31
+  count-few : count ≤ 31
   count-few = omega (arith, count-most b (means w) within)
 
+  -- the queues and a frame when the turns start
+  abbrev turnsOn : Frame → Turns
+  turnsOn f = record { field1 = w .field1; field2 = w .field2; «field2_next» = w .«field2_next»; frame = f }
+
   -- the turns that are taken
-  pub taken-are : cond (fits (turnsOn w (headed count)) due) (takenFrom due (w .«output_cea608_padding») (turnsOn w (headed count))) (turnsOn w (headed count)) ≡ taken (turnsOn w (headed count)) turns
+  taken-are : takes due (w .«output_cea608_padding») (turnsOn (headed count)) ≡ taken (turnsOn (headed count)) turns
   unfolding turnsFrom turned means headed
   taken-are =
-      rw (fit (turnsOn w (headed count)) due (w .«output_cea608_padding») (record { first = ok .first .few; second = ok .second .few; room = omega (arith, turns-few) }))
+      rw (fit (turnsOn (headed count)) due (w .«output_cea608_padding») (record { first = ok .first .few; second = ok .second .few; room = omega (arith, turns-few) }))
 
   -- three bytes a triple behind the header
   frame-length : frame .len ≡ 2 + 3 * length (turns .out)
   unfolding headed
   frame-length = ap (λ k. 2 + k) (flat-length (turns .out))
 
-  -- there is room up to the count
-  pub frame-room : Room frame count
-  frame-room =
-      record {
-        least = omega (arith, frame-length);
-        whole = omega (arith, frame-length);
-        most = omega (arith, frame-length, few-turns);
-        few = count-few;
-      }
-
   -- the packet triples
   abbrev sends : Sent
   sends = moved.sends w ok (count - length (turns .out))
 
-  -- the code's packet triples are the model's
-  sends-are : sentFrom (w .packets) (w .«packet_count») (startOf w frame) (count - triplesIn frame) ≡ stands (w .packets) (w .«packet_count») (startOf w frame) sends
-  unfolding sentFrom
-  sends-are = let e : triplesIn frame ≡ length (turns .out) = omega (arith, frame-length) in rw e
-
-  -- the whole frame
+  -- the padding
   abbrev fillings : List Triple
-  fillings = cond (w .«output_padding») (fillers (count - length (turns .out) - length (sends .out))) []
-
-  -- turns, packet triples and padding make the frame
-  whole : (g : Frame) → g ≡ appended frame (flat (sends .out)) → padded (w .«output_padding») count g ≡ appended (headed count) (flat (turns .out ++ (sends .out ++ fillings)))
-  unfolding headed
-  whole g e =
-      let l : triplesIn (appended frame (flat (sends .out))) ≡ length (turns .out) + length (sends .out) = omega (arith, frame-length, flat-length (sends .out)) in
-      let d : count - (length (turns .out) + length (sends .out)) ≡ count - length (turns .out) - length (sends .out) = omega arith in
-      rw (e, l, d)
-      (ap (λ (f : Frame). appended f (flat fillings)) (appended-flat (headed count) (turns .out) (sends .out))
-      ∙ appended-flat (headed count) (turns .out ++ sends .out) fillings
-      ∙ ap (λ (x : List Triple). appended (headed count) (flat x)) (append-assoc (turns .out) (sends .out) fillings))
+  fillings = padding (w .«output_padding») (count - length (turns .out) - length (sends .out))
 
   -- where sending stands in the end
-  pub next-few : (s : Sending) → s ≡ filled (w .packets) (w .«packet_count») (startOf w frame) count (w .«output_padding») → (s .next ≤ w .«packet_count») × (s .slot .len ≤ 128)
-  unfolding filled
-  next-few s e =
-      rw e (
-        sent-next (w .packets) (w .«packet_count») (startOf w frame) (count - triplesIn frame),
-        sent-slot (w .packets) (w .«packet_count») (startOf w frame) (count - triplesIn frame) refl (ok .queued) (ok .held),
-      )
+  abbrev sent : Sending
+  sent =
+      let m = count - length (turns .out) in
+      record { slot = moved.rest w ok m; sent = cond (moved.none w ok m) 0 (moved.at w ok m); next = moved.next w ok m; frame = appended frame (flat (sends .out ++ fillings)) }
 
-  -- the turns and the packet triples that were found
-  module _ (t : Turns) (s : Sending) (e : t ≡ taken (turnsOn w (headed count)) turns) (g : s ≡ filled (w .packets) (w .«packet_count») (startOf w (t .frame)) count (w .«output_padding»)) where
-    -- the frame is the model's
-    frame-are : s .frame ≡ laid (writeFrame b (means w) .frame)
-    unfolding filled stands means writeFrame framed padding
-    frame-are = rw (g, e, sends-are, whole (appended frame (flat (sends .out))) refl)
+  -- as the code finds it
+  sent-are : filled slots (w .sending) (w .sent) frame count (w .«output_padding») ≡ sent
+  sent-are =
+      let n : length slots ≡ w .«packet_count» = length-take-le (w .«packet_count») (w .packets) (omega (arith, ok .few, ok .places)) in
+      rw n at (filled-is slots (w .sending) (w .sent) frame (length (turns .out)) count (ok .slots) (ok .held) frame-length few-turns count-few (w .«output_padding»))
 
-    -- the state is what the model leaves
-    writer-are : joined w (madeOf t s) ≡ moved w (writeFrame b (means w) .next)
-    unfolding filled stands means writeFrame framed padding
-    writer-are =
-        let k : w .«packet_count» - (w .«packet_count» - length (sends .packets)) ≡ length (sends .packets) = omega (arith, moved.fewer w ok (count - length (turns .out))) in
-        rw (g, e, sends-are, k) (sym (moved.moved-is w ok (count - length (turns .out)) (writeFrame b (means w) .next) refl refl))
+  -- so the frame and what is left are those of the model's turns and packet triples
+  built-are : builtFrom (b .pairs) (b .triples) w ≡ madeOf (taken (turnsOn (headed count)) turns) sent
+  unfolding built
+  built-are =
+      let c : count % 32 ≡ count = omega (arith, count-few) in
+      rw (turns-are, count-are, c, taken-are, sent-are)
 
-    -- frame and state are what the model says
-    pub built-are : Builds b w (madeOf t s)
-    built-are = record { answer = refl; frame = frame-are; writer = writer-are; few = next-few s (rw e at g) .0 }
+  -- the frame is the model's
+  frame-are : sent .frame ≡ laid (writeFrame b (means w) .frame)
+  unfolding means writeFrame framed
+  frame-are = appended-flat (headed count) (turns .out) (sends .out ++ fillings)
 
-  -- what the calls of a build give, one after another
-  pub record Steps (n c : ℕ) (h : Frame) (t : Turns) : Type 0 where
-    pub turns : n ≡ turnsOf (w .«output_cea608_padding») (b .pairs) (w .field1 .count) (w .field2 .count)
-    pub count : c ≡ cond (w .«output_padding») (b .triples)
-        (min (b .triples) (n + (length (leftFrom (w .sent) (writtenBytes (w .sending))) + triplesQueued (packetsOf (take (w .«packet_count») (w .packets))))))
-    pub header : h ≡ headed (c % 32)
-    pub taken : t ≡ cond (fits (turnsOn w h) n) (takenFrom n (w .«output_cea608_padding») (turnsOn w h)) (turnsOn w h)
+  -- the state is what the model leaves
+  writer-are : joined w (madeOf (taken (turnsOn (headed count)) turns) sent) ≡ moved w (writeFrame b (means w) .next)
+  unfolding means writeFrame framed
+  writer-are =
+      let k : w .«packet_count» - (w .«packet_count» - length (sends .packets)) ≡ length (sends .packets) = omega (arith, moved.fewer w ok (count - length (turns .out))) in
+      rw k (sym (moved.moved-is w ok (count - length (turns .out)) (writeFrame b (means w) .next) refl refl))
 
-  -- the turns that were found
-  pub due-is : (n : ℕ) → n ≡ turnsOf (w .«output_cea608_padding») (b .pairs) (w .field1 .count) (w .field2 .count) → n ≡ due
-  due-is n e = e ∙ turns-are
-
-  -- the count that was found
-  pub count-is : (n c : ℕ) → n ≡ due
-      → c ≡ cond (w .«output_padding») (b .triples)
-      (min (b .triples) (n + (length (leftFrom (w .sent) (writtenBytes (w .sending))) + triplesQueued (packetsOf (take (w .«packet_count») (w .packets))))))
-      → c ≡ count
-  count-is n c e q = rw e at q ∙ count-are
-
-  module _ (n c : ℕ) (h : Frame) (t : Turns) (s : Steps n c h t) where
-    -- it is the model's
-    count-found : c ≡ count
-    count-found = count-is n c (due-is n (s .turns)) (s .count)
-
-    -- the header tells it
-    header-found : h ≡ headed count
-    header-found = let e : c % 32 ≡ count = omega (arith, count-found, count-few) in s .header ∙ ap headed e
-
-    -- the turns are the model's
-    pub taken-is : t ≡ taken (turnsOn w (headed count)) turns
-    taken-is = rw (header-found, due-is n (s .turns)) at (s .taken) ∙ taken-are
-
-    -- they leave room
-    pub room-is : Room (t .frame) c
-    room-is = rw (taken-is, count-found) frame-room
-
-    -- sending stands within the queue
-    pub next-is : (r : Sending) → r ≡ filled (w .packets) (w .«packet_count») (startOf w (t .frame)) c (w .«output_padding») → (r .next ≤ w .«packet_count») × (r .slot .len ≤ 128)
-    next-is r e = next-few r (rw (taken-is, count-found) at e)
-
-    -- all calls together
-    pub built-is : (r : Sending) (m : Made) → r ≡ filled (w .packets) (w .«packet_count») (startOf w (t .frame)) c (w .«output_padding») → m ≡ madeOf t r → Builds b w m
-    built-is r m e z = rw z (built-are t r taken-is (rw count-found at e))
+  -- frame and state are what the model says
+  pub built-is : (m : Made) → m ≡ builtFrom (b .pairs) (b .triples) w → Builds b w m
+  built-is m e = rw (e, built-are) (record { answer = refl; frame = frame-are; writer = writer-are; few = omega arith })

@@ -1,19 +1,19 @@
 -- One law for each way out of a call. Assumes nothing.
 use mathlib.Core.Path.{_≡_, refl, sym, ap, _∙_}
-use mathlib.Core.Bool.{Bool, true, false, cond, _||_}
+use mathlib.Core.Bool.{Bool, true, false}
 use mathlib.Core.List.{List, [], _∷_, _++_}
 use Prim.Native.Nat.{ℕ, _+_, _-_, _*_, _≤_, _<_}
 use native.Mathlib.Omega.{arith}
 use borrow.Author.Tests.{lt-ltb, le-ltb, le-leb}
-use lib.Dec.{eqb, leb, ltb}
-use lib.ListN.{length, take, drop, replicate, take-append-drop, length-append, length-replicate}
+use lib.Dec.{leb}
+use lib.ListN.{length, take, drop, replicate, length-append, length-replicate}
 use lib.Seq.{sets-eq, take-at}
 use Rattle.model.specs.Said.{Outcome, gave, refused, accepted, says, saysWith, after, checked, measured, mapped, putInto, badValue, badRate}
 use Rattle.model.specs.Frame as model
 use Rattle.model.specs.Frame.{Cea608, field1, field2, Pair, pair, Triple, tri, flat, frameBytes}
-use Rattle.model.specs.Rate.{Budgets, pairsAt, triplesAt, mostTriples, budgets}
+use Rattle.model.specs.Rate.{Budgets, budgets}
 use Rattle.model.specs.Mux.{Mux, Turned, turned, turnsDue, countDue, Sent, send, padding, framed, writeFrame, writeAt, withPads, withQueues, flushMux, pushPair, pushCea608}
-use Rattle.model.specs.Duration.{pairsDuration, bytesDuration, lengthsOf, bytesLeft, field1Duration, field2Duration, packetDuration}
+use Rattle.model.specs.Duration.{pairsDuration, bytesDuration, bytesLeft, field1Duration, field2Duration, packetDuration}
 use Rattle.model.proofs.Cases.{by-cond, Gives}
 use Rattle.model.proofs.Frames.{flat-length, frame-length}
 use Rattle.model.proofs.Rates.{accepted-sane}
@@ -31,23 +31,24 @@ use Rattle.caption.specs.declared.Budgets.the-variants.{Of, BadRate as NoBudget
 use Rattle.frames.specs.Frame.{headed, emitted}
 use Rattle.frames.proofs.Stores.{emitted-whole}
 use Rattle.turns.specs.Queue.{queueOf, queueOver}
-use Rattle.turns.specs.Step.{slid}
-use Rattle.slots.specs.Slot.{writtenBytes}
-use Rattle.writer.specs.Writer.{packetsOf, leftFrom, means, validWriter, stored, emptied}
-use Rattle.writer.specs.Calls.{Answers, budgetsAt, frameLength, written, Writes}
-use Rattle.writer.specs.Making.{Ok, laid, unmadeOf, joined, Builds, withPadding, withFields, pairOutcome, Makes}
+use Rattle.writer.specs.Writer.{means, validWriter, stored, emptied}
+use Rattle.writer.specs.Calls.{Answers, written, Writes}
+use Rattle.writer.specs.Making.{unmadeOf, joined, builtFrom, withPadding, withFields, pairOutcome, Makes}
 use Rattle.turns.proofs.Queues.{queue-length}
 use Rattle.frames.specs.declared.Frame.{Frame}
 use Rattle.turns.specs.declared.PairQueue.{PairQueue}
-use Rattle.slots.specs.declared.Slot.{Slot}
 use Rattle.caption.specs.declared.Counted.{Counted}
 use Rattle.caption.specs.declared.Counted.the-variants as counted
-use Rattle.writer.proofs.Fills.{send-few}
-use Rattle.writer.proofs.Valid.{Shaped, Order, valid-order, valid-ok, valid-mux}
-use Rattle.writer.proofs.Builds.{leaves, count-most, count-least, means-frame}
+use Rattle.sending.specs.Slots.{triplesLeft, lengthsIn}
+use Rattle.sending.proofs.Queues.{sets-own}
+use Rattle.sending.proofs.Triples.{left-length, left-triples}
+use Rattle.sending.proofs.Sends.{lengths-queued}
+use Rattle.sending.proofs.Fills.{send-few}
+use Rattle.writer.proofs.Valid.{Shaped, Ok, Order, valid-order, valid-ok, valid-mux}
+use Rattle.writer.proofs.Builds.{laid, Builds, built-is, leaves, count-most, count-least, means-frame}
 use Rattle.writer.proofs.Stored.{Grows, grows-pads, grows-pair, stored-pads, stored-first, stored-second, means-stored, means-emptied}
 use Rattle.writer.specs.declared.CCDataWriter.{CCDataWriter}
-use Rattle.writer.specs.declared.Made.{Made}
+use Rattle.building.specs.declared.Made.{Made}
 
 -- an answer, by what it says and where the state stands, if the places of what the model gives mean it
 pub answered : (o : Outcome Mux) {f : Mux → CCDataWriter} {w y : CCDataWriter} {r : Answer} → saidAnswer r ≡ says o → y ≡ after w (mapped f o) → Gives (λ (x : Mux). means (f x) ≡ x) o
@@ -158,9 +159,11 @@ module _ (w : CCDataWriter) (ok : Ok w) where
   second-duration m e = e ∙ rw (queue-length (w .field2) (ok .second))
 
   -- packets
-  pub packet-duration : (m n : ℕ) → n ≡ lengthsOf (packetsOf (take (w .«packet_count») (w .packets))) + 3 * length (leftFrom (w .sent) (writtenBytes (w .sending))) → m ≡ bytesDuration n → m ≡ packetDuration (means w)
+  pub packet-duration : (m n : ℕ) → n ≡ lengthsIn (take (w .«packet_count») (w .packets)) + 3 * triplesLeft (w .sending .len) (w .sent) → m ≡ bytesDuration n → m ≡ packetDuration (means w)
   unfolding means bytesLeft
-  packet-duration m n e d = d ∙ rw e
+  packet-duration m n e d =
+      let z : n ≡ bytesLeft (means w) = e ∙ rw (lengths-queued (take (w .«packet_count») (w .packets)) (ok .slots), left-triples (w .sending) (w .sent) (ok .held), ← left-length (w .sending) (w .sent) (ok .held)) in
+      d ∙ rw z
 
 -- a frame in its places
 laid-length : (f : model.Frame) → laid f .len ≡ length (frameBytes f)
@@ -191,16 +194,6 @@ few-triples b s h =
     rw (length-append (t .out) (o .out ++ p), length-append (o .out) p)
     (omega (arith, leaves (turnsDue (b .pairs) s) s .few, count-least b s h, send-few (n - length (t .out)) (s .sending) (s .packets), padding-few (s .padOut) (n - length (t .out) - length (o .out))))
 
--- the budgets of a rate that is accepted
-pub budgets-at : (n d : ℕ) (b : Budgets) → budgets n d ≡ gave b → b ≡ record { pairs = pairsAt n d; triples = triplesAt n d }
-unfolding budgets
-budgets-at n d b = by (eqb n 0 || (eqb (pairsAt n d) 0 || ltb mostTriples (triplesAt n d)))
-  where
-    -- by the test
-    by : (bad : Bool) → cond bad (refused badRate) (gave (record { pairs = pairsAt n d; triples = triplesAt n d })) ≡ gave b → b ≡ record { pairs = pairsAt n d; triples = triplesAt n d }
-    by true e = (cc)
-    by false e = (cc)
-
 -- writing a frame
 module _ (w : CCDataWriter) (rate : Framerate) (out : List ℕ) {v : Bool} (e : v ≡ validWriter w) where
   -- on a refusal all stays as it was
@@ -228,15 +221,15 @@ module _ (w : CCDataWriter) (rate : Framerate) (out : List ℕ) {v : Bool} (e : 
       given : budgets (rate .numer) (rate .denom) ≡ gave b
       given = sym (rw z at (budgets-meant (rate .numer) (rate .denom) r m))
 
-      -- its budgets are the rate's
-      at : b ≡ budgetsAt rate
-      at = budgets-at (rate .numer) (rate .denom) b given
-
       -- "an accepted rate"
       pub sane : (p ≤ n) × (n ≤ 31)
       sane = let s = accepted-sane (rate .numer) (rate .denom) given in (omega (arith, s .apart), s .few-triples)
 
-      module _ (f : Made) (made : Builds b w f) where
+      module _ (shaped : Shaped w) (f : Made) (found : f ≡ builtFrom p n w) where
+        -- what was built is the model's
+        pub made : Builds b w f
+        made = built-is w b (valid-ok w shaped within) (sane .0) (sane .1) f found
+
         -- the bytes of the frame
         abbrev bytes : List ℕ
         bytes = frameBytes (writeFrame b (means w) .frame)
@@ -257,19 +250,18 @@ module _ (w : CCDataWriter) (rate : Framerate) (out : List ℕ) {v : Bool} (e : 
             rw length-is (wrote-refused (OutShort (length bytes)) (rw (within, given, lt-ltb (length out) (length bytes) (omega (arith, length-is)))))
 
         -- the write is accepted
-        wrote : f .frame .len ≤ length out → written rate out w ≡ gave (record { out = bytes ++ drop (length bytes) out; next = writeFrame b (means w) .next })
+        wrote : f .frame .len ≤ length out → written rate out w ≡ gave (record { frame = bytes; out = bytes ++ drop (length bytes) out; next = writeFrame b (means w) .next })
         unfolding written writeAt putInto
         wrote h = rw (within, given, le-ltb (length out) (length bytes) (omega (arith, length-is)))
 
         -- the frame is in the output
-        pub wrote-done : Shaped w → f .frame .len ≤ length out → Writes rate out w (record { answer = f .answer; writer = joined w f }) (emitted (f .frame) out)
-        unfolding frameLength
-        wrote-done shaped h =
+        pub wrote-done : f .frame .len ≤ length out → Writes rate out w (record { answer = f .answer; writer = joined w f }) (emitted (f .frame) out)
+        wrote-done h =
             let k : length (writeFrame b (means w) .frame .triples) ≤ 31 = omega (arith, few-triples b (means w) (sane .0), count-most b (means w) (sane .0), sane) in
             let d : take (f .frame .len) (f .frame .bytes) ≡ bytes = rw (made .frame) (laid-bytes (writeFrame b (means w) .frame) k) in
             let o : emitted (f .frame) out ≡ bytes ++ drop (length bytes) out = sym (emitted-whole (f .frame) out frame-few h) ∙ rw (d, length-is) in
             record {
-              answer = rw (wrote h, made .answer, length-is, ← at);
+              answer = rw (wrote h, made .answer, length-is);
               means = rw (wrote h, made .writer) (means-frame w b (valid-ok w shaped within) (valid-mux w shaped within));
               places = rw (wrote h) (made .writer);
               output = rw (wrote h) o;
@@ -279,11 +271,6 @@ module _ (w : CCDataWriter) (rate : Framerate) (out : List ℕ) {v : Bool} (e : 
   pub wrote-value : v ≡ false → Writes rate out w (record { answer = counted.Refused BadValue; writer = w }) out
   unfolding written
   wrote-value f = let z : validWriter w ≡ false = sym e ∙ f in wrote-refused BadValue (rw z)
-
--- no packet has left
-pub unslid : (n : ℕ) (l : List Slot) → slid 0 n l ≡ l
-unfolding slid
-unslid n l = take-append-drop n l
 
 -- nothing is put in
 unemitted : (out : List ℕ) → emitted (record { bytes = replicate 95 0; len = 0 }) out ≡ out
@@ -297,7 +284,6 @@ unmade-makes w rate room m a e h =
     rw e (
     record {
       few = omega arith;
-      places = λ k. absurd (omega arith);
-      wrote = λ out l. rw (z, unslid (w .«packet_count») (w .packets), unemitted out) (h out l);
+      wrote = λ out l. rw (z, sets-own (w .packets) (w .«packet_count»), unemitted out) (h out l);
     }
     )

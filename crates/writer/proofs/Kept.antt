@@ -11,8 +11,8 @@ use Rattle.model.proofs.MuxStates.{fresh-mux, flush-mux, write-valid}
 use Rattle.turns.specs.Queue.{pairBytes, queueOver}
 use Rattle.queues.specs.Written.{validSending}
 use Rattle.writer.specs.Writer.{means, inOrder, validWriter, fresh, stored, emptied, moved}
-use Rattle.writer.specs.Making.{Ok, withPadding}
-use Rattle.writer.proofs.Valid.{Shaped, Order, order-facts, facts-order, facts-valid, valid-order, valid-ok, valid-mux}
+use Rattle.writer.specs.Making.{withPadding}
+use Rattle.writer.proofs.Valid.{Shaped, Ok, Order, order-facts, facts-order, facts-valid, valid-order, valid-ok, valid-mux}
 use Rattle.writer.proofs.Builds.{means-frame, order-frame, shaped-frame}
 use Rattle.writer.proofs.Stored.{Grows, stored-pads, means-stored, order-stored, shaped-stored, means-emptied, order-emptied}
 use Rattle.writer.proofs.Laws.{means-fresh}

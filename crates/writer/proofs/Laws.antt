@@ -17,7 +17,7 @@ use Rattle.caption.proofs.Answers.{answerOf, refused-again}
 use Rattle.caption.specs.declared.Framerate.{Framerate}
 use Rattle.turns.specs.Queue.{pairsOf, queueOf, pairBytes, queueOver}
 use Rattle.slots.specs.Slot.{writtenBytes}
-use Rattle.writer.specs.Writer.{leftFrom, means, validWriter, fresh}
+use Rattle.writer.specs.Writer.{means, validWriter, fresh}
 use Rattle.writer.specs.Calls.{saidMicros, written}
 use Rattle.writer.proofs.Builds.{count-most}
 use Rattle.writer.proofs.Calls.{few-triples}
@@ -41,12 +41,12 @@ saidMicros-injective = LeftInverse·injective (answerOf micros Refused) saidMicr
 
 -- a fresh state
 pub means-fresh : means fresh ≡ freshMux
-unfolding means fresh writtenBytes leftFrom started queueOf pairsOf queueOver pairBytes
+unfolding means fresh writtenBytes started queueOf pairsOf queueOver pairBytes
 means-fresh = refl
 
 -- a write of a valid state at an accepted rate, with 95 bytes of room, gives the model's frame
 pub write-given : (w : CCDataWriter) → validWriter w ≡ true → (rate : Framerate) (out : List ℕ) {b : Budgets} → budgets (rate .numer) (rate .denom) ≡ gave b → 95 ≤ length out
-    → written rate out w ≡ (let f = frameBytes (writeFrame b (means w) .frame) in gave (record { out = f ++ drop (length f) out; next = writeFrame b (means w) .next }))
+    → written rate out w ≡ (let f = frameBytes (writeFrame b (means w) .frame) in gave (record { frame = f; out = f ++ drop (length f) out; next = writeFrame b (means w) .next }))
 unfolding written writeAt putInto
 write-given w v rate out {b} e room =
     let s = accepted-sane (rate .numer) (rate .denom) e in

@@ -1,13 +1,8 @@
-pub mod Triples
-pub mod Sends
-pub mod Fills
-pub mod Ends
 pub mod Valid
 pub mod Moved
 pub mod Builds
 pub mod Stored
 pub mod Calls
-pub mod Moves
 pub mod Packs
 pub mod Laws
 pub mod Kept

@@ -21,15 +21,16 @@ use Rattle.caption.specs.declared.Answer.the-variants as answer
 use Rattle.caption.specs.declared.Refusal.{Refusal}
 use Rattle.caption.specs.declared.Refusal.the-variants.{BadValue, Full}
 use Rattle.service.specs.Service.{Writes}
+use Rattle.service.proofs.Runs.{sets-front}
 use Rattle.packet.specs.Packet.{packetOf, validDTVCC}
-use Rattle.packet.proofs.Holds.{Places, within-facts, held-valid}
+use Rattle.packet.proofs.Holds.{within-facts, held-valid}
 use Rattle.packet.specs.declared.DTVCCPacket.{DTVCCPacket}
-use Rattle.writer.specs.Writer.{means, validWriter, slotOf, stored}
+use Rattle.writer.specs.Writer.{means, validWriter, stored}
 use Rattle.writer.specs.Calls.{Answers}
 use Rattle.writer.specs.Making as making
-use Rattle.writer.specs.Making.{Ok, packetOutcome, Stores}
-use Rattle.writer.proofs.Valid.{Shaped, Order, valid-order, valid-ok, valid-mux}
-use Rattle.writer.proofs.Stored.{Grows, grows-packet, packets-length, stored-self, stored-packet, means-stored}
+use Rattle.writer.specs.Making.{packetOutcome, Stores}
+use Rattle.writer.proofs.Valid.{Shaped, Ok, Order, valid-order, valid-ok, valid-mux}
+use Rattle.writer.proofs.Stored.{slotOf, Grows, grows-packet, packets-length, stored-self, stored-packet, means-stored}
 use Rattle.writer.proofs.Calls.{answered}
 use Rattle.slots.specs.declared.Slot.{Slot}
 use Rattle.writer.specs.declared.CCDataWriter.{CCDataWriter}
@@ -98,25 +99,25 @@ module _ (w : CCDataWriter) {v : Bool} (e : v ≡ validWriter w) (t : v ≡ true
           rw (valid, g, some, k) (record { answer = refl; means = refl; places = refl })
 
       -- a place is left
-      pub accepted-packet : Places d → (w .«packet_count» ≡ 16 → ⊥) → (s : Slot) → s ≡ slotOf (packetOf d)
+      pub accepted-packet : (w .«packet_count» ≡ 16 → ⊥) → (s : Slot) → s ≡ slotOf (packetOf d)
           → Answers (packetOutcome d w) (stored w) w (record { answer = answer.Accepted; writer = making.withPackets (w .«packet_count» + 1) (set (w .packets) (w .«packet_count») s) w })
       unfolding pushPacket queued
-      accepted-packet p z s q =
-          let k : leb 16 (length (means w .packets)) ≡ false = lt-leb 16 (length (means w .packets)) (omega (arith, packets-length w order, ok .queued .few)) in
+      accepted-packet z s q =
+          let k : leb 16 (length (means w .packets)) ≡ false = lt-leb 16 (length (means w .packets)) (omega (arith, packets-length w order, ok .few)) in
           let x : Mux = withPackets (means w .packets ++ (packetOf d ∷ [])) (means w) in
           let put : pushPacket (packetOf d) (means w) ≡ gave x = rw (some, k) in
-          let grown : Grows (means w) x = gives-at (Grows (means w)) _ put (grows-packet (means w) (valid-mux w shaped valid) (packetOf d) (facts-valid (packetOf d) (held-valid d (within-facts d g) p))) in
+          let grown : Grows (means w) x = gives-at (Grows (means w)) _ put (grows-packet (means w) (valid-mux w shaped valid) (packetOf d) (facts-valid (packetOf d) (held-valid d (within-facts d g)))) in
           rw (valid, g, some, k, q) (answered (gave x) refl (sym (stored-packet w order (packetOf d))) (means-stored w order ok x grown))
 
 -- the bytes that were written
-pub written-bytes : (d : DTVCCPacket) (p : Places d) (v : validDTVCC d ≡ true) → (packetLength (packetOf d) ≡ 0 → ⊥) → (r : Counted) (out : List ℕ)
+pub written-bytes : (d : DTVCCPacket) (v : validDTVCC d ≡ true) → (packetLength (packetOf d) ≡ 0 → ⊥) → (r : Counted) (out : List ℕ)
     → Writes (validDTVCC d) (writtenPacket (packetOf d)) (replicate 128 0) r out → (len : ℕ) → len ≡ packetLength (packetOf d) → _≡_ {A = Slot} (record { len = len; bytes = out }) (slotOf (packetOf d))
-unfolding slotOf putInto
-written-bytes d p v n r out w len l =
-    let h : Shape (packetOf d) = shape (packetOf d) (held-valid d (within-facts d v) p) (some-blocks (packetOf d) n) in
+unfolding putInto
+written-bytes d v n r out w len l =
+    let h : Shape (packetOf d) = shape (packetOf d) (held-valid d (within-facts d v)) (some-blocks (packetOf d) n) in
     let k : ltb 128 (length (writtenPacket (packetOf d))) ≡ false = le-ltb 128 (length (writtenPacket (packetOf d))) (h .most) in
     let b : out ≡ writtenPacket (packetOf d) ++ drop (length (writtenPacket (packetOf d))) (replicate 128 0) = w .output ∙ rw (v, k) in
-    rw (l, b)
+    rw (l, b, sets-front (replicate 128 0) (writtenPacket (packetOf d)) (h .most))
 
 -- a packet that gets no slot
 pub unplaced-stores : (w : CCDataWriter) (d : DTVCCPacket) (r : Placed) (a : Answer) → (r .answer ≡ a) × (r .stored ≡ false)

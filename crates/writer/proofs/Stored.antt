@@ -19,14 +19,16 @@ use Rattle.model.proofs.MuxStates.{MuxLimits, mux-facts, pads-valid, push608-va
 use Rattle.turns.specs.Queue.{pairsOf, queueOf, pairBytes, queueOver}
 use Rattle.turns.proofs.Queues.{over-same, over-queue, over-sized}
 use Rattle.turns.proofs.Steps.{not-not}
-use Rattle.slots.specs.Slot.{writtenBytes, slotPacket, writtenSlot}
+use Rattle.service.proofs.Runs.{sets-front}
+use Rattle.slots.specs.Slot.{slotWith, writtenBytes, slotPacket, writtenSlot}
 use Rattle.slots.proofs.Written.{slot-reads, facts-written}
 use Rattle.slots.specs.declared.Slot.{Slot}
 use Rattle.queues.specs.Written.{validSending}
-use Rattle.writer.specs.Writer.{packetsOf, leftFrom, means, slotOf, stored, emptied}
+use Rattle.writer.specs.Writer.{means, stored, emptied}
 use Rattle.writer.specs.Making as making
-use Rattle.writer.specs.Making.{Ok, withPadding, withFields}
-use Rattle.writer.proofs.Valid.{Shaped, Order}
+use Rattle.writer.specs.Making.{withPadding, withFields}
+use Rattle.sending.proofs.Sends.{slotPackets}
+use Rattle.writer.proofs.Valid.{Shaped, Ok, Order}
 use Rattle.writer.specs.declared.CCDataWriter.{CCDataWriter}
 
 -- What a switch or a push makes of a multiplexer: there may be packets behind those that were queued, and of the packet being sent the same is left.
@@ -67,6 +69,10 @@ module _ (s : Mux) (v : validMux s ≡ true) where
       (λ e. by-test (leb mostPackets (length (s .packets))) (λ f. rw (e, f) tt)
       (λ f. rw (e, f) (record { more = p ∷ []; packets = refl; sending = refl; valid = rw (e, f) at g })))
 
+-- a packet in a slot: its length, and the bytes that it is written in, over zeros
+abbrev pub slotOf : Packet → Slot
+slotOf p = slotWith (packetLength p) (writtenPacket p)
+
 module _ (p : Packet) (k : storable p ≡ true) where
   -- the limits of a packet that may be queued
   limits : (Valid p) × (1 ≤ length (p .blocks))
@@ -75,24 +81,22 @@ module _ (p : Packet) (k : storable p ≡ true) where
 
   -- the bytes of its slot
   slot-bytes : writtenBytes (slotOf p) ≡ writtenPacket p
-  unfolding slotOf writtenBytes
+  unfolding writtenBytes
   slot-bytes =
       let h : Shape p = shape p (limits .0) (limits .1) in
       let n : ℕ = packetLength p + packetLength p % 2 in
-      take-at (writtenPacket p) (drop (length (writtenPacket p)) (replicate 128 0)) n (omega (arith, h .even))
+      rw (sets-front (replicate 128 0) (writtenPacket p) (h .most)) (take-at (writtenPacket p) (drop (length (writtenPacket p)) (replicate 128 0)) n (omega (arith, h .even)))
 
   -- its slot reads as it
   slot-packet : slotPacket (slotOf p) ≡ p
-  unfolding slotOf
   slot-packet = slot-reads (slotOf p) p (limits .0) (limits .1) refl slot-bytes
 
   -- and is a written packet
   slot-written : writtenSlot (slotOf p) ≡ true
-  unfolding slotOf
   slot-written = facts-written (slotOf p) p (limits .0) (limits .1) refl slot-bytes
 
 -- the slots of packets that may be queued
-slots-packets : (ps : List Packet) → every storable ps ≡ true → packetsOf (map slotOf ps) ≡ ps
+slots-packets : (ps : List Packet) → every storable ps ≡ true → slotPackets (map slotOf ps) ≡ ps
 unfolding every
 slots-packets [] e = refl
 slots-packets (p ∷ ps) e = let t = both (storable p) (every storable ps) e in rw (slot-packet p (t .0), slots-packets ps (t .1))
@@ -110,7 +114,7 @@ behind-storable [] qs e = e
 behind-storable (p ∷ ps) qs e = behind-storable ps qs (both (storable p) (every storable (ps ++ qs)) e .1)
 
 -- packets behind packets
-packets-append : (l m : List Slot) → packetsOf (l ++ m) ≡ packetsOf l ++ packetsOf m
+packets-append : (l m : List Slot) → slotPackets (l ++ m) ≡ slotPackets l ++ slotPackets m
 packets-append [] m = refl
 packets-append (s ∷ l) m = ap (λ (ps : List Packet). slotPacket s ∷ ps) (packets-append l m)
 
@@ -186,14 +190,14 @@ module _ (w : CCDataWriter) (o : Order w) where
         let d : drop (w .«packet_count») (x .packets) ≡ g .more = rw (g .packets) (packets-more (g .more)) in
         let n = more-length in
         let l : length (take (w .«packet_count») (w .packets) ++ map slotOf (g .more)) ≡ length (x .packets) = length-append (take (w .«packet_count») (w .packets)) (map slotOf (g .more)) ∙ (omega (arith, taken-length, more-length)) in
-        rw (d, sets-eq (map slotOf (g .more)) (w .packets) (w .«packet_count») (omega (arith, more-length, f .packets, ok .queued .places)))
+        rw (d, sets-eq (map slotOf (g .more)) (w .packets) (w .«packet_count») (omega (arith, more-length, f .packets, ok .places)))
         (take-at (take (w .«packet_count») (w .packets) ++ map slotOf (g .more)) (drop (w .«packet_count» + length (map slotOf (g .more))) (w .packets)) (length (x .packets)) l)
 
     -- they mean it
     pub means-stored : means (stored w x) ≡ x
     unfolding means
     means-stored =
-        let ps : packetsOf (take (w .«packet_count») (w .packets) ++ map slotOf (g .more)) ≡ means w .packets ++ g .more =
+        let ps : slotPackets (take (w .«packet_count») (w .packets) ++ map slotOf (g .more)) ≡ means w .packets ++ g .more =
         packets-append (take (w .«packet_count») (w .packets)) (map slotOf (g .more)) ∙ rw (slots-packets (g .more) more-storable) in
         rw (front, ps, over-queue (w .field1) (ok .first) (x .queue1) (f .queue1), over-queue (w .field2) (ok .second) (x .queue2) (f .queue2), not-not (x .next1), ← g .packets, ← g .sending)
 
@@ -203,7 +207,7 @@ module _ (w : CCDataWriter) (o : Order w) where
         let s1 = over-sized (w .field1) (ok .first) (x .queue1) (f .queue1) in
         let s2 = over-sized (w .field2) (ok .second) (x .queue2) (f .queue2) in
         record {
-          packets = omega (arith, length-sets (w .packets) (w .«packet_count») (map slotOf (drop (w .«packet_count») (x .packets))), f .packets, ok .queued .places);
+          packets = omega (arith, length-sets (w .packets) (w .«packet_count») (map slotOf (drop (w .«packet_count») (x .packets))), f .packets, ok .places);
           first = omega (arith, s1 .few, s1 .flat);
           second = omega (arith, s2 .few, s2 .flat);
           sending = o .sending;
@@ -214,7 +218,7 @@ module _ (w : CCDataWriter) (o : Order w) where
     pub shaped-stored : Shaped (stored w x)
     shaped-stored =
         record {
-          packets = length-sets (w .packets) (w .«packet_count») (map slotOf (drop (w .«packet_count») (x .packets))) ∙ ok .queued .places;
+          packets = length-sets (w .packets) (w .«packet_count») (map slotOf (drop (w .«packet_count») (x .packets))) ∙ ok .places;
           first = over-sized (w .field1) (ok .first) (x .queue1) (f .queue1) .flat;
           second = over-sized (w .field2) (ok .second) (x .queue2) (f .queue2) .flat;
         }
@@ -228,7 +232,7 @@ module _ (w : CCDataWriter) where
 
   -- they mean it
   pub means-emptied : means (emptied w (flushMux (means w))) ≡ flushMux (means w)
-  unfolding means writtenBytes leftFrom started queueOf pairsOf queueOver pairBytes
+  unfolding means writtenBytes started queueOf pairsOf queueOver pairBytes
   means-emptied = rw (not-not (w .«field2_next»))
 
   -- and are in order

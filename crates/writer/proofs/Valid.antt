@@ -7,22 +7,21 @@ use native.Mathlib.Omega.{arith}
 use borrow.Author.Tests.{eqb-true, le-leb, lt-leb, leb-true}
 use lib.Dec.{eqb, leb}
 use lib.ListN.{length, take, getD, length-map}
-use lib.Seq.{length-take-le, getD-take}
+use lib.Seq.{length-take-le}
 use Rattle.model.specs.Lists.{every}
 use Rattle.model.specs.Mux.{storable, validMux}
 use Rattle.model.proofs.Cases.{by-test, both, and-both}
 use Rattle.model.proofs.MuxStates.{facts-mux}
-use Rattle.turns.proofs.Queues.{queue-length}
+use Rattle.turns.proofs.Queues.{Sized, queue-length}
 use Rattle.slots.specs.Slot.{noSlot, writtenLength, writtenBytes, slotPacket, writtenSlot}
 use Rattle.slots.specs.Walk.{Carries}
 use Rattle.slots.proofs.Written.{carried, carried-storable}
 use Rattle.slots.specs.declared.Slot.{Slot}
 use Rattle.queues.specs.Written.{validSending, validSlots}
 use Rattle.queues.proofs.Written.{and-false}
-use Rattle.writer.specs.Writer.{packetsOf, means, inOrder, validWriter}
-use Rattle.writer.specs.Sending.{Held}
-use Rattle.writer.specs.Making.{Ok}
-use Rattle.writer.proofs.Triples.{left-length}
+use Rattle.writer.specs.Writer.{means, inOrder, validWriter}
+use Rattle.sending.proofs.Triples.{Held, left-length}
+use Rattle.sending.proofs.Sends.{slotPackets}
 use Rattle.writer.specs.declared.CCDataWriter.{CCDataWriter}
 
 -- each slot passes
@@ -33,7 +32,7 @@ all-each (s ∷ l) e zero h = both (writtenSlot s) (every writtenSlot l) e .0
 all-each (s ∷ l) e (suc i) h = all-each l (both (writtenSlot s) (every writtenSlot l) e .1) i (omega arith)
 
 -- each packet may be queued
-all-storable : (l : List Slot) → every writtenSlot l ≡ true → every storable (packetsOf l) ≡ true
+all-storable : (l : List Slot) → every writtenSlot l ≡ true → every storable (slotPackets l) ≡ true
 unfolding every
 all-storable [] e = refl
 all-storable (s ∷ l) e = let t = both (writtenSlot s) (every writtenSlot l) e in and-both _ _ (carried-storable s (t .0)) (all-storable l (t .1))
@@ -55,6 +54,15 @@ pub record Shaped (w : CCDataWriter) : Type 0 where
   pub packets : length (w .packets) ≡ 16
   pub first : length (w .field1 .bytes) ≡ 128
   pub second : length (w .field2 .bytes) ≡ 128
+
+-- the limits of a state, as facts
+pub record Ok (w : CCDataWriter) : Type 0 where
+  pub few : w .«packet_count» ≤ 16
+  pub places : length (w .packets) ≡ 16
+  pub slots : every writtenSlot (take (w .«packet_count») (w .packets)) ≡ true
+  pub held : Held (w .sending) (w .sent)
+  pub first : Sized (w .field1)
+  pub second : Sized (w .field2)
 
 -- the parts of the test of the places
 pub record Order (w : CCDataWriter) : Type 0 where
@@ -84,14 +92,10 @@ module _ (w : CCDataWriter) where
     -- places in order are within the limits
     pub order-ok : Order w → Ok w
     order-ok o =
-        let l : length (take (w .«packet_count») (w .packets)) ≡ w .«packet_count» = length-take-le (w .«packet_count») (w .packets) (o .packets) in
         record {
-          queued = record {
-            few = omega (arith, o .packets, h .packets);
-            places = h .packets;
-            each = λ i k. carried (getD (w .packets) i noSlot)
-                (rw (getD-take (w .«packet_count») (w .packets) i noSlot k) at (all-each (take (w .«packet_count») (w .packets)) (o .slots) i (omega arith)));
-          };
+          few = omega (arith, o .packets, h .packets);
+          places = h .packets;
+          slots = o .slots;
           held = held-facts (w .sending) (w .sent) (o .sending);
           first = record { few = omega (arith, o .first, h .first); flat = h .first };
           second = record { few = omega (arith, o .second, h .second); flat = h .second };
@@ -102,10 +106,10 @@ module _ (w : CCDataWriter) where
     unfolding means
     order-mux o =
         let ok = order-ok o in
-        let n : length (packetsOf (take (w .«packet_count») (w .packets))) ≡ w .«packet_count» =
+        let n : length (slotPackets (take (w .«packet_count») (w .packets))) ≡ w .«packet_count» =
         length-map (take (w .«packet_count») (w .packets)) slotPacket ∙ length-take-le (w .«packet_count») (w .packets) (o .packets) in
         facts-mux (means w) (record {
-          packets = omega (arith, n, ok .queued .few);
+          packets = omega (arith, n, ok .few);
           stored = all-storable (take (w .«packet_count») (w .packets)) (o .slots);
           sending = omega (arith, left-length (w .sending) (w .sent) (ok .held), ok .held .most);
           queue1 = omega (arith, queue-length (w .field1) (ok .first), ok .first .few);

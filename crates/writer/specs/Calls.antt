@@ -5,9 +5,7 @@ use mathlib.Core.List.{List, [], _∷_}
 use Prim.Native.Nat.{ℕ}
 use lib.ListN.{length}
 use Rattle.model.specs.Said.{Said, Outcome, accepted, says, saysWith, after, checked, mapped}
-use Rattle.model.specs.Frame.{frameBytes}
-use Rattle.model.specs.Rate.{Budgets, pairsAt, triplesAt}
-use Rattle.model.specs.Mux.{Mux, Written, writeFrame, writeAt}
+use Rattle.model.specs.Mux.{Mux, Written, writeAt}
 use Rattle.caption.specs.Answers.{saidRefusal, saidAnswer, saidCounted}
 use Rattle.caption.specs.declared.Framerate.{Framerate}
 use Rattle.writer.specs.Writer as state
@@ -33,17 +31,9 @@ pub record Answers (o : Outcome Mux) (placed : Mux → CCDataWriter) (w : CCData
 unfoldable pub written : Framerate → List ℕ → CCDataWriter → Outcome Written
 written rate out w = checked (validWriter w) (writeAt (rate .numer) (rate .denom) out (state.means w))
 
--- the budgets of a rate that is accepted
-abbrev pub budgetsAt : Framerate → Budgets
-budgetsAt rate = record { pairs = pairsAt (rate .numer) (rate .denom); triples = triplesAt (rate .numer) (rate .denom) }
-
--- the length of the frame at a rate
-unfoldable pub frameLength : Framerate → CCDataWriter → ℕ
-frameLength rate w = length (frameBytes (writeFrame (budgetsAt rate) (state.means w) .frame))
-
 -- a write answers the frame's length; the frame is in the output, and the state is as after the other calls
 pub record Writes (rate : Framerate) (out : List ℕ) (w : CCDataWriter) (r : WriterCount) (end : List ℕ) : Type 0 where
-  pub answer : saidCounted (r .answer) ≡ saysWith (λ _. frameLength rate w ∷ []) (written rate out w)
+  pub answer : saidCounted (r .answer) ≡ saysWith (λ x. length (x .frame) ∷ []) (written rate out w)
   pub means : state.means (r .writer) ≡ after (state.means w) (mapped (λ x. x .next) (written rate out w))
   pub places : r .writer ≡ after w (mapped (λ x. moved w (x .next)) (written rate out w))
   pub output : end ≡ after out (mapped (λ x. x .out) (written rate out w))

@@ -1,4 +1,3 @@
 pub mod Writer
 pub mod Calls
-pub mod Sending
 pub mod Making

@@ -1,56 +1,34 @@
 -- How a frame is made and a packet stored, part by part. No public contract reaches this file. Document 01, "Writing frames". Assumes nothing.
 use mathlib.Core.Path.{_≡_}
-use mathlib.Core.Bool.{Bool, true, false, cond, _&&_}
-use mathlib.Core.List.{List, []}
-use Prim.Native.Nat.{ℕ, _+_, _-_, _*_, _/_, _%_, _≤_, _<_, min, max}
-use lib.ListN.{length, set, replicate}
+use mathlib.Core.Bool.{Bool, true, false, _&&_}
+use mathlib.Core.List.{List}
+use Prim.Native.Nat.{ℕ, _+_, _-_, _≤_, _<_}
+use lib.ListN.{length, take, drop, set, replicate}
+use lib.Seq.{sets}
 use Rattle.model.specs.Said.{Outcome, checked}
-use Rattle.model.specs.Frame as model
-use Rattle.model.specs.Frame.{flat}
-use Rattle.model.specs.Rate.{Budgets}
-use Rattle.model.specs.Mux.{Mux, writeFrame, pushPacket, pushCea608}
+use Rattle.model.specs.Mux.{Mux, pushPacket, pushCea608}
 use Rattle.caption.specs.Pairs.{cea608Of}
 use Rattle.caption.specs.declared.Cea608.{Cea608}
 use Rattle.caption.specs.declared.Framerate.{Framerate}
+use Rattle.caption.specs.declared.Answer.the-variants.{Refused}
+use Rattle.caption.specs.declared.Refusal.the-variants.{BadValue}
 use Rattle.caption.specs.declared.Counted.{Counted}
-use Rattle.caption.specs.declared.Counted.the-variants.{Count}
 use Rattle.packet.specs.Packet.{packetOf, validDTVCC}
 use Rattle.packet.specs.declared.DTVCCPacket.{DTVCCPacket}
-use Rattle.turns.specs.Step.{slid}
-use Rattle.turns.proofs.Queues.{Sized}
 use Rattle.turns.specs.declared.PairQueue.{PairQueue}
-use Rattle.turns.specs.declared.Turns.{Turns}
-use Rattle.frames.specs.Frame.{headed, appended, fillers, emitted}
-use Rattle.frames.specs.declared.Frame.{Frame}
+use Rattle.frames.specs.Frame.{emitted}
 use Rattle.slots.specs.declared.Slot.{Slot}
-use Rattle.writer.specs.Writer.{means, validWriter, stored, moved}
+use Rattle.building.specs.Building.{built}
+use Rattle.building.specs.declared.Made.{Made}
+use Rattle.writer.specs.Writer.{means, validWriter, stored}
 use Rattle.writer.specs.Calls.{Answers, Writes}
-use Rattle.writer.specs.Sending.{Queued, Held, sentFrom, restedSlot, restedSent}
-use Rattle.writer.specs.declared.Sending.{Sending}
 use Rattle.writer.specs.declared.CCDataWriter.{CCDataWriter}
-use Rattle.writer.specs.declared.Made.{Made}
+use Rattle.writer.specs.declared.WriterAnswer.{WriterAnswer}
 use Rattle.writer.specs.declared.Placed.{Placed}
 
--- a state within its limits
-pub record Ok (w : CCDataWriter) : Type 0 where
-  pub queued : Queued (w .packets) (w .«packet_count»)
-  pub held : Held (w .sending) (w .sent)
-  pub first : Sized (w .field1)
-  pub second : Sized (w .field2)
-
--- the frame and what is left, once the turns and the packet triples of it have left
-abbrev pub madeOf : Turns → Sending → Made
-madeOf t s =
-    record {
-      answer = Count (s .frame .len);
-      frame = s .frame;
-      field1 = t .field1;
-      field2 = t .field2;
-      «field2_next» = t .«field2_next»;
-      slot = restedSlot (s .slot) (s .sent);
-      sent = restedSent (s .slot) (s .sent);
-      next = s .next;
-    }
+-- "11 comes first": the state as it was
+abbrev pub refusedOf : CCDataWriter → WriterAnswer
+refusedOf w = record { answer = Refused BadValue; writer = w }
 
 -- where no frame is written all is left
 abbrev pub unmadeOf : CCDataWriter → Counted → Made
@@ -73,7 +51,7 @@ joined w m =
       «output_cea608_padding» = w .«output_cea608_padding»;
       «output_padding» = w .«output_padding»;
       «packet_count» = w .«packet_count» - m .next;
-      packets = slid (m .next) (w .«packet_count» - m .next) (w .packets);
+      packets = sets (w .packets) 0 (drop (m .next) (take (w .«packet_count») (w .packets)));
       sending = m .slot;
       sent = m .sent;
       field1 = m .field1;
@@ -81,49 +59,10 @@ joined w m =
       «field2_next» = m .«field2_next»;
     }
 
--- the bytes of a frame in their places
-abbrev pub laid : model.Frame → Frame
-laid f = appended (headed (f .count)) (flat (f .triples))
-
--- a frame that is made is the model's, and leaves what the model leaves
-pub record Builds (b : Budgets) (w : CCDataWriter) (m : Made) : Type 0 where
-  pub answer : m .answer ≡ Count (m .frame .len)
-  pub frame : m .frame ≡ laid (writeFrame b (means w) .frame)
-  pub writer : joined w m ≡ moved w (writeFrame b (means w) .next)
-  pub few : m .next ≤ w .«packet_count»
-
--- "Turns this frame: pairs if 608 padding is on, else the lesser of pairs and max(queue 1, 2·queue 2)."
-abbrev pub turnsOf : Bool → ℕ → ℕ → ℕ → ℕ
-turnsOf pad pairs n1 n2 = cond pad pairs (min pairs (max n1 (2 * n2)))
-
--- triples that are in a frame
-abbrev pub triplesIn : Frame → ℕ
-triplesIn f = (f .len - 2) / 3
-
--- "With output padding, FA 00 00 to the end."
-abbrev pub padded : Bool → ℕ → Frame → Frame
-padded padding count f = appended f (flat (cond padding (fillers (count - triplesIn f)) []))
-
--- "Then packet triples up to the count", and padding
-unfoldable pub filled : List Slot → ℕ → Sending → ℕ → Bool → Sending
-filled l n s count padding =
-    let r = sentFrom l n s (count - triplesIn (s .frame)) in
-    record { slot = r .slot; sent = r .sent; next = r .next; frame = padded padding count (r .frame) }
-
--- where sending starts
-abbrev pub startOf : CCDataWriter → Frame → Sending
-startOf w f = record { slot = w .sending; sent = w .sent; next = 0; frame = f }
-
--- the queues and the frame when the turns start
-abbrev pub turnsOn : CCDataWriter → Frame → Turns
-turnsOn w f = record { field1 = w .field1; field2 = w .field2; «field2_next» = w .«field2_next»; frame = f }
-
--- a frame with whole triples, and no more of them than the count
-pub record Room (f : Frame) (count : ℕ) : Type 0 where
-  pub least : 2 ≤ f .len
-  pub whole : (f .len - 2) % 3 ≡ 0
-  pub most : f .len ≤ 2 + 3 * count
-  pub few : count ≤ 31
+-- the frame at budgets of `pairs` and `triples`, and what it leaves
+abbrev pub builtFrom : ℕ → ℕ → CCDataWriter → Made
+builtFrom pairs triples w =
+    built (w .«output_cea608_padding») (w .«output_padding») pairs triples (w .field1) (w .field2) (w .«field2_next») (take (w .«packet_count») (w .packets)) (w .sending) (w .sent)
 
 -- the two "padding switches"
 abbrev pub withPadding : Bool → Bool → CCDataWriter → CCDataWriter
@@ -202,5 +141,4 @@ pub record Stores (d : DTVCCPacket) (w : CCDataWriter) (r : Placed) : Type 0 whe
 -- what is made of a state is what a write to so many bytes leaves
 pub record Makes (r : Framerate) (room : ℕ) (w : CCDataWriter) (m : Made) : Type 0 where
   pub few : m .next ≤ w .«packet_count»
-  pub places : 0 < m .next → w .«packet_count» ≤ 16
   pub wrote : (out : List ℕ) → length out ≡ room → Writes r out w (record { answer = m .answer; writer = joined w m }) (emitted (m .frame) out)

@@ -1,38 +1,29 @@
 -- The multiplexer's state: what it is in the model, the states that break a limit, and the places of what a call leaves. Document 01,
 -- "Sizes" and "Writing frames". Assumes nothing.
 use mathlib.Core.Bool.{Bool, cond, not, _&&_}
-use mathlib.Core.List.{List, _∷_, _++_, map}
-use Prim.Native.Nat.{ℕ, _-_, _*_}
+use mathlib.Core.List.{List, [], _∷_, map}
+use Prim.Native.Nat.{ℕ, _-_, _*_, _/_}
 use lib.Dec.{eqb, leb}
 use lib.ListN.{length, getD, take, drop, replicate}
 use lib.Seq.{sets}
 use Rattle.model.specs.Lists.{every}
-use Rattle.model.specs.Packet.{Packet, packetLength, writtenPacket}
-use Rattle.model.specs.Frame.{Triple}
-use Rattle.model.specs.Mux.{Mux, freshMux, validMux, started, continued}
+use Rattle.model.specs.Packet.{packetLength, writtenPacket}
+use Rattle.model.specs.Mux.{Mux, freshMux, validMux, started}
 use Rattle.turns.specs.Queue.{queueOf, queueOver}
 use Rattle.turns.specs.declared.PairQueue.{PairQueue}
-use Rattle.slots.specs.Slot.{noSlot, writtenLength, writtenBytes, slotPacket, writtenSlot}
+use Rattle.slots.specs.Slot.{slotWith, writtenLength, writtenBytes, slotPacket, writtenSlot}
 use Rattle.slots.specs.declared.Slot.{Slot}
 use Rattle.queues.specs.Written.{validSending}
 use Rattle.writer.specs.declared.CCDataWriter.{CCDataWriter}
 
--- the packets that slots are
-abbrev pub packetsOf : List Slot → List Packet
-packetsOf l = map slotPacket l
-
--- the triples that carry bytes of which the first `at` have left
-unfoldable pub leftFrom : ℕ → List ℕ → List Triple
-leftFrom at d = cond (eqb at 0) (started d) (continued (drop at d))
-
--- the multiplexer that a state is
+-- the multiplexer that a state is: two bytes leave with each triple of the packet being sent
 unfoldable pub means : CCDataWriter → Mux
 means w =
     record {
       pad608 = w .«output_cea608_padding»;
       padOut = w .«output_padding»;
-      packets = packetsOf (take (w .«packet_count») (w .packets));
-      sending = leftFrom (w .sent) (writtenBytes (w .sending));
+      packets = map slotPacket (take (w .«packet_count») (w .packets));
+      sending = drop (w .sent / 2) (started (writtenBytes (w .sending)));
       queue1 = queueOf (w .field1);
       queue2 = queueOf (w .field2);
       next1 = not (w .«field2_next»);
@@ -68,18 +59,14 @@ laidIn q1 q2 slot sent slots x =
 -- a new state: zeros in every place
 unfoldable pub fresh : CCDataWriter
 fresh =
-    let slot : Slot = record { len = 0; bytes = replicate 128 0 } in
     let queue : PairQueue = record { bytes = replicate 128 0; count = 0 } in
-    laidIn queue queue slot 0 (replicate 16 slot) freshMux
+    laidIn queue queue (slotWith 0 []) 0 (replicate 16 (slotWith 0 [])) freshMux
 
--- a packet in a slot: its length, and the bytes that it is written in, over zeros
-unfoldable pub slotOf : Packet → Slot
-slotOf p = record { len = packetLength p; bytes = writtenPacket p ++ drop (length (writtenPacket p)) (replicate 128 0) }
-
--- where a push or a switch leaves a multiplexer: the packets behind those that were there are in the next slots
+-- where a push or a switch leaves a multiplexer: the packets behind those that were there are in the next slots, as they are written
 abbrev pub stored : CCDataWriter → Mux → CCDataWriter
 stored w x =
-    laidIn (w .field1) (w .field2) (w .sending) (w .sent) (sets (w .packets) (w .«packet_count») (map slotOf (drop (w .«packet_count») (x .packets)))) x
+    let slots = map (λ p. slotWith (packetLength p) (writtenPacket p)) (drop (w .«packet_count») (x .packets)) in
+    laidIn (w .field1) (w .field2) (w .sending) (w .sent) (sets (w .packets) (w .«packet_count») slots) x
 
 -- where a flush leaves it: no slot is being sent
 abbrev pub emptied : CCDataWriter → Mux → CCDataWriter
@@ -89,7 +76,7 @@ emptied w x = laidIn (w .field1) (w .field2) (record { len = 0; bytes = w .sendi
 abbrev pub moved : CCDataWriter → Mux → CCDataWriter
 moved w x =
     let begun = w .«packet_count» - length (x .packets) in
-    let slot = getD (w .sending ∷ w .packets) begun noSlot in
+    let slot = getD (w .sending ∷ w .packets) begun (w .sending) in
     let none = eqb (length (x .sending)) 0 in
     laidIn (w .field1) (w .field2) (record { len = cond none 0 (slot .len); bytes = slot .bytes })
     (cond none 0 (writtenLength slot - 2 * length (x .sending)))

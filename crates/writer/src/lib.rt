@@ -1,4 +1,5 @@
 // The multiplexer: packets and CEA-608 pairs in, frames of `cc_data` out.
+use building::Made;
 use caption::Answer;
 use caption::Budgets;
 use caption::Cea608;
@@ -9,24 +10,25 @@ use caption::Truth;
 use frames::Frame;
 use packet::DTVCCPacket;
 use queues::slots_written;
+use sending::Sending;
+use sending::bytes_left;
+use sending::count_of;
+use sending::fill;
+use sending::move_down;
 use slots::Slot;
 use turns::PairQueue;
-use turns::Turns;
 ghost use mathlib.Core.Path.{_≡_};
 ghost use mathlib.Core.Bool.{true, false, cond, _&&_};
-ghost use Prim.Native.Nat.{_+_, _-_, _*_, _/_, _%_, _≤_, _<_, min, max};
-ghost use lib.ListN.{length, take};
+ghost use Prim.Native.Nat.{_≤_};
 ghost use Rattle.model.specs.Said.{gave, measured, checked};
-ghost use Rattle.model.specs.Mux.{freshMux, withPads, flushMux, triplesQueued, pushPacket, pushCea608};
-ghost use Rattle.model.specs.Duration.{pairsDuration, bytesDuration, lengthsOf, field1Duration, field2Duration, packetDuration};
+ghost use Rattle.model.specs.Mux.{freshMux, withPads, flushMux, pushPacket, pushCea608};
+ghost use Rattle.model.specs.Duration.{pairsDuration, bytesDuration, field1Duration, field2Duration, packetDuration};
 ghost use Rattle.caption.specs.Answers.{saidTruth};
 ghost use Rattle.caption.specs.Pairs.{cea608Of};
 ghost use Rattle.packet.specs.Packet.{packetOf, validDTVCC};
-ghost use Rattle.slots.specs.Slot.{writtenBytes};
-ghost use Rattle.writer.specs.Writer.{packetsOf, leftFrom, means, validWriter, fresh, stored, emptied};
+ghost use Rattle.writer.specs.Writer.{means, validWriter, fresh, stored, emptied};
 ghost use Rattle.writer.specs.Calls.{saidMicros, Answers, Writes};
-ghost use Rattle.writer.specs.Sending.{Queued, Held, sentFrom, finished};
-ghost use Rattle.writer.specs.Making.{Ok, madeOf, unmadeOf, Builds, turnsOf, filled, Room, withFields, pairOutcome, Stores, Makes};
+ghost use Rattle.writer.specs.Making.{refusedOf, builtFrom, unmadeOf, withFields, pairOutcome, Stores, Makes};
 
 // The packets that wait, beside the one being sent.
 const MOST_PACKETS: usize = 16;
@@ -66,19 +68,6 @@ pub enum Micros {
     Refused(Refusal),
 }
 
-// What writing a frame answers, the frame, and what it leaves of the state: each field's queue, whose turn is next, the packet being sent and
-// how many of its bytes have left; `next` packets of the queue were begun.
-pub struct Made {
-    pub answer: Counted,
-    pub frame: Frame,
-    pub field1: PairQueue,
-    pub field2: PairQueue,
-    pub field2_next: bool,
-    pub slot: Slot,
-    pub sent: usize,
-    pub next: usize,
-}
-
 // What pushing a pair answers, and the queues after it.
 pub struct Pushed {
     pub answer: Answer,
@@ -93,191 +82,28 @@ pub struct Placed {
     pub slot: Slot,
 }
 
-// Where sending stands: the packet being sent and how many of its bytes have left, how many packets of the queue were begun, and the frame.
-pub struct Sending {
-    pub slot: Slot,
-    pub sent: usize,
-    pub next: usize,
-    pub frame: Frame,
-}
-
-// The last triples of a frame, all of one packet.
-fn finish(s: Sending, left: usize) -> Sending
-    requires { ⌜ Held (s .slot) (s .sent) ⌝ }
-    requires { ⌜ s .frame .len + 3 * left ≤ 95 ⌝ }
-    ensures { λ r. ⌜ r ≡ finished s left ⌝ }
-{
-    let slot = s.slot;
-    let sent = s.sent;
-    let n = lesser(left, (slot.len + slot.len % 2 - sent) / 2);
-    let f = s.frame;
-    let bytes = slot.bytes;
-    let frame = f.carry(bytes, sent, n);
-    Sending {
-        slot,
-        sent: sent + 2 * n,
-        next: s.next,
-        frame,
-    }
-}
-
-// `left` packet triples, or as many as there are: of the packet being sent, and of those in the queue after it.
-fn send(packets: [Slot; 16], count: usize, start: Sending, left: usize) -> Sending
-    requires { ⌜ Queued packets count ⌝ }
-    requires { ⌜ Held (start .slot) (start .sent) ⌝ }
-    requires { ⌜ (start .next ≡ 0) × (start .frame .len + 3 * left ≤ 95) ⌝ }
-    ensures { λ r. ⌜ r ≡ sentFrom packets count start left ⌝ }
-{
-    let mut s = start;
-    let mut m = left;
-    let mut i: usize = 0;
-    while i < count {
-        let slot = s.slot;
-        let sent = s.sent;
-        let n = (slot.len + slot.len % 2 - sent) / 2;
-        if m <= n {
-            return finish(s, m);
-        }
-        let f = s.frame;
-        let bytes = slot.bytes;
-        let frame = f.carry(bytes, sent, n);
-        let first = packets[i];
-        i += 1;
-        m -= n;
-        s = Sending {
-            slot: first,
-            sent: 0,
-            next: i,
-            frame,
-        };
-    }
-    finish(s, m)
-}
-
-// The lesser of two numbers.
-fn lesser(a: usize, b: usize) -> usize
-    ensures { λ r. ⌜ r ≡ min a b ⌝ }
-{
-    if a < b { a } else { b }
-}
-
-// The packet triples that have not left.
-fn unsent(packets: [Slot; 16], count: usize, slot: Slot, sent: usize) -> usize
-    requires { ⌜ Queued packets count ⌝ }
-    requires { ⌜ Held slot sent ⌝ }
-    ensures { λ r. ⌜ (r ≡ length (leftFrom sent (writtenBytes slot)) + triplesQueued (packetsOf (take count packets))) × (r ≤ 1088) ⌝ }
-{
-    let mut sum = (slot.len + slot.len % 2 - sent) / 2;
-    let mut i: usize = 0;
-    while i < count {
-        let s = packets[i];
-        sum += (s.len + 1) / 2;
-        i += 1;
-    }
-    sum
-}
-
-// The greater of two numbers.
-fn greater(a: usize, b: usize) -> usize
-    ensures { λ r. ⌜ r ≡ max a b ⌝ }
-{
-    if a < b { b } else { a }
-}
-
-// The turns of a frame, where the fields have `n1` and `n2` pairs queued.
-fn turns_of(pad: bool, pairs: usize, n1: usize, n2: usize) -> usize
-    requires { ⌜ n2 ≤ 64 ⌝ }
-    ensures { λ r. ⌜ r ≡ turnsOf pad pairs n1 n2 ⌝ }
-{
-    if pad {
-        return pairs;
-    }
-    lesser(pairs, greater(n1, 2 * n2))
-}
-
-// The count of a frame with so many turns.
-fn count_of(
-    padding: bool,
-    triples: usize,
-    turns: usize,
-    packets: [Slot; 16],
-    count: usize,
-    slot: Slot,
-    sent: usize,
-) -> usize
-    requires { ⌜ Queued packets count ⌝ }
-    requires { ⌜ Held slot sent ⌝ }
-    requires { ⌜ turns ≤ 31 ⌝ }
-    ensures { λ r. ⌜ r ≡ cond padding triples (min triples (turns + (length (leftFrom sent (writtenBytes slot)) + triplesQueued (packetsOf (take count packets))))) ⌝ }
-{
-    if padding {
-        return triples;
-    }
-    lesser(triples, turns + unsent(packets, count, slot, sent))
-}
-
-// Packet triples up to the count, and padding after them.
-fn fill(packets: [Slot; 16], queued: usize, start: Sending, count: usize, padding: bool) -> Sending
-    requires { ⌜ Queued packets queued ⌝ }
-    requires { ⌜ Held (start .slot) (start .sent) ⌝ }
-    requires { ⌜ (start .next ≡ 0) × Room (start .frame) count ⌝ }
-    ensures { λ r. ⌜ r ≡ filled packets queued start count padding ⌝ }
-{
-    let f = start.frame;
-    let s = send(packets, queued, start, count - (f.len - 2) / 3);
-    if padding {
-        let g = s.frame;
-        let frame = g.pad(count - (g.len - 2) / 3);
-        let slot = s.slot;
-        return Sending {
-            slot,
-            sent: s.sent,
-            next: s.next,
-            frame,
-        };
-    }
-    s
-}
-
 impl CCDataWriter {
     // The frame at budgets of `pairs` and `triples`, and what it leaves.
     fn build(self, pairs: usize, triples: usize) -> Made
-        requires { ⌜ Ok self ⌝ }
-        requires { ⌜ (pairs ≤ triples) × (triples ≤ 31) ⌝ }
-        ensures { λ r. ⌜ Builds (record { pairs = pairs; triples = triples }) self r ⌝ }
+        ensures { λ r. ⌜ r ≡ builtFrom pairs triples self ⌝ }
     {
-        let pad = self.output_cea608_padding;
-        let padding = self.output_padding;
-        let queued = self.packet_count;
         let slots = self.packets;
         let slot = self.sending;
         let field1 = self.field1;
         let field2 = self.field2;
-        let turns = turns_of(pad, pairs, field1.count, field2.count);
-        let count = count_of(padding, triples, turns, slots, queued, slot, self.sent);
-        let empty = Frame::start(count);
-        let start = Turns {
+        building::build(
+            self.output_cea608_padding,
+            self.output_padding,
+            pairs,
+            triples,
             field1,
             field2,
-            field2_next: self.field2_next,
-            frame: empty,
-        };
-        let t = start.take(pad, turns);
-        let frame = t.frame;
-        let packets = self.packets;
-        let s = fill(
-            packets,
-            queued,
-            Sending {
-                slot,
-                sent: self.sent,
-                next: 0,
-                frame,
-            },
-            count,
-            padding,
-        );
-        made_of(t, s)
+            self.field2_next,
+            slots,
+            self.packet_count,
+            slot,
+            self.sent,
+        )
     }
 
     // What is made where no frame is written.
@@ -324,32 +150,6 @@ impl CCDataWriter {
     }
 }
 
-// The frame after its turns and its packet triples, and what they leave: a packet that has left whole is no longer being sent.
-fn made_of(t: Turns, s: Sending) -> Made
-    requires { ⌜ s .slot .len ≤ 128 ⌝ }
-    ensures { λ r. ⌜ r ≡ madeOf t s ⌝ }
-{
-    let frame = s.frame;
-    let field1 = t.field1;
-    let field2 = t.field2;
-    let mut slot = s.slot;
-    let mut sent = s.sent;
-    if slot.len + slot.len % 2 <= sent {
-        slot.len = 0;
-        sent = 0;
-    }
-    Made {
-        answer: Counted::Count(frame.len),
-        frame,
-        field1,
-        field2,
-        field2_next: t.field2_next,
-        slot,
-        sent,
-        next: s.next,
-    }
-}
-
 // Where no packet is stored.
 fn unplaced(answer: Answer) -> Placed
     ensures { λ r. ⌜ (r .answer ≡ answer) × (r .stored ≡ false) ⌝ }
@@ -380,6 +180,16 @@ impl CCDataWriter {
         }
         let packets = self.packets;
         slots_written(slot, self.sent, packets, self.packet_count)
+    }
+
+    // A state outside its limits is refused, and stays as it was.
+    fn refused(self) -> WriterAnswer
+        ensures { λ r. ⌜ r ≡ refusedOf self ⌝ }
+    {
+        WriterAnswer {
+            answer: Answer::Refused(Refusal::BadValue),
+            writer: self,
+        }
     }
 
     // A multiplexer with nothing queued, and no padding.
@@ -419,10 +229,7 @@ impl CCDataWriter {
                 writer,
             };
         }
-        WriterAnswer {
-            answer: Answer::Refused(Refusal::BadValue),
-            writer: self,
-        }
+        self.refused()
     }
 
     // Whether padding CEA-608 bytes are output.
@@ -447,10 +254,7 @@ impl CCDataWriter {
                 writer,
             };
         }
-        WriterAnswer {
-            answer: Answer::Refused(Refusal::BadValue),
-            writer: self,
-        }
+        self.refused()
     }
 
     // Whether padding triples are output.
@@ -618,10 +422,7 @@ impl CCDataWriter {
                 writer,
             };
         }
-        WriterAnswer {
-            answer: Answer::Refused(Refusal::BadValue),
-            writer: self,
-        }
+        self.refused()
     }
 
     // How long the pairs queued for field 1 take to leave.
@@ -663,18 +464,13 @@ impl CCDataWriter {
     pub fn write(self, rate: Framerate, out: &mut [u8]) -> WriterCount
         ensures { λ r. ⌜ Writes rate (now (out .entry)) self r (now (out .exit)) ⌝ }
     {
-        let mut packets = self.packets;
         let valid = self.is_valid();
         let made = self.make(valid, rate, out.len());
         let frame = made.frame;
         frame.emit(out);
-        let next = made.next;
-        let count = self.packet_count - next;
-        let mut i: usize = if next == 0 { count } else { 0 };
-        while i < count {
-            packets[i] = packets[i + next];
-            i += 1;
-        }
+        let slots = self.packets;
+        let packets = move_down(slots, self.packet_count, made.next);
+        let left = self.packet_count - made.next;
         let answer = made.answer;
         let sending = made.slot;
         let field1 = made.field1;
@@ -682,7 +478,7 @@ impl CCDataWriter {
         let writer = CCDataWriter {
             output_cea608_padding: self.output_cea608_padding,
             output_padding: self.output_padding,
-            packet_count: count,
+            packet_count: left,
             packets,
             sending,
             sent: made.sent,
@@ -708,28 +504,4 @@ fn bytes_duration(bytes: usize) -> u64
     ensures { λ r. ⌜ r ≡ bytesDuration bytes ⌝ }
 {
     ((bytes as u64 + 1) / 2 * 2_002_000_000 + 1_199_999) / 1_200_000
-}
-
-// The lengths of the packets queued, and three bytes for each triple left of the packet being sent.
-fn bytes_left(packets: [Slot; 16], count: usize, slot: Slot, sent: usize) -> usize
-    requires { ⌜ Queued packets count ⌝ }
-    requires { ⌜ Held slot sent ⌝ }
-    ensures { λ r. ⌜ (r ≡ lengthsOf (packetsOf (take count packets)) + 3 * length (leftFrom sent (writtenBytes slot))) × (r ≤ 4096) ⌝ }
-{
-    let mut sum = 3 * ((slot.len + slot.len % 2 - sent) / 2);
-    let mut i: usize = 0;
-    while i < count {
-        let s = packets[i];
-        sum += length_in(s);
-        i += 1;
-    }
-    sum
-}
-
-// The length of the packet in a slot.
-fn length_in(held: Slot) -> usize
-    requires { ⌜ held .len ≤ 128 ⌝ }
-    ensures { λ r. ⌜ r ≡ held .len ⌝ }
-{
-    held.len
 }

@@ -1,5 +1,4 @@
 -- `writer::bytes_duration` meets its contract: the sum's and not each packet's bytes are paired. Assumes nothing.
-use mathlib.Core.Path.{refl}
 use native.Mathlib.Omega.{arith}
 use Rattle.model.specs.Duration.{ceil, bytesDuration}
 use borrow.Author.Needs.{needs}

@@ -1,5 +1,4 @@
 -- `writer::pairs_duration` meets its contract. Assumes nothing.
-use mathlib.Core.Path.{refl}
 use native.Mathlib.Omega.{arith}
 use Rattle.model.specs.Duration.{ceil, pairsDuration}
 use borrow.Author.Needs.{needs}

@@ -1,9 +1,7 @@
 -- `writer::CCDataWriter::buffered_cea608_field2_duration` meets its contract. Assumes nothing.
-use mathlib.Core.Path.{_≡_, sym, _∙_}
-use lib.ListN.{length}
-use Rattle.writer.specs.Making.{Ok}
+use mathlib.Core.Path.{sym, _∙_}
 use Rattle.queues.proofs.Written.{length-mapped}
-use Rattle.writer.proofs.Valid.{valid-ok}
+use Rattle.writer.proofs.Valid.{Ok, valid-ok}
 use Rattle.writer.proofs.Calls.{measured-value, refused-measure, second-duration}
 use borrow.Author.Needs.{needs}
 use Rattle.writer.proofs.CCDataWriter.buffered_cea608_field2_duration.Statement.{statement}

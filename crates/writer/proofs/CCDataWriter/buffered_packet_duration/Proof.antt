@@ -1,9 +1,7 @@
 -- `writer::CCDataWriter::buffered_packet_duration` meets its contract. Assumes nothing.
-use mathlib.Core.Path.{_≡_, sym, _∙_}
-use lib.ListN.{length}
-use Rattle.writer.specs.Making.{Ok}
+use mathlib.Core.Path.{sym, _∙_}
 use Rattle.queues.proofs.Written.{length-mapped}
-use Rattle.writer.proofs.Valid.{valid-ok}
+use Rattle.writer.proofs.Valid.{Ok, valid-ok}
 use Rattle.writer.proofs.Calls.{measured-value, refused-measure, packet-duration}
 use borrow.Author.Needs.{needs}
 use Rattle.writer.proofs.CCDataWriter.buffered_packet_duration.Statement.{statement}
@@ -12,7 +10,7 @@ use Rattle.writer.proofs.CCDataWriter.buffered_packet_duration.Reads as
 use Rattle.writer.proofs.CCDataWriter.buffered_packet_duration.Lts as lts
 use Rattle.writer.proofs.CCDataWriter.is_valid.Reads as is-valid-reads
 use Rattle.writer.proofs.bytes_duration.Reads as bytes-duration-reads
-use Rattle.writer.proofs.bytes_left.Reads as bytes-left-reads
+use Rattle.sending.proofs.bytes_left.Reads as bytes-left-reads
 
 -- a state that passes the test is within its limits
 ok : (c : lts.Then1 (is-valid-reads.Asked, is-valid-reads.Learnt, bytes-left-reads.Asked, bytes-left-reads.Learnt, bytes-duration-reads.Asked, bytes-duration-reads.Learnt) reads.Pre reads.Post) → Ok (c .before .before .args .self)
@@ -25,7 +23,7 @@ is-valid-requires : tie.Need-is-valid-requires
 is-valid-requires c κs = search needs
 
 bytes-left-requires : tie.Need-bytes-left-requires
-bytes-left-requires c κs = let k = ok (c .before .before) in (k .queued, k .held)
+bytes-left-requires c κs = search needs
 
 bytes-duration-requires : tie.Need-bytes-duration-requires
 bytes-duration-requires c κs = search needs

@@ -1,9 +1,8 @@
 -- `writer::CCDataWriter::make` meets its contract: one law of `Calls` for each way out. Assumes nothing.
-use mathlib.Core.Path.{sym, _∙_}
 use mathlib.Core.List.{[]}
 use Rattle.queues.proofs.Written.{length-mapped}
-use Rattle.writer.proofs.Valid.{Shaped, valid-ok}
-use Rattle.writer.proofs.Calls.{sane, wrote-rate, wrote-short, wrote-done, wrote-value, unmade-makes}
+use Rattle.writer.proofs.Valid.{Shaped}
+use Rattle.writer.proofs.Calls.{made, wrote-rate, wrote-short, wrote-done, wrote-value, unmade-makes}
 use borrow.Author.Needs.{needs}
 use Rattle.writer.proofs.CCDataWriter.make.Statement.{statement}
 use Rattle.writer.proofs.CCDataWriter.make.Tie as tie
@@ -34,7 +33,7 @@ returns c = let s = c .before .before .before .before .before in
     unmade-makes (s .args .self) (s .args .rate) (s .args .room) _ _ (c .unmade .ensures) (λ out l. wrote-rate (s .args .self) (s .args .rate) out (s .pre) (c .before .before .before .before .if1 .taken) _ (c .before .before .before .budgets .ensures) (c .before .enum-told .given .1))
 
 build-requires : tie.Need-build-requires
-build-requires c κs = let s = c .before .before .before .before .before in (valid-ok (s .args .self) (shaped s) (sym (s .pre) ∙ c .before .before .before .before .if1 .taken), sane (s .args .self) (s .args .rate) [] (s .pre) (c .before .before .before .before .if1 .taken) _ _ _ (c .before .before .before .budgets .ensures) (c .before .budgets2 .given .1))
+build-requires c κs = search needs
 
 unmade-requires-2 : tie.Need-unmade-requires-2
 unmade-requires-2 c κs = search needs
@@ -42,14 +41,13 @@ unmade-requires-2 c κs = search needs
 returns-2 : tie.Need-returns-2
 returns-2 c = let s = c .before .before .before .before .before .before .before .before .before in
     unmade-makes (s .args .self) (s .args .rate) (s .args .room) _ _ (c .unmade2 .ensures)
-    (λ out l. wrote-short (s .args .self) (s .args .rate) out (s .pre) (c .before .before .before .before .before .before .before .before .if1 .taken) _ _ _ (c .before .before .before .before .before .before .before .budgets .ensures) (c .before .before .before .before .before .budgets2 .given .1) _ (c .before .before .before .build .ensures) (rw l (c .before .if2 .taken)))
+    (λ out l. wrote-short (s .args .self) (s .args .rate) out (s .pre) (c .before .before .before .before .before .before .before .before .if1 .taken) _ _ _ (c .before .before .before .before .before .before .before .budgets .ensures) (c .before .before .before .before .before .budgets2 .given .1) (shaped s) _ (c .before .before .before .build .ensures) (rw l (c .before .if2 .taken)))
 
 returns-3 : tie.Need-returns-3
 returns-3 c = let s = c .before .before .before .before .before .before .before .before in
     record {
-      few = c .before .before .build .ensures .few;
-      places = λ _. valid-ok (s .args .self) (shaped s) (sym (s .pre) ∙ c .before .before .before .before .before .before .before .if1 .taken) .queued .few;
-      wrote = λ out l. wrote-done (s .args .self) (s .args .rate) out (s .pre) (c .before .before .before .before .before .before .before .if1 .taken) _ _ _ (c .before .before .before .before .before .before .budgets .ensures) (c .before .before .before .before .budgets2 .given .1) _ (c .before .before .build .ensures) (shaped s) (rw l (c .if2 .left));
+      few = made (s .args .self) (s .args .rate) [] (s .pre) (c .before .before .before .before .before .before .before .if1 .taken) _ _ _ (c .before .before .before .before .before .before .budgets .ensures) (c .before .before .before .before .budgets2 .given .1) (shaped s) _ (c .before .before .build .ensures) .few;
+      wrote = λ out l. wrote-done (s .args .self) (s .args .rate) out (s .pre) (c .before .before .before .before .before .before .before .if1 .taken) _ _ _ (c .before .before .before .before .before .before .budgets .ensures) (c .before .before .before .before .budgets2 .given .1) (shaped s) _ (c .before .before .build .ensures) (rw l (c .if2 .left));
     }
 
 unmade-requires-3 : tie.Need-unmade-requires-3

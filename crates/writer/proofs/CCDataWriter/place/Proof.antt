@@ -2,7 +2,6 @@
 use mathlib.Core.Path.{sym, _∙_}
 use mathlib.Core.Bool.{true, false, false≢true}
 use native.Mathlib.Omega.{arith}
-use Rattle.packet.proofs.Holds.{Places}
 use Rattle.queues.proofs.Written.{length-mapped}
 use Rattle.writer.proofs.Valid.{Shaped, valid-ok}
 use Rattle.writer.proofs.Packs.{counted-given, counted-refused, refused-both, refused-packet, accepted-empty, refused-full, accepted-packet, written-bytes, unplaced-stores}
@@ -14,10 +13,6 @@ use Rattle.writer.proofs.CCDataWriter.place.Lts as lts
 use Rattle.packet.proofs.DTVCCPacket.len.Reads as len-reads
 use Rattle.packet.proofs.DTVCCPacket.write.Reads as write-reads
 use Rattle.writer.proofs.unplaced.Reads as unplaced-reads
-
--- the lengths of the packet's arrays
-placed : (s : lts.Start (len-reads.Asked, len-reads.Learnt, unplaced-reads.Asked, unplaced-reads.Learnt, write-reads.Asked, write-reads.Learnt) reads.Pre reads.Post) → Places (s .args .packet)
-placed s = record { numbers = search needs; sizes = search needs; payload = search needs }
 
 -- the arrays of the state have their lengths
 shaped : (s : lts.Start (len-reads.Asked, len-reads.Learnt, unplaced-reads.Asked, unplaced-reads.Learnt, write-reads.Asked, write-reads.Learnt) reads.Pre reads.Post) → Shaped (s .args .self)
@@ -69,10 +64,10 @@ returns-4 c = let s = c .before .before .before .before .before .before .before 
     let g = counted-given _ _ _ _ (c .before .before .before .before .before .before .before .before .before .len .ensures) (c .before .before .before .before .before .before .before .length .given .1) in
     let o = valid-ok (s .args .self) (shaped s) (sym (s .pre) ∙ c .before .before .before .before .before .before .before .before .before .before .if1 .taken) in
     record {
-      room = λ _. omega (arith, o .queued .few, c .before .before .before .if3 .left);
+      room = λ _. omega (arith, o .few, c .before .before .before .if3 .left);
       kept = λ f. absurd (false≢true (sym f));
-      stored = λ _. accepted-packet (s .args .self) (s .pre) (c .before .before .before .before .before .before .before .before .before .before .if1 .taken) (s .args .packet) (g .0) (shaped s) (λ z. c .before .before .before .before .before .if2 .left (g .1 ∙ z)) (placed s) (c .before .before .before .if3 .left) _
-          (written-bytes (s .args .packet) (placed s) (g .0) (λ z. c .before .before .before .before .before .if2 .left (g .1 ∙ z)) _ _ (c .before .write .ensures) _ (g .1));
+      stored = λ _. accepted-packet (s .args .self) (s .pre) (c .before .before .before .before .before .before .before .before .before .before .if1 .taken) (s .args .packet) (g .0) (shaped s) (λ z. c .before .before .before .before .before .if2 .left (g .1 ∙ z)) (c .before .before .before .if3 .left) _
+          (written-bytes (s .args .packet) (g .0) (λ z. c .before .before .before .before .before .if2 .left (g .1 ∙ z)) _ _ (c .before .write .ensures) _ (g .1));
     }
 
 unplaced-requires-4 : tie.Need-unplaced-requires-4

@@ -8,6 +8,7 @@ use Rattle.writer.proofs.CCDataWriter.set_output_padding.Tie as tie
 use Rattle.writer.proofs.CCDataWriter.set_output_padding.Reads as reads
 use Rattle.writer.proofs.CCDataWriter.set_output_padding.Lts as lts
 use Rattle.writer.proofs.CCDataWriter.is_valid.Reads as is-valid-reads
+use Rattle.writer.proofs.CCDataWriter.refused.Reads as refused-reads
 
 is-valid-requires : tie.Need-is-valid-requires
 is-valid-requires c κs = search needs
@@ -16,8 +17,11 @@ returns : tie.Need-returns
 returns c = let s = c .before .before in
     switched (s .args .self) (record { packets = search (needs, length-mapped, s .good); first = search needs; second = search needs }) (c .before .is-valid .ensures) (c .if1 .taken) _ _ _ refl
 
+refused-requires : tie.Need-refused-requires
+refused-requires c κs = search needs
+
 returns-2 : tie.Need-returns-2
-returns-2 c = refused-value (c .before .before .args .self) (c .before .is-valid .ensures) _ _ (c .if1 .left)
+returns-2 c = rw (c .refused .ensures) (refused-value (c .before .before .before .args .self) (c .before .before .is-valid .ensures) _ _ (c .before .if1 .left))
 
 pub set-output-padding-spec : {M : Type 1} → statement M
-set-output-padding-spec = tie.close (tie.spec is-valid-requires returns returns-2)
+set-output-padding-spec = tie.close (tie.spec is-valid-requires returns refused-requires returns-2)

@@ -1,0 +1,5 @@
+pub mod Queues
+pub mod Triples
+pub mod Sends
+pub mod Ends
+pub mod Fills
