@@ -105,3 +105,22 @@ module _ {S : Type 0} (mark : List ℕ) (tell : ℕ → S → List ℕ → Told 
         nothing-follows w k More e = absurd (false≢true (sym e))
         nothing-follows w k Stopped e = rw (append-nil (w .rest)) k
         nothing-follows w k Ended e = rw (append-nil (w .rest)) k
+
+  -- an input is told so far, and the program stands behind it
+  abbrev pub ToldSoFar : Bool → S → List ℕ → ℕ → ℕ → ℕ → S → Bool → Type 0
+  ToldSoFar ended x buf have b n y going = (input : List ℕ) × Kept (told mark tell ended input 0 0 x) buf have b n y going
+
+  -- one read after another: the program stands where the bytes read so far leave it
+  module _ (short : length mark ≤ 3) (x : S) {buf after : List ℕ} {have have′ b b′ n n′ : ℕ} {y z : S} {going : Bool}
+      (i : ToldSoFar false x buf have b n y true) (g : (got : List ℕ) × Kept (told mark tell (eqb (length got) 0) (take have buf ++ got) b n y) after have′ b′ n′ z going) where
+    -- what all of them tell
+    all-read : Kept (told mark tell (eqb (length (g .0)) 0) (i .0 ++ g .0) 0 0 x) after have′ b′ n′ z going
+    all-read = further short (i .0) (g .0) x (i .1) (g .1)
+
+    -- more is to be read
+    pub reads-on : going ≡ true → ToldSoFar false x after have′ b′ n′ z true
+    reads-on e = goes-further short x (eqb (length (g .0)) 0) (i .0 ++ g .0) (rw e at all-read)
+
+    -- the input is told whole
+    pub reads-all : going ≡ false → ToldSoFar true x after have′ b′ n′ z false
+    reads-all e = is-told short x (eqb (length (g .0)) 0) (i .0 ++ g .0) (rw e at all-read)
