@@ -1,4 +1,4 @@
--- The functions that test the waiting slots and gather packets. Assumes nothing.
+-- The functions that test the pending bytes and gather packets. Assumes nothing.
 use mathlib.Core.Path.{_≡_, sym, ap, _∙_}
 use mathlib.Core.List.{List}
 use Prim.Native.Nat.{ℕ}
@@ -6,8 +6,6 @@ use contract.Lifetimes.{Lfts}
 use denote.Ref.{now}
 use Rattle.gather.specs.Gather.{Left, takenBy}
 use Rattle.gather.specs.declared.Gathered.{Gathered}
-use Rattle.gather.proofs.slot_good.Reads as slot_good
-use Rattle.gather.proofs.oldest.Reads as Oldest
 use Rattle.gather.proofs.pending_good.Reads as pending_good
 use Rattle.gather.proofs.gather_by.Reads as gather_by
 use Rattle.determined.specs.Determines.{Determines, DeterminesLent}
@@ -20,14 +18,6 @@ gatheredIn x = record { pending = x .pending; waiting = x .count; slots = x .slo
 -- packets gathered, with the pending bytes in a lent place
 gathers : {A E : Type 0} {left : A → Left} {lent : E → List ℕ} → DeterminesLent lent (λ (a : A) (r : Gathered) (e : E). takenBy r (lent e) ≡ left a)
 gathers = record { result = λ a r q e f h k. ap gatheredIn (h ∙ sym k); contents = λ a r q e f h k. ap (λ (x : Left). x .bytes) (h ∙ sym k) }
-
--- `slot_good(slot)`
-pub slot-good : Determines (slot_good.Post (tt {0}))
-slot-good = equal
-
--- `oldest(slots, first, n)`
-pub oldest : Determines (Oldest.Post (tt {0}))
-oldest = equal
 
 -- `pending_good(bytes, len)`
 pub pending-good : (κs : Lfts 1) → Determines (pending_good.Post κs)

@@ -7,6 +7,7 @@ pub mod Pushes
 pub mod Packet
 pub mod Slots
 pub mod Triples
+pub mod Rings
 pub mod Gather
 pub mod Parser
 pub mod Frames

@@ -1,4 +1,4 @@
--- The functions that plan a frame and list its pairs. Assumes nothing.
+-- The functions that plan a frame, list its pairs and test a list of pairs. Assumes nothing.
 use mathlib.Core.Path.{_≡_, sym, ap, _∙_}
 use mathlib.Core.List.{List}
 use Prim.Native.Nat.{ℕ}
@@ -7,6 +7,7 @@ use denote.Ref.{now}
 use Rattle.triples.specs.Listing.{Listing}
 use Rattle.triples.proofs.plan_of.Reads as plan_of
 use Rattle.triples.proofs.list_by.Reads as list_by
+use Rattle.triples.proofs.list_good.Reads as list_good
 use Rattle.determined.specs.Determines.{Determines, DeterminesLent}
 use Rattle.determined.proofs.Ways.{equal}
 
@@ -21,3 +22,7 @@ plan-of κs = equal
 -- `list_by(lists, on, pairs, frame)`
 pub list-by : (κs : Lfts 2) → DeterminesLent (λ e. now (e .1 .1 .0)) (list_by.Post κs)
 list-by κs = lists
+
+-- `list_good(on, pairs, n)`
+pub list-good : (κs : Lfts 1) → Determines (list_good.Post κs)
+list-good κs = equal

@@ -18,11 +18,11 @@ use Rattle.slots.specs.Slot.{slotWith}
 use Rattle.slots.specs.declared.Slot.{Slot}
 use Rattle.triples.specs.Walk.{seenFrom}
 use Rattle.triples.proofs.Walks.{seen-next, seen-none, sees-void, sees-608, sees-more, sees-start}
-use Rattle.gather.specs.Ring.{setRound}
+use Rattle.rings.specs.Ring.{setRound}
 use Rattle.gather.specs.Tests.{pendingFine}
 use Rattle.gather.specs.Gather.{Left, leftOf, Held, heldBy, putTwo, Holds, Sized, put, closesBy}
 use Rattle.gather.specs.declared.Run.{Run}
-use Rattle.gather.proofs.Places.{sets-append, take-sets, zeros}
+use Rattle.rings.proofs.Places.{sets-append, take-sets, zeros}
 
 -- what bytes want: none before a start,
 wants-none : (g : List ℕ) → length g ≡ 0 → wants g ≡ 0

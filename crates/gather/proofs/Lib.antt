@@ -1,4 +1,2 @@
-pub mod Places
 pub mod Gathers
-pub mod Rings
-pub mod Slots
+pub mod Pending

@@ -13,7 +13,7 @@ use Rattle.slots.specs.declared.Slot.{Slot}
 use Rattle.triples.specs.Walk.{seenFrom}
 use Rattle.gather.specs.declared.Run.{Run}
 use Rattle.gather.specs.declared.Gathered as code
-use Rattle.gather.specs.Ring.{setRound}
+use Rattle.rings.specs.Ring.{setRound}
 use Rattle.gather.specs.Tests.{readyFor}
 
 -- what a frame leaves: pending bytes in their places, and the waiting slots

@@ -1,3 +1,2 @@
-pub mod Ring
 pub mod Tests
 pub mod Gather

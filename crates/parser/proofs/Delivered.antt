@@ -13,8 +13,8 @@ use Rattle.model.proofs.Cases.{by-cond}
 use Rattle.model.proofs.Frames.{Read, packets-append, packets-many, gathered-read}
 use Rattle.model.proofs.Frames as frames
 use Rattle.slots.specs.declared.Slot.{Slot}
-use Rattle.gather.specs.Ring.{ringFrom, slotRun, setRound}
-use Rattle.gather.proofs.Rings.{slotOfRun, round-length, ring-laid, runs-again, runs-fine, fine-append}
+use Rattle.rings.specs.Ring.{ringFrom, slotRun, setRound}
+use Rattle.rings.proofs.Rings.{slotOfRun, round-length, ring-laid, runs-again, runs-fine, fine-append}
 use Rattle.parser.proofs.Laid.{Stands}
 
 -- what a frame delivers to d

@@ -16,23 +16,26 @@ use Rattle.packet.specs.Packet.{laid}
 use Rattle.slots.specs.Slot.{noSlot}
 use Rattle.slots.specs.declared.Slot.{Slot}
 use Rattle.triples.specs.Pairs.{placedAll, pairsOf}
-use Rattle.gather.specs.Ring.{ringFrom, slotRun, slotFine, setRound}
-use Rattle.gather.specs.Tests.{headFine, behindFine, pendingFine}
-use Rattle.gather.specs.declared.Front.{Front}
-use Rattle.gather.proofs.Rings.{ring-length}
+use Rattle.rings.specs.Ring.{ringFrom, slotRun, slotFine, setRound}
+use Rattle.rings.specs.Tests.{headFine, behindFine}
+use Rattle.gather.specs.Tests.{pendingFine}
+use Rattle.rings.specs.declared.Front.{Front}
+use Rattle.triples.specs.Listing.{listFine}
+use Rattle.triples.proofs.Fields.{again-placed, pairs-length}
+use Rattle.rings.proofs.Rings.{ring-length}
 use Rattle.parser.specs.Means.{means, Shaped}
 use Rattle.parser.specs.Valid.{valid}
 use Rattle.parser.specs.Calls.{laidIn, laidAfter}
 use Rattle.parser.specs.After.{drawn}
 use Rattle.parser.specs.Items.{saidItem, Draws}
-use Rattle.parser.specs.Tests.{listFine, frontOf, countsOf}
+use Rattle.parser.specs.Tests.{frontOf, countsOf}
 use Rattle.parser.specs.Take.{placeBehind, packetAt, takePair, takePacket, takeNone, takeItem, Takes, takenBy, drawnBy}
 use Rattle.parser.specs.declared.Counts.{Counts}
 use Rattle.parser.specs.declared.CCDataParser.{CCDataParser}
 use Rattle.parser.specs.declared.Drawn.{Drawn}
 use Rattle.parser.specs.declared.Took.{Took}
 use Rattle.parser.specs.declared.Item.the-variants.{Nothing}
-use Rattle.parser.proofs.Valids.{Fine, again-placed, valid-fine, front-found, behind-fine, tested-valid, pairs-length, packets-length, waiting-count}
+use Rattle.parser.proofs.Valids.{Fine, valid-fine, front-found, behind-fine, tested-valid, packets-length, waiting-count}
 use Rattle.parser.proofs.Laid.{pending-many, pending-same}
 use Rattle.parser.proofs.Firsts.{head-stays, head-moves, pairs-drawn, pairs-slid, pair-drawn, ring-drawn, slot-read}
 use Rattle.parser.proofs.Kept.{means-drawn}

@@ -20,15 +20,16 @@ use Rattle.model.proofs.Cases.{by-test, both}
 use Rattle.slots.specs.Slot.{noSlot}
 use Rattle.slots.specs.declared.Slot.{Slot}
 use Rattle.triples.specs.Pairs.{placedAll, pairAt, pairsOf}
-use Rattle.gather.specs.Ring.{ringFrom, slotRun, slotFine}
-use Rattle.gather.proofs.Rings.{ring-round}
-use Rattle.gather.proofs.Places.{sets-first}
+use Rattle.rings.specs.Ring.{ringFrom, slotRun, slotFine}
+use Rattle.triples.specs.Listing.{fieldsFine}
+use Rattle.triples.proofs.Fields.{placed-again}
+use Rattle.rings.proofs.Rings.{ring-round}
+use Rattle.rings.proofs.Places.{sets-first}
 use Rattle.parser.specs.Means.{means, Shaped}
 use Rattle.parser.specs.Calls.{headAfter}
-use Rattle.parser.specs.Tests.{fieldsFine}
 use Rattle.parser.specs.Take.{slid, placeBehind, firstPair}
 use Rattle.parser.specs.declared.CCDataParser.{CCDataParser}
-use Rattle.parser.proofs.Valids.{Fine, placed-again, waiting-count}
+use Rattle.parser.proofs.Valids.{Fine, waiting-count}
 use Rattle.parser.proofs.Laid.{Stands, own-stands}
 
 -- a list without its first pair

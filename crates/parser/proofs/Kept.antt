@@ -20,7 +20,7 @@ use Rattle.model.proofs.DemuxStates.{demux-facts, on-valid, take-valid, draw-va
 use Rattle.triples.specs.Walk.{seenFrom}
 use Rattle.triples.specs.Pairs.{placedAll, pairsOf}
 use Rattle.triples.proofs.Found.{few-triples}
-use Rattle.gather.specs.Ring.{ringFrom, setRound}
+use Rattle.rings.specs.Ring.{ringFrom, setRound}
 use Rattle.parser.specs.Means.{means}
 use Rattle.parser.specs.Valid.{inOrder, valid}
 use Rattle.parser.specs.Calls.{laidIn, fresh, headAfter, laidAfter}

@@ -22,10 +22,10 @@ use Rattle.triples.specs.Walk.{seenFrom}
 use Rattle.triples.specs.Listing.{Listing, listedBy}
 use Rattle.triples.specs.Plan.{plan, planFound, planOf}
 use Rattle.triples.specs.declared.Plan.{Plan}
-use Rattle.gather.specs.Ring.{setRound}
+use Rattle.rings.specs.Ring.{setRound}
 use Rattle.gather.specs.Tests.{readyFor}
 use Rattle.gather.specs.Gather.{Left, leftOf, gatheredBy}
-use Rattle.gather.proofs.Slots.{fine-pending}
+use Rattle.gather.proofs.Pending.{fine-pending}
 use Rattle.parser.specs.Means.{means, Shaped}
 use Rattle.parser.specs.Calls.{laidIn}
 use Rattle.parser.specs.Push.{joined}

@@ -4,7 +4,7 @@ use mathlib.Core.Path.{_≡_}
 use lib.ListN.{length, take}
 use Rattle.model.specs.Demux.{Demux, packetsOf}
 use Rattle.triples.specs.Pairs.{pairsOf}
-use Rattle.gather.specs.Ring.{ringFrom, slotRun}
+use Rattle.rings.specs.Ring.{ringFrom, slotRun}
 use Rattle.parser.specs.declared.CCDataParser.{CCDataParser}
 
 -- 608, the pairs that wait, the bytes of the packet that is not complete, and the packets that wait

@@ -6,7 +6,7 @@ use lib.Dec.{leb}
 use Rattle.model.specs.Lists.{every, same}
 use Rattle.model.specs.Demux.{validDemux}
 use Rattle.triples.specs.Pairs.{placedAll}
-use Rattle.gather.specs.Ring.{ringFrom, slotFine}
+use Rattle.rings.specs.Ring.{ringFrom, slotFine}
 use Rattle.parser.specs.Means.{means}
 use Rattle.parser.specs.declared.CCDataParser.{CCDataParser}
 

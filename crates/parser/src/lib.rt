@@ -9,11 +9,13 @@ ghost use Rattle.model.specs.Said.{measured};
 ghost use Rattle.model.specs.Packet.{noPacket};
 ghost use Rattle.packet.specs.Packet.{laid};
 ghost use Rattle.model.specs.Demux.{freshDemux, quiet, turn608On, flushDemux, takeFrame};
-ghost use Rattle.gather.specs.Tests.{headFine, pendingFine};
+ghost use Rattle.rings.specs.Tests.{headFine};
+ghost use Rattle.gather.specs.Tests.{pendingFine};
 ghost use Rattle.parser.specs.Means.{means, Shaped};
 ghost use Rattle.parser.specs.Valid.{valid};
 ghost use Rattle.parser.specs.Calls.{fresh, laidAfter, Answers};
-ghost use Rattle.parser.specs.Tests.{fieldsFine, listFine, frontOf, countsOf};
+ghost use Rattle.triples.specs.Listing.{listFine};
+ghost use Rattle.parser.specs.Tests.{frontOf, countsOf};
 ghost use Rattle.parser.specs.Push.{fed, refusedFor};
 ghost use Rattle.parser.specs.Take.{placeBehind, firstPair, slid, takenBy, takePair, takeHead, takeBehind, takeItem, noneTook, Takes};
 ghost use Rattle.parser.specs.Items.{Draws};
@@ -21,13 +23,11 @@ use caption::Answer;
 use caption::Cea608;
 use caption::Counted;
 use caption::Refusal;
-use gather::Front;
 use packet::DTVCCPacket;
+use rings::Front;
 use slots::Slot;
 
-// The most pairs of a frame, and the most packets that wait.
-const MOST_PAIRS: usize = 31;
-
+// The most packets that wait.
 const MOST_WAITING: usize = 32;
 
 // The most bytes of a packet.
@@ -90,34 +90,6 @@ pub struct Took {
     pub waiting: usize,
 }
 
-// Whether each of the first pairs is of field 1 or 2.
-fn fields_good(pairs: &[u8; 93], n: usize) -> bool
-    requires { ⌜ n ≤ 31 ⌝ }
-    ensures { λ r. ⌜ r ≡ fieldsFine n (now (pairs .entry)) ⌝ }
-{
-    let mut i = 0;
-    while i < n {
-        if 1 < pairs[3 * i] {
-            return false;
-        }
-        i += 1;
-    }
-    true
-}
-
-// Whether the list has at most 31 pairs, each of field 1 or 2, and none while 608 is off.
-fn list_good(on: bool, pairs: &[u8; 93], n: usize) -> bool
-    ensures { λ r. ⌜ r ≡ listFine on n (now (pairs .entry)) ⌝ }
-{
-    if MOST_PAIRS < n {
-        return false;
-    }
-    if on {
-        return fields_good(pairs, n);
-    }
-    n == 0
-}
-
 // The slot that has waited longest, and whether the ring behind it is within its limits. Of an empty ring only the place is looked at: no
 // slot is copied.
 fn oldest(c: Counts, slots: [Slot; 32]) -> Front
@@ -129,7 +101,7 @@ fn oldest(c: Counts, slots: [Slot; 32]) -> Front
         let good = c.first <= 31;
         return Front { good, slot };
     }
-    gather::oldest(slots, c.first, c.waiting)
+    rings::oldest(slots, c.first, c.waiting)
 }
 
 // Whether the slot that has waited longest, if there is one, reads as a packet.
@@ -139,7 +111,7 @@ fn head_good(waiting: usize, slot: Slot) -> bool
     if waiting == 0 {
         return true;
     }
-    gather::slot_good(slot)
+    rings::slot_good(slot)
 }
 
 // Whether the ring is within its limits, its head too.
@@ -157,7 +129,7 @@ fn ring_good(waiting: usize, o: Front) -> bool
 fn good<'a>(c: Counts, pairs: &'a [u8; 93], pending: &'a [u8; 128], ring: bool) -> bool
     ensures { λ r. ⌜ r ≡ (listFine (c .on) (c .pairs) (now (pairs .entry)) && (pendingFine (c .pending) (now (pending .entry)) && ring)) ⌝ }
 {
-    if !list_good(c.on, pairs, c.pairs) {
+    if !triples::list_good(c.on, pairs, c.pairs) {
         return false;
     }
     if !gather::pending_good(pending, c.pending) {

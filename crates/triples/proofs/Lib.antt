@@ -4,3 +4,4 @@ pub mod Lists
 pub mod Heads
 pub mod Found
 pub mod Plans
+pub mod Fields

@@ -1,4 +1,5 @@
-// What the triples of a frame say of its 608 part: its header, the late 608 triple, the valid 708 triple, and the pairs.
+// What the triples of a frame say of its 608 part: its header, the late 608 triple, the valid 708 triple, and the pairs; and the test of a
+// list of pairs.
 ghost use mathlib.Core.Path.{_≡_};
 ghost use mathlib.Core.List.{_∷_, List};
 ghost use Prim.Native.Nat.{_+_, _*_, _%_, _≤_, _<_};
@@ -6,14 +7,16 @@ ghost use lib.ListN.{length};
 ghost use Rattle.model.specs.Frame.{Seen, seen, tri};
 ghost use Rattle.triples.specs.Walk.{over, seenFrom};
 ghost use Rattle.triples.specs.Scan.{found, scanTurn, scanned};
-ghost use Rattle.triples.specs.Listing.{listing, listedBy};
+ghost use Rattle.triples.specs.Listing.{listing, listedBy, fieldsFine, listFine};
 ghost use mathlib.Core.Bool.{false, _&&_};
 ghost use Rattle.triples.specs.Plan.{headOf, planWalked, planOf};
 use caption::Answer;
 use caption::Refusal;
 
-// The most bytes of a frame.
+// The most bytes of a frame, and the most pairs.
 const MOST_FRAME: usize = 95;
+
+const MOST_PAIRS: usize = 31;
 
 // What the first byte and the length of a frame say.
 pub enum Head {
@@ -198,4 +201,32 @@ pub fn list_by(lists: bool, on: bool, pairs: &mut [u8; 93], frame: &[u8]) -> usi
         }
     }
     0
+}
+
+// Whether each of the first pairs is of field 1 or 2.
+fn fields_good(pairs: &[u8; 93], n: usize) -> bool
+    requires { ⌜ n ≤ 31 ⌝ }
+    ensures { λ r. ⌜ r ≡ fieldsFine n (now (pairs .entry)) ⌝ }
+{
+    let mut i = 0;
+    while i < n {
+        if 1 < pairs[3 * i] {
+            return false;
+        }
+        i += 1;
+    }
+    true
+}
+
+// Whether the list has at most 31 pairs, each of field 1 or 2, and none while 608 is off.
+pub fn list_good(on: bool, pairs: &[u8; 93], n: usize) -> bool
+    ensures { λ r. ⌜ r ≡ listFine on n (now (pairs .entry)) ⌝ }
+{
+    if MOST_PAIRS < n {
+        return false;
+    }
+    if on {
+        return fields_good(pairs, n);
+    }
+    n == 0
 }

@@ -1,5 +1,5 @@
--- `gather::gather_by` meets its contract: one law of `Slots` for each way out; the test gives what the worker asks. Assumes nothing.
-use Rattle.gather.proofs.Slots.{ready-within, ready-few, ready-fine, gather-not, gather-unready, gather-asked}
+-- `gather::gather_by` meets its contract: one law of `Pending` for each way out; the test gives what the worker asks. Assumes nothing.
+use Rattle.gather.proofs.Pending.{ready-within, ready-few, ready-fine, gather-not, gather-unready, gather-asked}
 use borrow.Author.Needs.{needs}
 use Rattle.gather.proofs.gather_by.Statement.{statement}
 use Rattle.gather.proofs.gather_by.Tie as tie

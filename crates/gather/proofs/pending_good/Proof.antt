@@ -1,5 +1,5 @@
--- `gather::pending_good` meets its contract: one law of `Slots` for each way out, in the order of the tests. Assumes nothing.
-use Rattle.gather.proofs.Slots.{fine-none, fine-odd, fine-even}
+-- `gather::pending_good` meets its contract: one law of `Pending` for each way out, in the order of the tests. Assumes nothing.
+use Rattle.gather.proofs.Pending.{fine-none, fine-odd, fine-even}
 use borrow.Author.Needs.{needs}
 use Rattle.gather.proofs.pending_good.Statement.{statement}
 use Rattle.gather.proofs.pending_good.Tie as tie

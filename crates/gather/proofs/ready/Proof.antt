@@ -1,5 +1,5 @@
--- `gather::ready` meets its contract: one law of `Slots` for each way out, in the order of the tests. Assumes nothing.
-use Rattle.gather.proofs.Slots.{ready-first, ready-count, ready-pending}
+-- `gather::ready` meets its contract: one law of `Pending` for each way out, in the order of the tests. Assumes nothing.
+use Rattle.gather.proofs.Pending.{ready-first, ready-count, ready-pending}
 use borrow.Author.Needs.{needs}
 use Rattle.gather.proofs.ready.Statement.{statement}
 use Rattle.gather.proofs.ready.Tie as tie

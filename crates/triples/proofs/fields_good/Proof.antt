@@ -1,13 +1,13 @@
--- `parser::fields_good` meets its contract: the answer for the pairs stays the answer for those that are left. Assumes nothing.
+-- `triples::fields_good` meets its contract: the answer for the pairs stays the answer for those that are left. Assumes nothing.
 use borrow.Author.Needs.{needs}
 use mathlib.Core.Path.{_≡_}
 use Prim.Native.Nat.{_*_, _-_, _≤_}
 use native.Mathlib.Omega.{arith}
 use lib.ListN.{drop}
-use Rattle.parser.specs.Tests.{fieldsFine}
-use Rattle.parser.proofs.Valids.{fields-start, fields-done, fields-again, fields-bad}
-use Rattle.parser.proofs.fields_good.Statement.{statement}
-use Rattle.parser.proofs.fields_good.Tie as tie
+use Rattle.triples.specs.Listing.{fieldsFine}
+use Rattle.triples.proofs.Fields.{fields-start, fields-done, fields-again, fields-bad}
+use Rattle.triples.proofs.fields_good.Statement.{statement}
+use Rattle.triples.proofs.fields_good.Tie as tie
 
 abbrev Inv-loop : tie.InvT-loop
 Inv-loop pairs n i₀ i = (i ≤ n) × (n ≤ 31) × (fieldsFine n pairs ≡ fieldsFine (n - i) (drop (3 * i) pairs))

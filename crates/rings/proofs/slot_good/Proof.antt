@@ -1,8 +1,8 @@
--- `gather::slot_good` meets its contract: a slot longer than its places is refused before it is read. Assumes nothing.
-use Rattle.gather.proofs.Slots.{slot-long, slot-within}
+-- `rings::slot_good` meets its contract: a slot longer than its places is refused before it is read. Assumes nothing.
+use Rattle.rings.proofs.Slots.{slot-long, slot-within}
 use borrow.Author.Needs.{needs}
-use Rattle.gather.proofs.slot_good.Statement.{statement}
-use Rattle.gather.proofs.slot_good.Tie as tie
+use Rattle.rings.proofs.slot_good.Statement.{statement}
+use Rattle.rings.proofs.slot_good.Tie as tie
 
 returns : tie.Need-returns
 returns c = search (needs, slot-long, slot-within)

@@ -1,9 +1,9 @@
--- `gather::oldest` meets its contract: a head at a place that is named, with none or one behind it, and any other. Assumes nothing.
+-- `rings::oldest` meets its contract: a head at a place that is named, with none or one behind it, and any other. Assumes nothing.
 use native.Mathlib.Omega.{arith}
-use Rattle.gather.proofs.Slots.{front-alone, front-followed}
+use Rattle.rings.proofs.Slots.{front-alone, front-followed}
 use borrow.Author.Needs.{needs}
-use Rattle.gather.proofs.oldest.Statement.{statement}
-use Rattle.gather.proofs.oldest.Tie as tie
+use Rattle.rings.proofs.oldest.Statement.{statement}
+use Rattle.rings.proofs.oldest.Tie as tie
 
 array-copy-out-slot : tie.Need-array-copy-out-slot
 array-copy-out-slot c = search needs

@@ -1,16 +1,16 @@
--- `gather::oldest_round` meets its contract: the answer for all slots stays the answer for those that are left. Assumes nothing.
+-- `rings::oldest_round` meets its contract: the answer for all slots stays the answer for those that are left. Assumes nothing.
 use borrow.Author.Needs.{needs}
 use Rattle.model.specs.Lists.{every}
-use Rattle.gather.proofs.Slots.{behind-first, behind-count, behind-start, front-is, slots-done, slots-again, slots-bad}
+use Rattle.rings.proofs.Slots.{behind-first, behind-count, behind-start, front-is, slots-done, slots-again, slots-bad}
 use mathlib.Core.Path.{_≡_, refl}
 use Prim.Native.Nat.{_+_, _-_, _%_, _≤_, _<_}
 use native.Mathlib.Omega.{arith}
 use lib.ListN.{getD}
 use Rattle.slots.specs.Slot.{noSlot}
-use Rattle.gather.specs.Ring.{ringFrom, slotFine}
-use Rattle.gather.specs.Tests.{behindFine}
-use Rattle.gather.proofs.oldest_round.Statement.{statement}
-use Rattle.gather.proofs.oldest_round.Tie as tie
+use Rattle.rings.specs.Ring.{ringFrom, slotFine}
+use Rattle.rings.specs.Tests.{behindFine}
+use Rattle.rings.proofs.oldest_round.Statement.{statement}
+use Rattle.rings.proofs.oldest_round.Tie as tie
 
 abbrev Inv-loop : tie.InvT-loop
 Inv-loop first n slots slot i₀ i = (first < 32) × (n ≤ 32) × (behindFine first n slots ≡ every slotFine (ringFrom (first + i) (n - i) slots)) × (slot ≡ getD slots (first % 32) noSlot)

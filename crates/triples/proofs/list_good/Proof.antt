@@ -1,8 +1,8 @@
--- `parser::list_good` meets its contract: one law of `Valids` for each way out. Assumes nothing.
-use Rattle.parser.proofs.Valids.{list-long, list-on, list-off}
+-- `triples::list_good` meets its contract: one law of `Fields` for each way out. Assumes nothing.
+use Rattle.triples.proofs.Fields.{list-long, list-on, list-off}
 use borrow.Author.Needs.{needs}
-use Rattle.parser.proofs.list_good.Statement.{statement}
-use Rattle.parser.proofs.list_good.Tie as tie
+use Rattle.triples.proofs.list_good.Statement.{statement}
+use Rattle.triples.proofs.list_good.Tie as tie
 
 returns : tie.Need-returns
 returns c = search (needs, list-long)

@@ -16,8 +16,8 @@ use Rattle.model.proofs.Limits.{size-most}
 use Rattle.model.proofs.Frames.{Read, none, also}
 use Rattle.slots.specs.Slot.{noSlot, slotWith}
 use Rattle.slots.specs.declared.Slot.{Slot}
-use Rattle.gather.specs.Ring.{ringFrom, slotRun, slotFine, setRound}
-use Rattle.gather.proofs.Places.{take-sets, zeros}
+use Rattle.rings.specs.Ring.{ringFrom, slotRun, slotFine, setRound}
+use Rattle.rings.proofs.Places.{take-sets, zeros}
 
 -- the slot of a run
 abbrev pub slotOfRun : List ℕ → Slot
