@@ -2,7 +2,7 @@
 use caption::Answer;
 use caption::Refusal;
 use frames::Frame;
-use service::put_bytes;
+use headers::put_bytes;
 ghost use mathlib.Core.Path.{_≡_};
 ghost use mathlib.Core.Bool.{true, false, cond};
 ghost use Prim.Native.Nat.{_+_, _*_, _≤_, _<_};
