@@ -11,14 +11,14 @@ use lib.Seq.{sets-eq, take-at}
 use Rattle.model.specs.Said.{Outcome, gave, refused, accepted, says, saysWith, after, checked, measured, mapped, putInto, badValue, badRate}
 use Rattle.model.specs.Frame as model
 use Rattle.model.specs.Frame.{Cea608, field1, field2, Pair, pair, Triple, tri, flat, frameBytes}
-use Rattle.model.specs.Rate.{Budgets, pairsAt, triplesAt, mostTriples, budgets}
+use Rattle.model.specs.Rate.{Budgets, pairsThenTriples, pairsAt, triplesAt, mostTriples, budgets}
 use Rattle.model.specs.Mux.{Mux, Turned, turned, turnsDue, countDue, Sent, send, padding, framed, writeFrame, writeAt, withPads, withQueues, flushMux, pushPair, pushCea608}
 use Rattle.model.specs.Duration.{pairsDuration, bytesDuration, lengthsOf, bytesLeft, field1Duration, field2Duration, packetDuration}
 use Rattle.model.proofs.Cases.{by-cond, Gives}
 use Rattle.model.proofs.Frames.{flat-length, frame-length}
 use Rattle.model.proofs.Rates.{accepted-sane}
 use Rattle.caption.specs.Answers.{saidRefusal, saidAnswer}
-use Rattle.caption.specs.Rates.{saidBudgets, pairsThenTriples}
+use Rattle.caption.specs.Rates.{saidBudgets}
 use Rattle.caption.proofs.Rates.{budgets-meant}
 use Rattle.caption.specs.declared.Answer.{Answer}
 use Rattle.caption.specs.declared.Answer.the-variants as answer
