@@ -9,7 +9,7 @@ use lib.Dec.{ltb}
 use borrow.Author.Tests.{ltb-true, ltb-false}
 use Rattle.model.specs.Frame.{tri, seen, Seen}
 use Rattle.model.proofs.Cases.{by-test}
-use Rattle.triples.specs.Scan.{found, scanFirst, scanAfter, scanAt, scanTurn}
+use Rattle.triples.specs.Scan.{found, scanFirst, scanAfter, scanTurn}
 use Rattle.triples.specs.declared.Scan.{Scan}
 use Rattle.triples.specs.declared.Scan.the-variants.{Only608, Ended, Carries, Late}
 use Rattle.triples.specs.Walk.{over, seenFrom}
