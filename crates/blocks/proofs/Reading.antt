@@ -20,11 +20,11 @@ use Rattle.model.proofs.Cases.{by-test, by-cond, mapped-by}
 use Rattle.model.proofs.Blocks.{block-length, written-length}
 use Rattle.model.proofs.Walk.{blocks-next, blocks-none}
 use Rattle.model.proofs.Limits.{Moves, read-from}
-use Rattle.service.specs.declared.Head.{Head}
-use Rattle.service.specs.declared.Head.the-variants.{Whole, Short}
-use Rattle.service.specs.Head.{headOf, saidShort}
-use Rattle.service.proofs.Heads.{Headed, headed, head-short, header-least, header-most}
-use Rattle.service.proofs.Runs.{sets-append, sets-more}
+use Rattle.headers.specs.declared.Head.{Head}
+use Rattle.headers.specs.declared.Head.the-variants.{Whole, Short}
+use Rattle.headers.specs.Head.{headOf, saidShort}
+use Rattle.headers.proofs.Heads.{Headed, headed, head-short, header-least, header-most}
+use Rattle.headers.proofs.Runs.{sets-append, sets-more}
 use Rattle.blocks.specs.declared.Kept.{Kept}
 use Rattle.entries.specs.Fields.{numbersOf, sizesOf, payloadsOf, blockFrom}
 use Rattle.blocks.specs.Reading.{moveBy, moveFor, keptFor, Laid, behind, Stored, Room, KeepRoom}

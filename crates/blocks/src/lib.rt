@@ -12,7 +12,7 @@ ghost use Rattle.blocks.specs.Reading.{moveBy, moveFor, wrongLength, rea
 use caption::Answer;
 use caption::Counted;
 use caption::Refusal;
-use service::Head;
+use headers::Head;
 
 // The most bytes of a packet.
 const MOST_PACKET: usize = 128;
@@ -73,7 +73,7 @@ fn reads_from(bytes: &[u8; 128], at: usize, end: usize) -> bool
         number,
         start,
         size,
-    } = service::head_in(bytes, at, end)
+    } = headers::head_in(bytes, at, end)
     else {
         return false;
     };
@@ -85,7 +85,7 @@ fn held(bytes: &[u8; 128], len: usize) -> usize
     ensures { λ r. ⌜ r ≡ length (take len (now (bytes .entry))) ⌝ }
 {
     let all = &bytes[..];
-    service::lesser(len, all.len())
+    headers::lesser(len, all.len())
 }
 
 // Whether the first `len` bytes read as a packet; at most 128 are there.
@@ -136,7 +136,7 @@ fn put_payload(payload: &mut [u8; 127], at: usize, part: &[u8])
     ensures { λ _. ⌜ now (payload .exit) ≡ sets (now (payload .entry)) at (now (part .entry)) ⌝ }
 {
     let n = put_fours(payload, at, part);
-    service::put_bytes(payload, at + n, &part[n..]);
+    headers::put_bytes(payload, at + n, &part[n..]);
 }
 
 // Stores a block that has a payload, as block `count` with its payload from `used` on.
@@ -190,14 +190,14 @@ fn read_blocks(
     if end <= at {
         return Counted::Count(count);
     }
-    let head = service::head_in(bytes, at, end);
+    let head = headers::head_in(bytes, at, end);
     let Head::Whole {
         number,
         start,
         size,
     } = head
     else {
-        let why = service::short_of(head, end - at);
+        let why = headers::short_of(head, end - at);
         return Counted::Refused(why);
     };
     let next = keep_block(
@@ -310,6 +310,6 @@ pub fn read(data: &[u8], tidy: bool) -> Filled
         return unread(mismatch(packet_size(data[0]), n));
     }
     let mut bytes = [0u8; 128];
-    service::put_bytes(&mut bytes, 0, data);
+    headers::put_bytes(&mut bytes, 0, data);
     read_in(&bytes, n, tidy)
 }

@@ -42,7 +42,7 @@ fn turns_of(pad: bool, pairs: usize, n1: usize, n2: usize) -> usize
     if pad {
         return pairs;
     }
-    service::lesser(pairs, greater(n1, 2 * service::lesser(n2, MOST_QUEUED)))
+    headers::lesser(pairs, greater(n1, 2 * headers::lesser(n2, MOST_QUEUED)))
 }
 
 // The frame after its turns and its packet triples, and what they leave.

@@ -7,10 +7,10 @@ use Prim.Native.Nat.{ℕ, _≤_, _<_}
 use borrow.Author.Tests.{eq-eqb, ne-eqb, lt-ltb, le-ltb}
 use lib.Dec.{eqb, ltb}
 use lib.ListN.{getD}
-use Rattle.model.specs.Said.{accepted, badRate, gave, refused, saysWith}
+use Rattle.model.specs.Said.{Outcome, accepted, badRate, gave, refused, saysWith}
 use Rattle.model.specs.Rate as model
-use Rattle.model.specs.Rate.{budgets, pairsAt, triplesAt, mostTriples}
-use Rattle.caption.specs.Rates.{saidBudgets, budgetsOf, pairsThenTriples}
+use Rattle.model.specs.Rate.{budgets, pairsThenTriples, pairsAt, triplesAt, mostTriples}
+use Rattle.caption.specs.Rates.{saidBudgets}
 use Rattle.caption.proofs.Answers.{answerOf}
 use Rattle.caption.specs.declared.Budgets.{Budgets}
 use Rattle.caption.specs.declared.Budgets.the-variants.{Of, BadRate}
@@ -27,6 +27,11 @@ budgets-again BadRate = refl
 -- no two answers say the same
 pub saidBudgets-injective : Injective saidBudgets
 saidBudgets-injective = LeftInverse·injective (answerOf of (λ why. BadRate)) saidBudgets budgets-again
+
+-- what the answer is in the model
+abbrev pub budgetsOf : Budgets → Outcome model.Budgets
+budgetsOf (Of pairs triples) = gave (record { pairs = pairs; triples = triples })
+budgetsOf BadRate = refused badRate
 
 -- An answer that says what the model's budgets say is those budgets: what a caller takes from the contract.
 pub budgets-meant : (numer denom : ℕ) (r : Budgets) → saidBudgets r ≡ saysWith pairsThenTriples (budgets numer denom) → budgetsOf r ≡ budgets numer denom

@@ -1,7 +1,6 @@
 -- What the shared answers say: the number of document 01's table "What comes back", and the values that it carries. Assumes nothing.
-use mathlib.Core.Bool.{Bool, true, false, cond}
-use mathlib.Core.List.{List, [], _∷_}
-use Prim.Native.Nat.{ℕ}
+use mathlib.Core.Bool.{cond}
+use mathlib.Core.List.{[], _∷_}
 use Rattle.model.specs.Said.{Said, accepted, lengthMismatch, cea608AfterCea708, wouldOverflow, readOnly, emptyService, badNumber, badRun, badRate, outShort, full, badValue}
 use Rattle.caption.specs.declared.Refusal.{Refusal}
 use Rattle.caption.specs.declared.Refusal.the-variants.{LengthMismatch, Cea608AfterCea708, WouldOverflow, ReadOnly, EmptyService, BadNumber, BadRun, BadRate, OutShort, Full, BadValue}

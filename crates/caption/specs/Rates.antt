@@ -1,7 +1,7 @@
 -- Frame rates: those that have names, and what their budgets say. Document 01, "Writing frames". Assumes nothing.
 use mathlib.Core.List.{List, [], _∷_, map}
 use Prim.Native.Nat.{ℕ}
-use Rattle.model.specs.Said.{Said, Outcome, gave, refused, accepted, badRate}
+use Rattle.model.specs.Said.{Said, accepted, badRate}
 use Rattle.model.specs.Rate as model
 use Rattle.caption.specs.declared.Framerate.{Framerate}
 use Rattle.caption.specs.declared.Budgets.{Budgets}
@@ -19,12 +19,3 @@ namedRates = map (λ (r : model.Rate). rate (r .numer) (r .denom)) model.namedRa
 abbrev pub saidBudgets : Budgets → Said
 saidBudgets (Of pairs triples) = accepted (pairs ∷ triples ∷ [])
 saidBudgets BadRate = badRate
-
--- the values of an accepted rate, in that order
-abbrev pub pairsThenTriples : model.Budgets → List ℕ
-pairsThenTriples b = b .pairs ∷ b .triples ∷ []
-
--- what the answer is in the model
-abbrev pub budgetsOf : Budgets → Outcome model.Budgets
-budgetsOf (Of pairs triples) = gave (record { pairs = pairs; triples = triples })
-budgetsOf BadRate = refused badRate

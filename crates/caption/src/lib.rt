@@ -2,8 +2,8 @@
 ghost use mathlib.Core.Path.{_≡_};
 ghost use Prim.Native.Nat.{_<_};
 ghost use Rattle.model.specs.Said.{saysWith};
-ghost use Rattle.model.specs.Rate.{budgets, rounded};
-ghost use Rattle.caption.specs.Rates.{rate, namedRates, saidBudgets, pairsThenTriples};
+ghost use Rattle.model.specs.Rate.{budgets, pairsThenTriples, rounded};
+ghost use Rattle.caption.specs.Rates.{rate, namedRates, saidBudgets};
 
 // The most triples of a frame: its count has five bits.
 const MOST_TRIPLES: usize = 31;

@@ -1,5 +1,6 @@
 pub mod Ways
 pub mod Caption
+pub mod Headers
 pub mod Service
 pub mod Entries
 pub mod Blocks

@@ -7,21 +7,14 @@ use contract.Lifetimes.{Lfts}
 use denote.Ref.{now}
 use Rattle.model.specs.Said.{Outcome}
 use Rattle.model.specs.Block.{Block}
-use Rattle.caption.proofs.Answers.{saidRefusal-injective, saidAnswer-injective, saidCounted-injective, saidTruth-injective}
+use Rattle.caption.proofs.Answers.{saidAnswer-injective, saidCounted-injective, saidTruth-injective}
 use Rattle.caption.specs.declared.Answer.{Answer}
 use Rattle.caption.specs.declared.Counted.{Counted}
 use Rattle.caption.specs.Answers.{saidAnswer}
 use Rattle.service.specs.Service.{Answers, Pushes, Writes}
 use Rattle.service.specs.declared.Service.{Service}
 use Rattle.service.specs.declared.ServiceAnswer.{ServiceAnswer}
-use Rattle.service.proofs.lesser.Reads as Lesser
-use Rattle.service.proofs.put_bytes.Reads as put_bytes
-use Rattle.service.proofs.read_head.Reads as read_head
-use Rattle.service.proofs.head_in.Reads as HeadIn
-use Rattle.service.proofs.short_of.Reads as short_of
 use Rattle.service.proofs.payload_of.Reads as payload_of
-use Rattle.service.proofs.block_length.Reads as block_length
-use Rattle.service.proofs.put_header.Reads as put_header
 use Rattle.service.proofs.Service.new.Reads as new
 use Rattle.service.proofs.Service.is_valid.Reads as is_valid
 use Rattle.service.proofs.Service.number.Reads as number
@@ -32,7 +25,7 @@ use Rattle.service.proofs.Service.push_code.Reads as push_code
 use Rattle.service.proofs.Service.parse.Reads as parse
 use Rattle.service.proofs.Service.write.Reads as write
 use Rattle.determined.specs.Determines.{Determines, DeterminesLent, DeterminesPart}
-use Rattle.determined.proofs.Ways.{equal, said, filled, part-equal, two}
+use Rattle.determined.proofs.Ways.{equal, said, part-equal, two}
 
 -- answers that say the same beside the same block
 answer-same : (r q : ServiceAnswer) → saidAnswer (r .answer) ≡ saidAnswer (q .answer) → r .service ≡ q .service → r ≡ q
@@ -52,37 +45,9 @@ module _ {A E : Type 0} where
   writes =
       record { result = λ a r q e f h k. saidCounted-injective r q (h .answer ∙ sym (k .answer)); contents = λ a r q e f h k. h .output ∙ sym (k .output) }
 
--- `lesser(a, b)`
-pub lesser : Determines (Lesser.Post (tt {0}))
-lesser = equal
-
--- `put_bytes(dst, at, src)`
-pub put-bytes : (κs : Lfts 2) → DeterminesLent (λ e. now (e .0)) (put_bytes.Post κs)
-put-bytes κs = filled
-
--- `read_head(data, at)`
-pub read-head : (κs : Lfts 1) → Determines (read_head.Post κs)
-read-head κs = equal
-
--- `head_in(bytes, at, end)`
-pub head-in : (κs : Lfts 1) → Determines (HeadIn.Post κs)
-head-in κs = equal
-
--- `short_of(head, present)`
-pub short-of : Determines (short_of.Post (tt {0}))
-short-of = said saidRefusal-injective
-
 -- `payload_of(data)`
 pub payload-of : (κs : Lfts 1) → DeterminesPart (payload_of.Post κs)
 payload-of κs = part-equal
-
--- `block_length(number, size)`
-pub block-length : Determines (block_length.Post (tt {0}))
-block-length = equal
-
--- `put_header(out, at, number, size)`
-pub put-header : (κs : Lfts 1) → DeterminesLent (λ e. now (e .0)) (put_header.Post κs)
-put-header κs = filled
 
 -- `Service::new(service_no)`
 pub Service-new : Determines (new.Post (tt {0}))

@@ -14,8 +14,8 @@ use Rattle.model.specs.Block.{Block, blockLength}
 use Rattle.model.specs.Packet.{carriable, blocksLength}
 use Rattle.model.proofs.Cases.{by-test, both, and-both}
 use Rattle.model.proofs.Blocks.{Carriable, facts-carriable, carriable-facts, block-length, written-length}
-use Rattle.service.specs.Head.{lengthFor}
-use Rattle.service.proofs.Heads.{length-by}
+use Rattle.headers.specs.Head.{lengthFor}
+use Rattle.headers.proofs.Heads.{length-by}
 use Rattle.entries.specs.Fields.{blocksHeld, sumOf, numbersOf, sizesOf, payloadsOf}
 use Rattle.entries.specs.Entries.{Entry, entries, cut, goodEntry, goodEntries, lengthsOf, usedBy}
 

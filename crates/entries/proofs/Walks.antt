@@ -10,7 +10,7 @@ use lib.ListN.{take, drop, getD}
 use lib.Seq.{drop-nil, take-nil}
 use borrow.Author.Tests.{eq-eqb, ne-eqb, lt-leb, le-leb, lt-ltb, le-ltb}
 use Rattle.model.proofs.Cases.{by-test}
-use Rattle.service.specs.Head.{lengthFor}
+use Rattle.headers.specs.Head.{lengthFor}
 use Rattle.entries.specs.declared.Extent.{Extent}
 use Rattle.entries.specs.declared.Extent.the-variants.{Of, Bad}
 use Rattle.entries.specs.declared.Found.the-variants.{At, Nothing}

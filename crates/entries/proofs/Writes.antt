@@ -18,9 +18,9 @@ use Rattle.model.proofs.Cases.{by-test, by-cond, both}
 use Rattle.model.proofs.Blocks.{written-length}
 use Rattle.model.proofs.Packets.{blocks-length, fill-length}
 use Rattle.service.specs.Service.{Writes}
-use Rattle.service.specs.Head.{lengthFor}
-use Rattle.service.proofs.Runs.{sets-append, sets-front}
-use Rattle.service.proofs.Heads.{laid-block}
+use Rattle.headers.specs.Head.{lengthFor}
+use Rattle.headers.proofs.Runs.{sets-append, sets-front}
+use Rattle.headers.proofs.Heads.{laid-block}
 use Rattle.entries.specs.Fields.{Fields, packetIn, validFields, blockFrom}
 use Rattle.entries.specs.Entries.{Entry, Written, entries, entriesOf, cut, goodEntry, goodEntries, lengthsOf, usedBy, validEntries}
 use Rattle.entries.specs.Extent.{Sized}

@@ -7,7 +7,7 @@ use Prim.Native.Nat.{ℕ, zero, suc, _+_, _≤_}
 use lib.Dec.{leb}
 use lib.ListN.{getD, take, drop}
 use Rattle.model.specs.Block.{Block}
-use Rattle.service.specs.Head.{lengthFor}
+use Rattle.headers.specs.Head.{lengthFor}
 use Rattle.entries.specs.Fields.{Fields}
 
 -- a block's number and the size of its payload

@@ -4,7 +4,7 @@ ghost use mathlib.Core.Bool.{cond};
 ghost use Prim.Native.Nat.{_+_, _-_, _*_, _/_, _%_, _≤_};
 ghost use lib.ListN.{length};
 ghost use lib.Seq.{sets};
-ghost use lib.Dec.{eqb, ltb};
+ghost use lib.Dec.{eqb};
 ghost use Rattle.model.specs.Packet.{writtenBlocks, writtenPacket, fill};
 ghost use Rattle.model.specs.Block.{writtenBlock};
 ghost use Rattle.service.specs.Service.{Writes};
@@ -72,7 +72,7 @@ fn walk(numbers: &[u8; 63], sizes: &[u8; 63], count: usize) -> Extent
         if !good_entry(number, size) {
             return Extent::Bad;
         }
-        lengths += service::block_length(number, size);
+        lengths += headers::block_length(number, size);
         used += wide(size);
         i += 1;
     }
@@ -166,10 +166,10 @@ pub fn block_at(numbers: &[u8; 63], sizes: &[u8; 63], payload: &[u8; 127], place
         };
     }
     let size = wide(sizes[place]);
-    let from = service::lesser(sum_of(sizes, place), MOST_BYTES);
-    let end = service::lesser(from + size, MOST_BYTES);
+    let from = headers::lesser(sum_of(sizes, place), MOST_BYTES);
+    let end = headers::lesser(from + size, MOST_BYTES);
     let all = &payload[..];
-    service::put_bytes(&mut bytes, 0, &all[from..end]);
+    headers::put_bytes(&mut bytes, 0, &all[from..end]);
     Service {
         number: numbers[place],
         len: size,
@@ -177,24 +177,14 @@ pub fn block_at(numbers: &[u8; 63], sizes: &[u8; 63], payload: &[u8; 127], place
     }
 }
 
-// How many bytes the header of a block is written in.
-fn header_size(number: u8) -> usize
-    ensures { λ r. ⌜ (r ≡ cond (ltb number 7) 1 2) × (r ≤ 2) ⌝ }
-{
-    if number < 7 {
-        return 1;
-    }
-    2
-}
-
 // Lays a block into `out`, from `at` on, as far as there is room.
 fn put_block(out: &mut [u8], at: usize, number: u8, size: u8, part: &[u8])
     requires { ⌜ (at ≤ 128) × (size ≡ length (now part)) × (size ≤ 31) ⌝ }
     ensures { λ _. ⌜ now (out .exit) ≡ sets (now (out .entry)) at (writtenBlock (blockFrom number (now (part .entry)))) ⌝ }
 {
-    let start = header_size(number);
-    service::put_header(out, at, number, size);
-    service::put_bytes(out, at + start, part);
+    let start = headers::written_header_length(number);
+    headers::put_header(out, at, number, size);
+    headers::put_bytes(out, at + start, part);
 }
 
 // Lays the byte that fills an odd length `n` behind that many bytes, where there is room.
@@ -221,7 +211,7 @@ fn put_blocks(numbers: &[u8; 63], sizes: &[u8; 63], payload: &[u8], count: usize
         let size = sizes[i];
         let end = from + wide(size);
         put_block(out, at, number, size, &payload[from..end]);
-        at += header_size(number) + wide(size);
+        at += headers::written_header_length(number) + wide(size);
         from = end;
         i += 1;
     }

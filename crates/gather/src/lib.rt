@@ -76,7 +76,7 @@ fn run_of(pending: [u8; 128], len: usize, bytes: &mut [u8; 128]) -> Run
     if len == 0 {
         return Run { need: 0, len };
     }
-    service::put_bytes(bytes, 0, &pending[0..len]);
+    headers::put_bytes(bytes, 0, &pending[0..len]);
     Run {
         need: packet::packet_size(pending[0]) - len,
         len,
@@ -151,7 +151,7 @@ fn gather_frame(
         n += 1;
     }
     let left = left_of(s);
-    service::put_bytes(pending, 0, &bytes[0..left]);
+    headers::put_bytes(pending, 0, &bytes[0..left]);
     Gathered {
         pending: left,
         waiting: n,

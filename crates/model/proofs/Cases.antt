@@ -1,6 +1,6 @@
 -- Reasoning by cases on a test and on an outcome. Assumes nothing.
 use mathlib.Core.Path.{_≡_, refl, ap, subst}
-use mathlib.Core.Bool.{Bool, true, false, cond, not, _&&_, false≢true}
+use mathlib.Core.Bool.{Bool, true, false, cond, _&&_, false≢true}
 use Rattle.model.specs.Said.{Outcome, gave, refused, andThen, mapped}
 
 -- what holds under either outcome of a test holds
@@ -21,10 +21,6 @@ both false b e = absurd (false≢true e)
 -- a conjunction of both parts
 pub and-both : (a b : Bool) → a ≡ true → b ≡ true → a && b ≡ true
 and-both a b p q = rw (p, q)
-
--- what is false is not so
-pub not-intro : (b : Bool) → b ≡ false → not b ≡ true
-not-intro b e = rw e
 
 -- P holds of what an outcome gives, if it gives anything
 abbrev pub Gives : {A : Type 0} → (A → Type 0) → Outcome A → Type 0

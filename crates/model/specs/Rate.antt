@@ -44,3 +44,7 @@ unfoldable pub budgets : ℕ → ℕ → Outcome Budgets
 budgets numer denom =
     cond (eqb numer 0 || (eqb (pairsAt numer denom) 0 || ltb mostTriples (triplesAt numer denom))) (refused badRate)
     (gave (record { pairs = pairsAt numer denom; triples = triplesAt numer denom }))
+
+-- the two values that accepted budgets tell, in that order
+abbrev pub pairsThenTriples : Budgets → List ℕ
+pairsThenTriples b = b .pairs ∷ b .triples ∷ []

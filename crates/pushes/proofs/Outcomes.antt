@@ -18,7 +18,7 @@ use Rattle.model.specs.Packet.{packetRoom, blockAt, pushBlock, pushNew, pushAt,
 use Rattle.model.proofs.Cases.{by-test}
 use Rattle.model.proofs.Blocks.{block-length-none}
 use Rattle.service.specs.declared.Service.{Service}
-use Rattle.service.specs.Head.{lengthFor}
+use Rattle.headers.specs.Head.{lengthFor}
 use Rattle.service.specs.Service.{blockOf, validService}
 use Rattle.service.proofs.Services.{valid-number, valid-len, valid-null, payload-length}
 use Rattle.entries.specs.declared.Found.{Found}

@@ -40,7 +40,7 @@ fn put_entry(
     let used = at.used;
     numbers[count] = number;
     sizes[count] = run.len() as u8;
-    service::put_bytes(payload, used, run);
+    headers::put_bytes(payload, used, run);
 }
 
 // How many bytes more a block with `size` bytes of payload has room for.
@@ -73,8 +73,8 @@ fn extend(used: usize, place: usize, run: &[u8], sizes: &mut [u8; 63], payload: 
     let before = entries::sum_of(sizes, place + 1);
     let size = sizes[place];
     sizes[place] = size + n as u8;
-    service::put_bytes(payload, before, run);
-    service::put_bytes(payload, before + n, &old[before..used]);
+    headers::put_bytes(payload, before, run);
+    headers::put_bytes(payload, before + n, &old[before..used]);
 }
 
 // Pushes a run as a new block, where the packet has room for it.
@@ -100,7 +100,7 @@ fn push_new(
         return Counted::Refused(Refusal::WouldOverflow(n - MOST_PAYLOAD));
     }
     let room = MOST_PACKET - total;
-    let needed = service::block_length(service_no, n as u8);
+    let needed = headers::block_length(service_no, n as u8);
     if room < needed {
         return Counted::Refused(Refusal::WouldOverflow(needed - room));
     }

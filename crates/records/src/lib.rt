@@ -128,7 +128,7 @@ pub fn number_at(bytes: &[u8], at: usize) -> u32
 pub fn move_to_front(bytes: &mut [u8], from: usize, to: usize) -> usize
     ensures { λ r. ⌜ Moved (between from to (now (bytes .entry))) (now (bytes .entry)) r (now (bytes .exit)) ⌝ }
 {
-    let end = service::lesser(to, bytes.len());
+    let end = headers::lesser(to, bytes.len());
     let mut i = from;
     let mut o = 0;
     while i < end {
@@ -162,12 +162,12 @@ pub fn put_newline(out: &mut [u8], at: usize) -> usize
 pub fn put_word(out: &mut [u8], at: usize, word: &[u8]) -> usize
     ensures { λ r. ⌜ Laid (now (word .entry)) (now (out .entry)) at r (now (out .exit)) ⌝ }
 {
-    service::put_bytes(out, at, word);
+    headers::put_bytes(out, at, word);
     let n = out.len();
     if n <= at {
         return n;
     }
-    at + service::lesser(n - at, word.len())
+    at + headers::lesser(n - at, word.len())
 }
 
 // The digit of a number below 16.
@@ -194,7 +194,7 @@ pub fn put_hex(out: &mut [u8], at: usize, bytes: &[u8]) -> usize
     if n <= at {
         return n;
     }
-    let whole = service::lesser((n - at) / 2, bytes.len());
+    let whole = headers::lesser((n - at) / 2, bytes.len());
     let mut i = 0;
     let mut o = at;
     while i < whole {

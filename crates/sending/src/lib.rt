@@ -41,7 +41,7 @@ fn finish(s: Sending, left: usize) -> Sending
 {
     let slot = s.slot;
     let sent = s.sent;
-    let n = service::lesser(left, triples_left(slot.len, sent));
+    let n = headers::lesser(left, triples_left(slot.len, sent));
     let f = s.frame;
     let bytes = slot.bytes;
     let frame = f.carry(bytes, sent, n);
@@ -58,7 +58,7 @@ fn send(packets: [Slot; 16], count: usize, start: Sending, left: usize) -> Sendi
     requires { ⌜ start .next ≡ 0 ⌝ }
     ensures { λ r. ⌜ r ≡ sentOver (take count packets) left start ⌝ }
 {
-    let queued = service::lesser(count, MOST_PACKETS);
+    let queued = headers::lesser(count, MOST_PACKETS);
     let mut s = start;
     let mut m = left;
     let mut i: usize = 0;
@@ -89,7 +89,7 @@ fn send(packets: [Slot; 16], count: usize, start: Sending, left: usize) -> Sendi
 fn unsent(packets: [Slot; 16], count: usize, slot: Slot, sent: usize) -> usize
     ensures { λ r. ⌜ r ≡ triplesLeft (slot .len) sent + triplesOf (take count packets) ⌝ }
 {
-    let queued = service::lesser(count, MOST_PACKETS);
+    let queued = headers::lesser(count, MOST_PACKETS);
     let mut sum = triples_left(slot.len, sent);
     let mut i: usize = 0;
     while i < queued {
@@ -118,7 +118,7 @@ pub fn count_of(
     if triples <= turns {
         return triples;
     }
-    turns + service::lesser(triples - turns, unsent(packets, count, slot, sent))
+    turns + headers::lesser(triples - turns, unsent(packets, count, slot, sent))
 }
 
 // The triples that a frame of `len` bytes lacks up to a count.
@@ -202,7 +202,7 @@ fn length_in(held: Slot) -> usize
 pub fn bytes_left(packets: [Slot; 16], count: usize, slot: Slot, sent: usize) -> usize
     ensures { λ r. ⌜ (r ≡ lengthsIn (take count packets) + 3 * triplesLeft (slot .len) sent) × (r ≤ 4096) ⌝ }
 {
-    let queued = service::lesser(count, MOST_PACKETS);
+    let queued = headers::lesser(count, MOST_PACKETS);
     let mut sum = 3 * triples_left(slot.len, sent);
     let mut i: usize = 0;
     while i < queued {
@@ -217,7 +217,7 @@ pub fn bytes_left(packets: [Slot; 16], count: usize, slot: Slot, sent: usize) ->
 pub fn move_down(packets: [Slot; 16], count: usize, begun: usize) -> [Slot; 16]
     ensures { λ r. ⌜ r ≡ sets packets 0 (drop begun (take count packets)) ⌝ }
 {
-    let end = service::lesser(count, MOST_PACKETS);
+    let end = headers::lesser(count, MOST_PACKETS);
     let mut left = packets;
     let mut i = if begun == 0 { end } else { begun };
     while i < end {

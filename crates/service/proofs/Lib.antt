@@ -1,4 +1,3 @@
-pub mod Runs
-pub mod Heads
+pub mod Parts
 pub mod Services
 pub mod Kept

@@ -13,15 +13,15 @@ use Rattle.caption.specs.declared.Counted.{Counted}
 use Rattle.caption.specs.Answers.{saidAnswer, saidCounted}
 use Rattle.model.specs.Said.{Said, Outcome, gave, refused, says, after, mapped, checked, measured, putInto, accepted, badValue, badNumber, badRun, readOnly, wouldOverflow, lengthMismatch, outShort}
 use Rattle.model.specs.Block.{Block, validBlock, newBlock, readBlock, blockIn, pushToBlock, withRun, writtenHeader, writtenBlock, blockLength}
-use Rattle.model.proofs.Cases.{by-test, by-cond, both}
+use Rattle.model.proofs.Cases.{by-test, both}
 use Rattle.model.proofs.Blocks.{written-length}
 use Rattle.service.specs.declared.Service.{Service}
 use Rattle.service.specs.declared.ServiceAnswer.{ServiceAnswer}
-use Rattle.service.specs.declared.Head.the-variants.{Whole, Short}
-use Rattle.service.specs.Head.{headOf, lengthFor}
+use Rattle.headers.specs.declared.Head.the-variants.{Whole, Short}
+use Rattle.headers.specs.Head.{headOf, lengthFor}
 use Rattle.service.specs.Service.{Answers, Pushes, Writes, blockOf, over, laid, blank, validService}
-use Rattle.service.proofs.Runs.{sets-front, sets-behind}
-use Rattle.service.proofs.Heads.{headed, head-short, length-of, laid-block}
+use Rattle.headers.proofs.Runs.{sets-front, sets-behind}
+use Rattle.headers.proofs.Heads.{headed, head-short, length-of, laid-block}
 
 -- an answer that refuses, and one that gives
 pub refuses : (o : Outcome Service) (beside : Service) (why : Said) (r : ServiceAnswer) → o ≡ refused why → saidAnswer (r .answer) ≡ why
@@ -32,10 +32,6 @@ refuses o beside why r e a s = record { answer = a ∙ ap says (sym e); service 
 pub gives : (o : Outcome Service) (beside given : Service) (r : ServiceAnswer) → o ≡ gave given → saidAnswer (r .answer) ≡ accepted []
     → r .service ≡ given → Answers o beside r
 gives o beside given r e a s = record { answer = a ∙ ap says (sym e); service = s ∙ ap (after beside) (sym e) }
-
--- a header is written in at most two bytes
-pub header-most : (n start : ℕ) → start ≡ cond (ltb n 7) 1 2 → start ≤ 2
-header-most n start e = rw e (by-cond (λ k. k ≤ 2) (ltb n 7) (λ _. omega arith) (λ _. omega arith))
 
 -- a block and the places that it is laid in
 pub laid-as : (n k : ℕ) (p q : List ℕ) → length q ≡ k → p ≡ sets (replicate 31 0) 0 q

@@ -8,16 +8,13 @@ use Prim.Native.Nat.{ℕ, suc, _+_, _*_, _≤_}
 use native.Mathlib.Numerals.{add-one}
 use native.Mathlib.Omega.{arith}
 use lib.ListN.{length, drop, length-drop}
-use lib.Seq.{sets-eq}
 use Rattle.caption.specs.declared.Answer.the-variants.{Accepted, Refused}
 use Rattle.caption.specs.declared.Refusal.the-variants.{Cea608AfterCea708}
 use Rattle.model.specs.Frame.{Cea608, field1, field2, pair, Seen, first, second, start, more, void608, void708, seenAll, triplesIn}
-use Rattle.model.specs.Demux.{pairsIn, lateFrom, lateAfter, carries708}
-use Rattle.model.proofs.Frames.{few-pairs}
+use Rattle.model.specs.Demux.{lateFrom, lateAfter, carries708}
 use Rattle.triples.specs.Walk.{over, seenFrom}
 use Rattle.triples.specs.Scan.{scanTurn}
 use Rattle.triples.specs.Pairs.{placedAll, pairsOf}
-use Rattle.triples.specs.Listing.{listing}
 use Rattle.triples.specs.Plan.{plan, planFound}
 use Rattle.triples.specs.declared.Scan.{Scan}
 use Rattle.triples.specs.declared.Scan.the-variants.{Only608, Ended, Carries, Late}
@@ -93,24 +90,3 @@ triples-length (a ∷ b ∷ c ∷ d) = omega (arith, triples-length d)
 -- a frame of at most 95 bytes has at most 31 triples
 pub few-triples : (f : List ℕ) → length f ≤ 95 → length (seenFrom 0 f) ≤ 31
 few-triples f h = omega (arith, triples-length (drop 2 f), length-drop 2 f)
-
--- the list after a frame of at most 31 triples
-module _ (l : List ℕ) (ts : List Seen) (long : length l ≡ 93) (few : length ts ≤ 31) where
-  -- at most 31 pairs are listed
-  pub few-listed : listing 0 l ts .count ≤ 31
-  unfolding listing
-  few-listed = omega (arith, few-pairs ts)
-
-  -- they stand first, and the places behind them stay
-  pub listed-is : listing 0 l ts .places ≡ placedAll (pairsIn ts) ++ drop (0 + length (placedAll (pairsIn ts))) l
-  unfolding listing
-  listed-is = sets-eq (placedAll (pairsIn ts)) l 0 (omega (arith, few-pairs ts, placed-length (pairsIn ts)))
-
-  -- as many as the model finds
-  pub listed-count : listing 0 l ts .count ≡ length (pairsIn ts)
-  unfolding listing
-  listed-count = omega arith
-
-  -- they are those that the model finds
-  pub pairs-listed : pairsOf (listing 0 l ts .count) (listing 0 l ts .places) ≡ pairsIn ts
-  pairs-listed = rw (listed-count, listed-is) (pairs-placed (pairsIn ts) _)

@@ -13,7 +13,7 @@ use lib.Seq.{drop-cons, take-suc, getD-append-add, getD-drop, set-at, length-tak
 use Rattle.model.specs.Said.{Said, Outcome, after, says, mapped, checked, badValue, full, accepted}
 use Rattle.model.specs.Frame.{Pair, pair}
 use Rattle.model.specs.Mux.{isNull, pushPair, queued, mostQueued}
-use Rattle.service.proofs.Runs.{sets-append, sets-front}
+use Rattle.headers.proofs.Runs.{sets-append, sets-front}
 use Rattle.turns.specs.Queue.{pairsOf, queueOf, pairBytes, queueOver}
 use Rattle.turns.specs.Step.{slid, pushed}
 use Rattle.turns.specs.declared.PairQueue.{PairQueue}

@@ -3,7 +3,7 @@ use caption::Answer;
 use caption::Refusal;
 use frames::Frame;
 use frames::put;
-use service::put_bytes;
+use headers::put_bytes;
 ghost use mathlib.Core.Path.{_≡_};
 ghost use mathlib.Core.Bool.{cond, not};
 ghost use Prim.Native.Nat.{_+_, _-_, _*_, _≤_};

@@ -18,7 +18,7 @@ use Rattle.model.proofs.Cases.{by-cond, Gives}
 use Rattle.model.proofs.Frames.{flat-length, frame-length}
 use Rattle.model.proofs.Rates.{accepted-sane}
 use Rattle.caption.specs.Answers.{saidRefusal, saidAnswer}
-use Rattle.caption.specs.Rates.{saidBudgets, pairsThenTriples}
+use Rattle.caption.specs.Rates.{saidBudgets}
 use Rattle.caption.proofs.Rates.{budgets-meant}
 use Rattle.caption.specs.declared.Answer.{Answer}
 use Rattle.caption.specs.declared.Answer.the-variants as answer

@@ -14,8 +14,8 @@ use Rattle.blocks.proofs.read_blocks.Kinds as read-blocks-kinds
 use Rattle.blocks.proofs.+read_blocks.Lts-read_blocks as read-blocks-lts
 use Rattle.blocks.proofs.keep_block.Reads as keep-block-reads
 use Rattle.blocks.proofs.moved.Reads as moved-reads
-use Rattle.service.proofs.head_in.Reads as head-in-reads
-use Rattle.service.proofs.short_of.Reads as short-of-reads
+use Rattle.headers.proofs.head_in.Reads as head-in-reads
+use Rattle.headers.proofs.short_of.Reads as short-of-reads
 use Rattle.blocks.proofs.+read_blocks.{statement}
 use Rattle.blocks.proofs.+read_blocks.Tie.{close}
 

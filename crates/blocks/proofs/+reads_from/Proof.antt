@@ -10,7 +10,7 @@ use Rattle.blocks.proofs.reads_from.Reads as reads-from
 use Rattle.blocks.proofs.reads_from.Kinds as reads-from-kinds
 use Rattle.blocks.proofs.+reads_from.Lts-reads_from as reads-from-lts
 use Rattle.blocks.proofs.moved.Reads as moved-reads
-use Rattle.service.proofs.head_in.Reads as head-in-reads
+use Rattle.headers.proofs.head_in.Reads as head-in-reads
 use Rattle.blocks.proofs.+reads_from.{statement}
 use Rattle.blocks.proofs.+reads_from.Tie.{close}
 

@@ -5,7 +5,7 @@ use Rattle.building.proofs.turns_of.Tie as tie
 use Rattle.building.proofs.turns_of.Reads as reads
 use Rattle.building.proofs.turns_of.Lts as lts
 use Rattle.building.proofs.greater.Reads as greater-reads
-use Rattle.service.proofs.lesser.Reads as lesser-reads
+use Rattle.headers.proofs.lesser.Reads as lesser-reads
 
 returns : tie.Need-returns
 returns c = search needs

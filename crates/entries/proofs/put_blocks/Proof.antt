@@ -8,6 +8,7 @@ use lib.ListN.{length, getD}
 use lib.Seq.{length-sets}
 use denote.Ref.{now}
 use Rattle.entries.proofs.Entries.{Good}
+use Rattle.headers.proofs.Heads.{written-most}
 use Rattle.entries.proofs.Writes.{Laying, laying-first, laying-last, laying-next, good-here, bytes-here, place-here, part-here}
 use Rattle.entries.proofs.put_blocks.Statement.{statement}
 use Rattle.entries.proofs.put_blocks.Tie as tie
@@ -27,6 +28,10 @@ good c = good-here _ _ _ _ _ _ _ _ _ (c .before .before .before .before .loop .i
 
 place : (c : tie.After-wide Inv-loop μ-loop) → c .before .before .before .before .loop .at + (2 + getD (now (c .before .before .before .before .before .before .before .args .sizes)) (c .before .before .before .before .loop .i) 0) ≤ 162
 place c = place-here _ _ _ _ _ _ _ _ _ (c .before .before .before .before .loop .inv .0) (c .before .before .before .loop-test .taken)
+
+-- and its header has at most two bytes
+start : (c : tie.After-written-header-length Inv-loop μ-loop) → c .written-header-length .result ≤ 2
+start c = search (needs, written-most)
 
 loop-holds : tie.Need-loop-holds Inv-loop μ-loop
 loop-holds c = (laying-first _ _ _ _ _ (c .before .before .pre), refl)
@@ -58,17 +63,17 @@ put-block-requires c κs = let a = c .before .before in
     let p = part-here _ _ _ _ _ _ _ _ _ (l .inv .0) (a .before .before .before .loop-test .taken) in
     (omega (arith, l .inv .0 .here), sym (rw (add-sub-cancel-left, a .wide .ensures .0) p), good a .small)
 
-header-size-requires : tie.Need-header-size-requires Inv-loop μ-loop
-header-size-requires c κs = search needs
+written-header-length-requires : tie.Need-written-header-length-requires Inv-loop μ-loop
+written-header-length-requires c κs = search needs
 
 wide-requires-2 : tie.Need-wide-requires-2 Inv-loop μ-loop
 wide-requires-2 c κs = search needs
 
 add-at : tie.Need-add-at Inv-loop μ-loop
-add-at c = omega (arith, c .wide2 .ensures .1, c .before .header-size .ensures .1)
+add-at c = omega (arith, c .wide2 .ensures .1, start (c .before))
 
 add-at-2 : tie.Need-add-at-2 Inv-loop μ-loop
-add-at-2 c = omega (arith, place (c .before .before .before .before .before .before .before), c .wide2 .ensures .1, c .before .header-size .ensures .1)
+add-at-2 c = omega (arith, place (c .before .before .before .before .before .before .before), c .wide2 .ensures .1, start (c .before))
 
 add-i : tie.Need-add-i Inv-loop μ-loop
 add-i c = omega arith
@@ -81,8 +86,8 @@ loop-again c =
     let b = c .before .before .before .before in
     let a = b .before .before .before in
     let l = a .before .before .before .before .loop in (
-      laying-next _ _ _ _ _ _ _ _ _ (l .inv .0) (a .before .before .before .loop-test .taken) (c .before .header-size .result) _ _ _ (c .before .header-size .ensures .0)
-          (ap (λ (x : ℕ). c .before .header-size .result + x) (c .wide2 .ensures .0)) (ap (λ (x : ℕ). l .from + x) (a .wide .ensures .0)) (b .put-block .ensures ∙ rw (add-sub-cancel-left, a .wide .ensures .0)),
+      laying-next _ _ _ _ _ _ _ _ _ (l .inv .0) (a .before .before .before .loop-test .taken) (c .before .written-header-length .result) _ _ _ (c .before .written-header-length .ensures)
+          (ap (λ (x : ℕ). c .before .written-header-length .result + x) (c .wide2 .ensures .0)) (ap (λ (x : ℕ). l .from + x) (a .wide .ensures .0)) (b .put-block .ensures ∙ rw (add-sub-cancel-left, a .wide .ensures .0)),
       ap length (b .put-block .ensures) ∙ simp length-sets (l .inv .1),
     )
 
@@ -107,7 +112,7 @@ put-blocks-spec =
     part-put-block-start
     part-put-block-end
     put-block-requires
-    header-size-requires
+    written-header-length-requires
     wide-requires-2
     add-at
     add-at-2

@@ -6,7 +6,7 @@ use Rattle.sending.proofs.count_of.Tie as tie
 use Rattle.sending.proofs.count_of.Reads as reads
 use Rattle.sending.proofs.count_of.Lts as lts
 use Rattle.sending.proofs.unsent.Reads as unsent-reads
-use Rattle.service.proofs.lesser.Reads as lesser-reads
+use Rattle.headers.proofs.lesser.Reads as lesser-reads
 
 returns : tie.Need-returns
 returns c = search needs

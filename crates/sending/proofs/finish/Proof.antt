@@ -6,7 +6,7 @@ use Rattle.sending.proofs.finish.Reads as reads
 use Rattle.sending.proofs.finish.Lts as lts
 use Rattle.frames.proofs.Frame.carry.Reads as carry-reads
 use Rattle.sending.proofs.triples_left.Reads as triples-left-reads
-use Rattle.service.proofs.lesser.Reads as lesser-reads
+use Rattle.headers.proofs.lesser.Reads as lesser-reads
 
 triples-left-requires : tie.Need-triples-left-requires
 triples-left-requires c κs = search needs

@@ -10,7 +10,8 @@ use borrow.Author.Tests.{not-true, not-false}
 use borrow.Author.Needs.{needs}
 use Rattle.service.specs.declared.Service.{Service}
 use Rattle.service.specs.Service.{validService}
-use Rattle.service.proofs.Services.{header-most, valid-len, write-invalid, write-short, write-fits}
+use Rattle.headers.proofs.Heads.{written-most}
+use Rattle.service.proofs.Services.{valid-len, write-invalid, write-short, write-fits}
 use Rattle.service.proofs.Service.write.Statement.{statement}
 use Rattle.service.proofs.Service.write.Tie as tie
 
@@ -40,7 +41,7 @@ written-header-length-requires : tie.Need-written-header-length-requires
 written-header-length-requires c κs = search needs
 
 add-total : tie.Need-add-total
-add-total c = omega (arith, small (c .before), header-most (S (c .before .before) .number) (c .written-header-length .result) (c .written-header-length .ensures))
+add-total c = omega (arith, small (c .before), written-most (S (c .before .before) .number) (c .written-header-length .result) (c .written-header-length .ensures))
 
 returns-2 : tie.Need-returns-2
 returns-2 c =

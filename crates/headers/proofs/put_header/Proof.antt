@@ -1,9 +1,9 @@
--- `service::put_header` meets its contract: one law of `Heads` for each way in which a header is laid, and nothing is laid past the end. Assumes nothing.
+-- `headers::put_header` meets its contract: one law of `Heads` for each way in which a header is laid, and nothing is laid past the end. Assumes nothing.
 use borrow.Author.Needs.{needs}
-use Rattle.service.proofs.Runs.{sets-past}
-use Rattle.service.proofs.Heads.{laid-one, laid-two, laid-cut}
-use Rattle.service.proofs.put_header.Statement.{statement}
-use Rattle.service.proofs.put_header.Tie as tie
+use Rattle.headers.proofs.Runs.{sets-past}
+use Rattle.headers.proofs.Heads.{laid-one, laid-two, laid-cut}
+use Rattle.headers.proofs.put_header.Statement.{statement}
+use Rattle.headers.proofs.put_header.Tie as tie
 
 returns : tie.Need-returns
 returns c = search (needs, sets-past)

@@ -1,8 +1,8 @@
--- `service::head_in` meets its contract: no bytes are left, or the first and the one behind it tell the header. Assumes nothing.
-use Rattle.service.proofs.Heads.{none-in, some-in}
+-- `headers::head_in` meets its contract: no bytes are left, or the first and the one behind it tell the header. Assumes nothing.
+use Rattle.headers.proofs.Heads.{none-in, some-in}
 use borrow.Author.Needs.{needs}
-use Rattle.service.proofs.head_in.Statement.{statement}
-use Rattle.service.proofs.head_in.Tie as tie
+use Rattle.headers.proofs.head_in.Statement.{statement}
+use Rattle.headers.proofs.head_in.Tie as tie
 
 lesser-requires : tie.Need-lesser-requires
 lesser-requires c κs = search needs

@@ -6,8 +6,8 @@ use Prim.Native.Nat.{ℕ, _≤_}
 use lib.ListN.{length, getD, replicate}
 use Rattle.model.specs.Said.{Said, badValue, lengthMismatch}
 use Rattle.model.specs.Block.{headerLength, blockSize, numberIn, needed, isShort, blockLength}
-use Rattle.service.specs.declared.Head.{Head}
-use Rattle.service.specs.declared.Head.the-variants.{Whole, Short}
+use Rattle.headers.specs.declared.Head.{Head}
+use Rattle.headers.specs.declared.Head.the-variants.{Whole, Short}
 
 -- "On reading, bytes missing give 1 with the count needed"; else the number, where the payload starts and its size
 unfoldable pub headOf : List ℕ → Head
@@ -17,7 +17,7 @@ headOf d = cond (isShort d) (Short (needed d)) (Whole (numberIn d) (headerLength
 abbrev pub HeadBy : ℕ → ℕ → ℕ → Head → Type 0
 HeadBy first second n r = (d : List ℕ) → length d ≡ n → first ≡ getD d 0 0 → (2 ≤ n → second ≡ getD d 1 0) → r ≡ headOf d
 
--- for the proofs: the length of a block by its number and the size of its payload, for which any bytes may stand
+-- the length of a block by its number and the size of its payload, for which any bytes may stand
 abbrev pub lengthFor : ℕ → ℕ → ℕ
 lengthFor number size = blockLength (record { number = number; payload = replicate size 0 })
 

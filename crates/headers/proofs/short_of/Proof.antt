@@ -1,7 +1,7 @@
--- `service::short_of` meets its contract: each case of the header says what `saidShort` says of it. Assumes nothing.
+-- `headers::short_of` meets its contract: each case of the header says what `saidShort` says of it. Assumes nothing.
 use borrow.Author.Needs.{needs}
-use Rattle.service.proofs.short_of.Statement.{statement}
-use Rattle.service.proofs.short_of.Tie as tie
+use Rattle.headers.proofs.short_of.Statement.{statement}
+use Rattle.headers.proofs.short_of.Tie as tie
 
 enum-told : tie.Need-enum-told
 enum-told c = search needs

@@ -1,8 +1,8 @@
--- `service::header_length` meets its contract: one law of `Heads` for each way out, two bytes only for number 7 with a size. Assumes nothing.
+-- `headers::header_length` meets its contract: one law of `Heads` for each way out, two bytes only for number 7 with a size. Assumes nothing.
 use borrow.Author.Needs.{needs}
-use Rattle.service.proofs.Heads.{two-bytes, one-byte, bare-byte}
-use Rattle.service.proofs.header_length.Statement.{statement}
-use Rattle.service.proofs.header_length.Tie as tie
+use Rattle.headers.proofs.Heads.{two-bytes, one-byte, bare-byte}
+use Rattle.headers.proofs.header_length.Statement.{statement}
+use Rattle.headers.proofs.header_length.Tie as tie
 
 returns : tie.Need-returns
 returns c = search (needs, two-bytes)

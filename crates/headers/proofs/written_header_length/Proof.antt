@@ -1,7 +1,7 @@
--- `service::written_header_length` meets its contract: its two ways out are the two cases of the number. Assumes nothing.
+-- `headers::written_header_length` meets its contract: its two ways out are the two cases of the number. Assumes nothing.
 use borrow.Author.Tests.{lt-ltb, le-ltb}
-use Rattle.service.proofs.written_header_length.Statement.{statement}
-use Rattle.service.proofs.written_header_length.Tie as tie
+use Rattle.headers.proofs.written_header_length.Statement.{statement}
+use Rattle.headers.proofs.written_header_length.Tie as tie
 
 returns : tie.Need-returns
 returns c = simp (lt-ltb _ _ (c .if1 .taken))

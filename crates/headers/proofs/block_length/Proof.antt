@@ -1,9 +1,9 @@
--- `service::block_length` meets its contract: its three ways out are the three cases of `length-by`, by the tests on the way. Assumes nothing.
+-- `headers::block_length` meets its contract: its three ways out are the three cases of `length-by`, by the tests on the way. Assumes nothing.
 use borrow.Author.Tests.{eq-eqb, ne-eqb, lt-ltb, le-ltb}
 use borrow.Author.Needs.{needs}
-use Rattle.service.proofs.Heads.{length-by}
-use Rattle.service.proofs.block_length.Statement.{statement}
-use Rattle.service.proofs.block_length.Tie as tie
+use Rattle.headers.proofs.Heads.{length-by}
+use Rattle.headers.proofs.block_length.Statement.{statement}
+use Rattle.headers.proofs.block_length.Tie as tie
 
 returns : tie.Need-returns
 returns c = rw (length-by _ _) (simp (eq-eqb _ _ (c .if1 .taken)))

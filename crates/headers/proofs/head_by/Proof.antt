@@ -1,10 +1,10 @@
--- `service::head_by` meets its contract: one law of `Heads` for each way out, in the order of the tests: header cut, body cut, a number in the second byte, in
+-- `headers::head_by` meets its contract: one law of `Heads` for each way out, in the order of the tests: header cut, body cut, a number in the second byte, in
 -- the first. Assumes nothing.
 use native.Mathlib.Omega.{arith}
-use Rattle.service.proofs.Heads.{header-most, head-cut, body-cut, head-two, head-one}
+use Rattle.headers.proofs.Heads.{header-most, head-cut, body-cut, head-two, head-one}
 use borrow.Author.Needs.{needs}
-use Rattle.service.proofs.head_by.Statement.{statement}
-use Rattle.service.proofs.head_by.Tie as tie
+use Rattle.headers.proofs.head_by.Statement.{statement}
+use Rattle.headers.proofs.head_by.Tie as tie
 
 header-length-requires : tie.Need-header-length-requires
 header-length-requires c κs = search needs

@@ -10,14 +10,14 @@ use lib.Dec.{eqb, ltb}
 use lib.ListN.{length, take, drop, getD, set, replicate, length-replicate, length-take, length-drop, drop-of-length-le, length-set}
 use lib.Seq.{sets, getD-take, getD-drop, set-out}
 use borrow.Author.Tests.{eq-eqb, ne-eqb, lt-ltb, le-ltb, ltb-false}
-use Rattle.model.specs.Block.{Block, topNumber, blockSize, headerLength, numberIn, needed, isShort, blockIn, partIn, writtenHeader, writtenBlock, blockLength}
+use Rattle.model.specs.Block.{Block, topNumber, blockSize, headerLength, numberIn, needed, isShort, writtenHeader, writtenBlock, blockLength}
 use Rattle.model.proofs.Cases.{by-cond}
 use Rattle.model.proofs.Blocks.{header-one, header-two, header-bare, header-written, written-length}
 use Rattle.model.proofs.Limits.{all-there}
-use Rattle.service.specs.declared.Head.{Head}
-use Rattle.service.specs.declared.Head.the-variants.{Whole, Short}
-use Rattle.service.specs.Head.{headOf, HeadBy, lengthFor}
-use Rattle.service.proofs.Runs.{sets-append}
+use Rattle.headers.specs.declared.Head.{Head}
+use Rattle.headers.specs.declared.Head.the-variants.{Whole, Short}
+use Rattle.headers.specs.Head.{headOf, HeadBy, lengthFor}
+use Rattle.headers.proofs.Runs.{sets-append}
 
 -- the header's own length
 pub two-bytes : (h : ℕ) → h / 32 % 8 ≡ 7 → (h % 32 ≡ 0 → ⊥) → 2 ≡ headerLength h
@@ -40,6 +40,10 @@ header-least h = by-cond (λ n. 1 ≤ n) (eqb (topNumber h) 7 && not (eqb (block
 pub header-most : (h : ℕ) → headerLength h ≤ 2
 unfolding headerLength
 header-most h = by-cond (λ n. n ≤ 2) (eqb (topNumber h) 7 && not (eqb (blockSize h) 0)) (λ _. omega arith) (λ _. omega arith)
+
+-- a header is written in one byte or in two
+pub written-most : (n start : ℕ) → start ≡ cond (ltb n 7) 1 2 → start ≤ 2
+written-most n start e = rw e (by-cond (λ k. k ≤ 2) (ltb n 7) (λ _. omega arith) (λ _. omega arith))
 
 -- bytes of this many that begin so
 module _ (d : List ℕ) (n h second start : ℕ) (is : length d ≡ n) (first : h ≡ getD d 0 0) (e : start ≡ headerLength h) where
@@ -171,18 +175,3 @@ module _ (d : List ℕ) where
   pub head-short : (k : ℕ) → headOf d ≡ Short k → (isShort d ≡ true) × (needed d ≡ k)
   unfolding headOf
   head-short k e = short-parts (isShort d) _ _ _ _ k e
-
-  -- the part handed back: none, none of number 0, and the payload
-  pub part-short : (k : ℕ) → headOf d ≡ Short k → [] ≡ partIn d
-  unfolding partIn
-  part-short k e = simp (head-short k e .0)
-
-  -- none where the number is 0
-  pub part-null : (n st sz : ℕ) → headOf d ≡ Whole n st sz → n ≡ 0 → [] ≡ partIn d
-  unfolding partIn blockIn
-  part-null n st sz e z = let h = headed n st sz e in simp (h .whole, h .number, eq-eqb n 0 z)
-
-  -- else the payload
-  pub part-some : (n st sz : ℕ) → headOf d ≡ Whole n st sz → (n ≡ 0 → ⊥) → take sz (drop st d) ≡ partIn d
-  unfolding partIn blockIn
-  part-some n st sz e z = let h = headed n st sz e in simp (h .whole, h .number, ne-eqb n 0 z, h .start, h .size)

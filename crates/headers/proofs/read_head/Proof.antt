@@ -1,8 +1,8 @@
--- `service::read_head` meets its contract: what is left has no byte, one, or two and more, and `head_by` tells its header. Assumes nothing.
-use Rattle.service.proofs.Heads.{none-at, one-at, some-at}
+-- `headers::read_head` meets its contract: what is left has no byte, one, or two and more, and `head_by` tells its header. Assumes nothing.
+use Rattle.headers.proofs.Heads.{none-at, one-at, some-at}
 use borrow.Author.Needs.{needs}
-use Rattle.service.proofs.read_head.Statement.{statement}
-use Rattle.service.proofs.read_head.Tie as tie
+use Rattle.headers.proofs.read_head.Statement.{statement}
+use Rattle.headers.proofs.read_head.Tie as tie
 
 head-by-requires : tie.Need-head-by-requires
 head-by-requires c κs = search needs
