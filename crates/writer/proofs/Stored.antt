@@ -19,7 +19,7 @@ use Rattle.model.proofs.MuxStates.{MuxLimits, mux-facts, pads-valid, push608-va
 use Rattle.turns.specs.Queue.{pairsOf, queueOf, pairBytes, queueOver}
 use Rattle.turns.proofs.Queues.{over-same, over-queue, over-sized}
 use Rattle.turns.proofs.Steps.{not-not}
-use Rattle.service.proofs.Runs.{sets-front}
+use Rattle.headers.proofs.Runs.{sets-front}
 use Rattle.slots.specs.Slot.{slotWith, writtenBytes, slotPacket, writtenSlot}
 use Rattle.slots.proofs.Written.{slot-reads, facts-written}
 use Rattle.slots.specs.declared.Slot.{Slot}
