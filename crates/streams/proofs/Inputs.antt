@@ -1,8 +1,8 @@
 -- A program that reads its input to the end, one read after another. Assumes nothing.
-use mathlib.Core.Path.{_≡_, refl, sym, ap, _∙_}
+use mathlib.Core.Path.{_≡_, refl, sym, _∙_}
 use mathlib.Core.Bool.{Bool, true, false, cond, false≢true}
 use mathlib.Core.List.{List, [], _++_, append-nil}
-use Prim.Native.Nat.{ℕ, zero, suc, _+_, _%_, _^_, _≤_, _<_}
+use Prim.Native.Nat.{ℕ, zero, suc, _+_, _≤_, _<_}
 use native.Mathlib.Omega.{arith}
 use lib.Dec.{eqb, ltb}
 use lib.ListN.{length, take, drop, getD, length-drop}
@@ -12,7 +12,7 @@ use Rattle.records.specs.Reading.{canBe, recordLength, missing, foundIn}
 use Rattle.records.specs.declared.Found.{Found}
 use Rattle.records.specs.declared.Found.the-variants as found
 use Rattle.streams.specs.Ends.{leftAt, goesOn}
-use Rattle.streams.specs.Walk.{Told, Walked, body, before, stop, ifRecord, walked, told, resumed, Kept, Follow}
+use Rattle.streams.specs.Walk.{Told, Walked, before, ifRecord, walked, told, resumed, Kept, Follow}
 use Rattle.streams.specs.declared.Left.{Left}
 use Rattle.streams.specs.declared.Left.the-variants.{More, Stopped, Ended}
 use Rattle.streams.proofs.Walks.{by-front}
