@@ -19,13 +19,14 @@ use Rattle.caption.specs.declared.Refusal.{Refusal}
 use Rattle.caption.specs.Answers.{saidRefusal}
 use Rattle.caption.proofs.Answers.{saidCounted-injective}
 use Rattle.service.specs.declared.Service.{Service}
-use Rattle.service.specs.Service.{blockOf, laid}
+use Rattle.service.specs.Service.{blockOf, over, blank}
 use Rattle.service.proofs.Kept.{laid-means}
 use Rattle.packet.specs.declared.DTVCCPacket.{DTVCCPacket}
 use Rattle.packet.specs.declared.Place.the-variants.{Here, Nothing, Refused}
 use Rattle.packet.specs.declared.ServiceAt.{ServiceAt}
 use Rattle.packet.specs.Packet.{packetOf, validDTVCC}
-use Rattle.packet.specs.Place.{Placed, blocksAt, saidPlace}
+use Rattle.packet.specs.Place.{Placed, saidPlace}
+use Rattle.packet.proofs.Placed.{blocksAt}
 use Rattle.packet.proofs.Holds.{within-facts}
 use Rattle.records.specs.Laid.{Laid}
 use Rattle.records.proofs.Layings.{laid-within, laid-append}
@@ -76,14 +77,13 @@ record At (p : DTVCCPacket) (i : ℕ) (s : Service) : Type 0 where
 module _ (p : DTVCCPacket) (i : ℕ) (h : ServiceAt) (w : Placed (blocksAt i p) h) (v : Bool) (l : List Block) (e : validDTVCC p ≡ v)
     (f : drop i (packetOf p .blocks) ≡ l) where
   found : blocksAt i p ≡ checked v (gave (take 1 l))
-  unfolding blocksAt
   found = rw (e, f)
 
   said : saidPlace (h .place) ≡ saysWith (λ (bs : List Block). length bs ∷ []) (checked v (gave (take 1 l)))
   said = w .place ∙ ap (saysWith (λ (bs : List Block). length bs ∷ [])) found
 
-  held : h .service ≡ laid (getD (after [] (checked v (gave (take 1 l)))) 0 noBlock)
-  held = w .service ∙ ap (λ (o : Outcome (List Block)). laid (getD (after [] o) 0 noBlock)) found
+  held : h .service ≡ over blank (getD (after [] (checked v (gave (take 1 l)))) 0 noBlock)
+  held = w .service ∙ ap (λ (o : Outcome (List Block)). over blank (getD (after [] o) 0 noBlock)) found
 
   blocks-are : drop i (blocksIn p) ≡ drop i (cond v (packetOf p .blocks) [])
   unfolding blocksIn

@@ -33,13 +33,14 @@ module _ {S : Type 0} where
   abbrev pub chosen : Said → S → S → S
   chosen said new old = cond (eqb (said .number) 0) new old
 
-  -- a call that makes a new one, beside whose refusal `blank` stands
-  abbrev pub makes : S → S → Outcome S → Effect S
-  makes blank old o = tells (says o) (chosen (says o) (after blank o) old)
+  -- a call that makes a new one, laid over `blank`, which stands beside a refusal
+  abbrev pub makes : {M : Type 0} → (S → M → S) → S → S → Outcome M → Effect S
+  makes over blank old o = tells (says o) (chosen (says o) (after blank (mapped (over blank) o)) old)
 
   -- the same where a line tells of what was made
-  abbrev pub reads : (Said → S → List ℕ) → S → S → Outcome S → Effect S
-  reads lineOf blank old o = record { line = lineOf (says o) (after blank o); next = chosen (says o) (after blank o) old }
+  abbrev pub reads : {M : Type 0} → (Said → S → List ℕ) → (S → M → S) → S → S → Outcome M → Effect S
+  reads lineOf over blank old o =
+      record { line = lineOf (says o) (after blank (mapped (over blank) o)); next = chosen (says o) (after blank (mapped (over blank) o)) old }
 
   -- fields that are set: "check nothing (each prints `ok`)"
   abbrev pub becomes : S → Effect S

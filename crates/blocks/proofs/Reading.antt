@@ -1,7 +1,7 @@
 -- How the blocks of a packet are read into their places, step by step. Assumes nothing.
 use mathlib.Core.Path.{_≡_, refl, sym, ap, _∙_}
 use mathlib.Core.Bool.{Bool, true, false, cond}
-use mathlib.Core.List.{List, [], _∷_, _++_, map, append-assoc, append-nil}
+use mathlib.Core.List.{List, [], _∷_, _++_, map, flatMap, append-assoc, append-nil}
 use Prim.Native.Nat.{ℕ, zero, suc, _+_, _-_, _*_, _≤_, _<_}
 use native.Mathlib.Nat.{add-zero}
 use native.Mathlib.Omega.{arith}
@@ -31,6 +31,7 @@ use Rattle.blocks.specs.Reading.{moveBy, moveFor, keptFor, Laid, behind,
 
 -- what is laid behind other blocks
 pub payloads-append : (bs cs : List Block) → payloadsOf (bs ++ cs) ≡ payloadsOf bs ++ payloadsOf cs
+unfolding flatMap
 payloads-append [] cs = refl
 payloads-append (b ∷ bs) cs = ap (λ (l : List ℕ). b .payload ++ l) (payloads-append bs cs) ∙ sym (append-assoc (b .payload) (payloadsOf bs) (payloadsOf cs))
 
@@ -180,7 +181,7 @@ module _ (tidy : Bool) (d : List ℕ) (here : ℕ) (left : here < length d) wher
         record { within = omega (arith, move-bounds .most); short = room .short; blocks = omega (arith, room .blocks); bytes = omega (arith, room .bytes) }
 
     room-behind : (at : Kept) → Room at here (length d) → Room (behind (keptFor n body) at) (here + moveFor tidy n st sz) (length d)
-    unfolding keptFor
+    unfolding keptFor flatMap
     room-behind at room =
         by-cond (λ (bs : List Block). Room (behind bs at) (here + moveFor tidy n st sz) (length d)) (eqb n 0) (λ _. none)
         (λ a. by-cond (λ (bs : List Block). Room (behind bs at) (here + moveFor tidy n st sz) (length d)) (eqb (length body) 0) (λ _. none)
@@ -232,7 +233,7 @@ module _ (b : List ℕ) (end : ℕ) (fits : end ≤ length b) where
 
     -- and nothing more is stored
     pub stored-none : (at : Kept) (n s p : List ℕ) → end ≤ here → Stored (from here) at (Count (at .count)) n s p n s p
-    unfolding Stored
+    unfolding Stored flatMap
     stored-none at n s p h =
         rw (from-none h) (ap Count (sym (add-zero (at .count))), record { numbers = refl; sizes = refl; payload = refl })
 
@@ -302,6 +303,7 @@ module _ (b : List ℕ) (end : ℕ) (fits : end ≤ length b) where
 -- a block laid in its place
 pub entry-laid : (number k : ℕ) (run : List ℕ) (at : Kept) (n s p p₁ : List ℕ) → k ≡ length run → p₁ ≡ sets p (at .used) run
     → Laid (blockFrom number run ∷ []) at n s p (set n (at .count) number) (set s (at .count) k) p₁
+unfolding flatMap
 entry-laid number k run at n s p p₁ e q = record { numbers = refl; sizes = rw e; payload = q ∙ rw (append-nil run) }
 
 -- one block kept, or none, by each way out
@@ -310,16 +312,16 @@ module _ (number : ℕ) (part : List ℕ) (at : Kept) (n s p : List ℕ) where
   KeptAs r n₁ s₁ p₁ = (r ≡ behind (keptFor number part) at) × Laid (keptFor number part) at n s p n₁ s₁ p₁
 
   pub keep-null : number ≡ 0 → KeptAs at n s p
-  unfolding keptFor
+  unfolding keptFor flatMap
   keep-null z = rw (eq-eqb number 0 z) (rw (add-zero, add-zero), record { numbers = refl; sizes = refl; payload = refl })
 
   pub keep-empty : (number ≡ 0 → ⊥) → length part ≡ 0 → KeptAs at n s p
-  unfolding keptFor
+  unfolding keptFor flatMap
   keep-empty m z = rw (ne-eqb number 0 m, eq-eqb (length part) 0 z) (rw (add-zero, add-zero), record { numbers = refl; sizes = refl; payload = refl })
 
   pub keep-some : (size : ℕ) (p₁ : List ℕ) → (number ≡ 0 → ⊥) → (size ≡ 0 → ⊥) → length part ≡ size → p₁ ≡ sets p (at .used) part
       → KeptAs (record { count = at .count + 1; used = at .used + size }) (set n (at .count) number) (set s (at .count) size) p₁
-  unfolding keptFor
+  unfolding keptFor flatMap
   keep-some size p₁ m z l e =
       let q : eqb (length part) 0 ≡ false = ne-eqb (length part) 0 (λ w. z (sym l ∙ w)) in
       rw (ne-eqb number 0 m, q) (rw (append-nil part, l), entry-laid number size part at n s p p₁ (sym l) e)

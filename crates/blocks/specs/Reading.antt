@@ -17,10 +17,11 @@ use Rattle.blocks.specs.declared.Kept.{Kept}
 use Rattle.blocks.specs.declared.Filled.{Filled}
 use Rattle.entries.specs.Fields.{Fields, fields, zeros, over, numbersOf, sizesOf, payloadsOf}
 
--- the two readers
+-- how far each of the two readers moves on
 abbrev pub moveBy : Bool → List ℕ → ℕ
 moveBy tidy d = cond tidy (tidyMove d) (plainMove d)
 
+-- the two readers
 unfoldable pub readAs : Bool → List ℕ → Outcome Packet
 readAs tidy d = cond tidy (readTidy d) (readPacket d)
 

@@ -15,7 +15,7 @@ use Rattle.caption.proofs.Answers.{answerOf, refused-again, saidAnswer-injectiv
 use Rattle.caption.specs.declared.Answer.{Answer}
 use Rattle.caption.specs.Answers.{saidAnswer}
 use Rattle.service.specs.declared.Service.{Service}
-use Rattle.packet.specs.Packet.{Answers, Pushes}
+use Rattle.packet.specs.Packet.{Answers}
 use Rattle.packet.specs.Place.{saidPlace, Placed}
 use Rattle.packet.specs.declared.DTVCCPacket.{DTVCCPacket}
 use Rattle.packet.specs.declared.PacketAnswer.{PacketAnswer}
@@ -63,12 +63,8 @@ answer-same r q e f = two (λ (x : Answer) (p : DTVCCPacket). record { answer = 
 
 module _ {A E : Type 0} where
   -- an answer and a packet
-  answers : {o : A → Outcome DTVCCPacket} {beside : A → DTVCCPacket} → Determines (λ (a : A) (r : PacketAnswer) (e : E). Answers (o a) (beside a) r)
-  answers = record { result = λ a r q e f h k. answer-same r q (h .answer ∙ sym (k .answer)) (h .packet ∙ sym (k .packet)) }
-
-  -- a packet that is pushed to
-  pushes : {o : A → Outcome Packet} {p : A → DTVCCPacket} → Determines (λ (a : A) (r : PacketAnswer) (e : E). Pushes (o a) (p a) r)
-  pushes = record { result = λ a r q e f h k. answer-same r q (h .answer ∙ sym (k .answer)) (h .places ∙ sym (k .places)) }
+  answers : {o : A → Outcome Packet} {old : A → DTVCCPacket} → Determines (λ (a : A) (r : PacketAnswer) (e : E). Answers (o a) (old a) r)
+  answers = record { result = λ a r q e f h k. answer-same r q (h .answer ∙ sym (k .answer)) (h .places ∙ sym (k .places)) }
 
   -- a place and the block there
   placed : {o : A → Outcome (List Block)} → Determines (λ (a : A) (r : ServiceAt) (e : E). Placed (o a) r)
@@ -124,15 +120,15 @@ DTVCCPacket-service = placed
 
 -- `packet.push_service(service)`
 pub DTVCCPacket-push-service : Determines (push_service.Post (tt {0}))
-DTVCCPacket-push-service = pushes
+DTVCCPacket-push-service = answers
 
 -- `packet.push_code(service_no, code)`
 pub DTVCCPacket-push-code : (κs : Lfts 1) → Determines (push_code.Post κs)
-DTVCCPacket-push-code κs = pushes
+DTVCCPacket-push-code κs = answers
 
 -- `packet.push_code_into_single_service(service_no, code)`
 pub DTVCCPacket-push-code-into-single-service : (κs : Lfts 1) → Determines (push_code_into_single_service.Post κs)
-DTVCCPacket-push-code-into-single-service κs = pushes
+DTVCCPacket-push-code-into-single-service κs = answers
 
 -- `DTVCCPacket::parse(data)`
 pub DTVCCPacket-parse : (κs : Lfts 1) → Determines (parse.Post κs)

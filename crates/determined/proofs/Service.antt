@@ -11,7 +11,7 @@ use Rattle.caption.proofs.Answers.{saidAnswer-injective, saidCounted-injective,
 use Rattle.caption.specs.declared.Answer.{Answer}
 use Rattle.caption.specs.declared.Counted.{Counted}
 use Rattle.caption.specs.Answers.{saidAnswer}
-use Rattle.service.specs.Service.{Answers, Pushes, Writes}
+use Rattle.service.specs.Service.{Answers, Writes}
 use Rattle.service.specs.declared.Service.{Service}
 use Rattle.service.specs.declared.ServiceAnswer.{ServiceAnswer}
 use Rattle.service.proofs.payload_of.Reads as payload_of
@@ -33,12 +33,8 @@ answer-same r q e f = two (λ (x : Answer) (s : Service). record { answer = x; s
 
 module _ {A E : Type 0} where
   -- an answer and a block
-  pub answers : {o : A → Outcome Service} {beside : A → Service} → Determines (λ (a : A) (r : ServiceAnswer) (e : E). Answers (o a) (beside a) r)
-  answers = record { result = λ a r q e f h k. answer-same r q (h .answer ∙ sym (k .answer)) (h .service ∙ sym (k .service)) }
-
-  -- a block that is pushed to
-  pub pushes : {o : A → Outcome Block} {s : A → Service} → Determines (λ (a : A) (r : ServiceAnswer) (e : E). Pushes (o a) (s a) r)
-  pushes = record { result = λ a r q e f h k. answer-same r q (h .answer ∙ sym (k .answer)) (h .places ∙ sym (k .places)) }
+  pub answers : {o : A → Outcome Block} {old : A → Service} → Determines (λ (a : A) (r : ServiceAnswer) (e : E). Answers (o a) (old a) r)
+  answers = record { result = λ a r q e f h k. answer-same r q (h .answer ∙ sym (k .answer)) (h .places ∙ sym (k .places)) }
 
   -- bytes written to a lent output, and how many
   pub writes : {valid : A → Bool} {bytes before : A → List ℕ} {lent : E → List ℕ} → DeterminesLent lent (λ (a : A) (r : Counted) (e : E). Writes (valid a) (bytes a) (before a) r (lent e))
@@ -75,7 +71,7 @@ Service-is-empty = said saidTruth-injective
 
 -- `service.push_code(code)`
 pub Service-push-code : (κs : Lfts 1) → Determines (push_code.Post κs)
-Service-push-code κs = pushes
+Service-push-code κs = answers
 
 -- `Service::parse(data)`
 pub Service-parse : (κs : Lfts 1) → Determines (parse.Post κs)

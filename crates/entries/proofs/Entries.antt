@@ -1,7 +1,7 @@
 -- The entries of a packet's arrays, and the blocks that are cut by them. Assumes nothing.
 use mathlib.Core.Path.{_≡_, refl, sym, ap, ap₂, _∙_}
 use mathlib.Core.Bool.{true, cond, _&&_}
-use mathlib.Core.List.{List, [], _∷_, _++_, map, append-assoc}
+use mathlib.Core.List.{List, [], _∷_, _++_, map, flatMap, append-assoc}
 use Prim.Native.Nat.{ℕ, zero, suc, _+_, _-_, _*_, _≤_, _<_}
 use native.Mathlib.Nat.{add-zero, zero-add}
 use native.Mathlib.Omega.{arith}
@@ -111,7 +111,7 @@ held-cut (suc k) ns ss d = ap (λ (bs : List Block). record { number = getD ns 0
 
 -- the payloads before a place, by the sizes alone
 pub used-sum : (j k : ℕ) (ns ss : List ℕ) → j ≤ k → usedBy (take j (entries k ns ss)) ≡ sumOf (take j ss)
-unfolding usedBy entries sumOf
+unfolding usedBy entries
 used-sum zero k ns ss h = refl
 used-sum (suc j) zero ns ss h = absurd (omega arith)
 used-sum (suc j) (suc k) ns [] h = zero-add _ ∙ used-sum j k (drop 1 ns) [] (omega arith) ∙ rw (take-nil {A = ℕ} j)
@@ -137,7 +137,7 @@ cut-sizes [] d h = refl
 cut-sizes (e ∷ es) d h = ap₂ (λ (x : ℕ) (l : List ℕ). x ∷ l) (length-take-le (e .size) d (omega arith)) (cut-sizes es (drop (e .size) d) (rw length-drop (omega arith)))
 
 pub cut-payloads : (es : List Entry) (d : List ℕ) → payloadsOf (cut es d) ≡ take (usedBy es) d
-unfolding cut usedBy
+unfolding cut usedBy flatMap
 cut-payloads [] d = refl
 cut-payloads (e ∷ es) d = ap (λ (l : List ℕ). take (e .size) d ++ l) (cut-payloads es (drop (e .size) d)) ∙ sym (take-add (e .size) (usedBy es) d)
 
@@ -198,7 +198,7 @@ entries-laid [] x y = refl
 entries-laid (b ∷ bs) x y = ap (λ (l : List Entry). entryOf b ∷ l) (entries-laid bs x y)
 
 pub cut-laid : (bs : List Block) (z : List ℕ) → cut (map entryOf bs) (payloadsOf bs ++ z) ≡ bs
-unfolding cut
+unfolding cut flatMap
 cut-laid [] z = refl
 cut-laid (b ∷ bs) z =
     let n : take (length (b .payload)) ((b .payload ++ payloadsOf bs) ++ z) ≡ b .payload = rw append-assoc (take-at (b .payload) (payloadsOf bs ++ z) (length (b .payload)) refl) in
@@ -222,6 +222,6 @@ laid-lengths (b ∷ bs) ok =
     ap₂ (λ (x y : ℕ). x + y) (sym (block-lengths (b .number) (length (b .payload)) (b .payload) (carriable-facts b (f .0) .filled) refl)) (laid-lengths bs (f .1))
 
 pub payloads-length : (bs : List Block) → length (payloadsOf bs) ≡ usedBy (map entryOf bs)
-unfolding usedBy
+unfolding usedBy flatMap
 payloads-length [] = refl
 payloads-length (b ∷ bs) = length-append (b .payload) (payloadsOf bs) ∙ ap (λ n. length (b .payload) + n) (payloads-length bs)

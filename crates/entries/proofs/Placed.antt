@@ -9,7 +9,7 @@ use lib.Seq.{sets, take-all, take-nil}
 use borrow.Author.Tests.{lt-ltb, le-ltb, leb-true, leb-false}
 use Rattle.model.proofs.Cases.{by-test}
 use Rattle.service.specs.declared.Service.{Service}
-use Rattle.service.specs.Service.{laid, blank}
+use Rattle.service.specs.Service.{over, blank}
 use Rattle.service.proofs.Services.{laid-as}
 use Rattle.entries.specs.Fields.{blockFrom}
 use Rattle.entries.specs.Extent.{sumTo, blockAt}
@@ -37,6 +37,6 @@ module _ (i : ℕ) (ns ss d : List ℕ) where
   place-is h k s f e p a b full m q z = rw (z, part-within d 127 s k f e full m q, a, b) (simp (lt-ltb i 63 h))
 
   -- it is laid in its places, where its payload is all there
-  pub place-block : i < 63 → length (take (getD ss i 0) (drop (sumTo i ss) d)) ≡ getD ss i 0 → blockAt i ns ss d ≡ laid (blockFrom (getD ns i 0) (take (getD ss i 0) (drop (sumTo i ss) d)))
+  pub place-block : i < 63 → length (take (getD ss i 0) (drop (sumTo i ss) d)) ≡ getD ss i 0 → blockAt i ns ss d ≡ over blank (blockFrom (getD ns i 0) (take (getD ss i 0) (drop (sumTo i ss) d)))
   unfolding blockAt
   place-block h e = simp (lt-ltb i 63 h) (laid-as (getD ns i 0) (getD ss i 0) _ (take (getD ss i 0) (drop (sumTo i ss) d)) e refl)

@@ -127,7 +127,6 @@ module _ (ns : List ℕ) (n : ℕ) where
 
 -- a sum, one place further
 sum-more : (l : List ℕ) (m i : ℕ) → sumOf (take (suc m) (drop i l)) ≡ getD l i 0 + sumOf (take m (drop (suc i) l))
-unfolding sumOf
 sum-more [] m i = rw (drop-nil {A = ℕ} i, take-nil {A = ℕ} m)
 sum-more (x ∷ l) m zero = refl
 sum-more (x ∷ l) m (suc i) = sum-more l m i
@@ -138,7 +137,6 @@ sum-at l count i h =
     rw (e, sum-more l (count - (i + 1)) i, add-one i)
 
 pub sum-done : (l : List ℕ) (count i : ℕ) → count ≤ i → sumOf (take (count - i) (drop i l)) ≡ 0
-unfolding sumOf
 sum-done l count i h = let z : count - i ≡ 0 = omega arith in rw z
 
 -- no more sizes than places

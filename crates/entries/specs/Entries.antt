@@ -20,6 +20,7 @@ unfoldable pub entries : ℕ → List ℕ → List ℕ → List Entry
 entries zero ns ss = []
 entries (suc k) ns ss = record { number = getD ns 0 0; size = getD ss 0 0 } ∷ entries k (drop 1 ns) (drop 1 ss)
 
+-- those of places
 abbrev pub entriesOf : Fields → List Entry
 entriesOf p = entries (p .count) (p .numbers) (p .sizes)
 
@@ -28,27 +29,30 @@ unfoldable pub cut : List Entry → List ℕ → List Block
 cut [] d = []
 cut (e ∷ es) d = record { number = e .number; payload = take (e .size) d } ∷ cut es (drop (e .size) d)
 
--- entries within the limits: none of number 0, none without payload
+-- an entry within the limits: not of number 0, not without payload
 unfoldable pub goodEntry : ℕ → ℕ → Bool
 goodEntry n k = (leb 1 n && leb n 63) && (leb 1 k && leb k 31)
 
+-- all of them
 unfoldable pub goodEntries : List Entry → Bool
 goodEntries [] = true
 goodEntries (e ∷ es) = goodEntry (e .number) (e .size) && goodEntries es
 
--- the sum of the blocks' lengths, and of their payloads
+-- the sum of the blocks' lengths
 unfoldable pub lengthsOf : List Entry → ℕ
 lengthsOf [] = 0
 lengthsOf (e ∷ es) = lengthFor (e .number) (e .size) + lengthsOf es
 
+-- the sum of their payloads' lengths
 unfoldable pub usedBy : List Entry → ℕ
 usedBy [] = 0
 usedBy (e ∷ es) = e .size + usedBy es
 
--- the test of a packet's limits
+-- the test of a packet's limits, by its sequence number, its count and its entries
 unfoldable pub validAs : ℕ → ℕ → List Entry → Bool
 validAs q k es = leb q 3 && (leb k 63 && (goodEntries es && leb (lengthsOf es) 127))
 
+-- the same of places
 abbrev pub validEntries : Fields → Bool
 validEntries p = validAs (p .«seq_no») (p .count) (entriesOf p)
 

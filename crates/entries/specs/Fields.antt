@@ -1,7 +1,8 @@
--- The places of a packet: what three arrays of numbers, sizes and payloads hold, and when that breaks no limit. Assumes nothing.
+-- The places of a packet: what three arrays of numbers, sizes and payloads hold, and when that breaks no limit. But for `blocksHeld` this is for the
+-- functions and the proofs of this crate, of `blocks`, `pushes` and `packet`, which says the same of its own struct. Assumes nothing.
 use mathlib.Core.Path.{_≡_}
 use mathlib.Core.Bool.{Bool, _&&_}
-use mathlib.Core.List.{List, [], _∷_, _++_, map}
+use mathlib.Core.List.{List, [], _∷_, map, flatMap, foldr}
 use Prim.Native.Nat.{ℕ, zero, suc, _+_}
 use lib.Dec.{leb}
 use lib.ListN.{length, getD, take, drop, replicate}
@@ -9,7 +10,12 @@ use lib.Seq.{sets}
 use Rattle.model.specs.Block.{Block}
 use Rattle.model.specs.Packet.{Packet, validPacket}
 
--- a sequence number, how many blocks there are, and three arrays: block i has the i-th number and the next of the i-th size of payload
+-- the first k blocks of such arrays: block i has the i-th number and the next of the i-th size of payload
+unfoldable pub blocksHeld : ℕ → List ℕ → List ℕ → List ℕ → List Block
+blocksHeld zero ns ss d = []
+blocksHeld (suc k) ns ss d = record { number = getD ns 0 0; payload = take (getD ss 0 0) d } ∷ blocksHeld k (drop 1 ns) (drop 1 ss) (drop (getD ss 0 0) d)
+
+-- a sequence number, how many blocks there are, and the three arrays
 pub record Fields : Type 0 where
   pub «seq_no» : ℕ
   pub count : ℕ
@@ -17,10 +23,11 @@ pub record Fields : Type 0 where
   pub sizes : List ℕ
   pub payload : List ℕ
 
+-- places with these fields
 abbrev pub fields : ℕ → ℕ → List ℕ → List ℕ → List ℕ → Fields
 fields q k ns ss d = record { «seq_no» = q; count = k; numbers = ns; sizes = ss; payload = d }
 
--- the places of the three arrays
+-- how many places the three arrays have
 pub record Places (p : Fields) : Type 0 where
   pub numbers : length (p .numbers) ≡ 63
   pub sizes : length (p .sizes) ≡ 63
@@ -30,34 +37,29 @@ pub record Places (p : Fields) : Type 0 where
 abbrev pub zeros : Fields
 zeros = fields 0 0 (replicate 63 0) (replicate 63 0) (replicate 127 0)
 
--- the first k blocks of such arrays
-unfoldable pub blocksHeld : ℕ → List ℕ → List ℕ → List ℕ → List Block
-blocksHeld zero ns ss d = []
-blocksHeld (suc k) ns ss d = record { number = getD ns 0 0; payload = take (getD ss 0 0) d } ∷ blocksHeld k (drop 1 ns) (drop 1 ss) (drop (getD ss 0 0) d)
-
 -- the packet that they hold
 abbrev pub packetIn : Fields → Packet
 packetIn p = record { sequence = p .«seq_no»; blocks = blocksHeld (p .count) (p .numbers) (p .sizes) (p .payload) }
 
 -- the sum of sizes
-unfoldable pub sumOf : List ℕ → ℕ
-sumOf [] = 0
-sumOf (x ∷ xs) = x + sumOf xs
+abbrev pub sumOf : List ℕ → ℕ
+sumOf sizes = foldr _+_ 0 sizes
 
 -- whether the blocks and their payloads are in their places, and the packet breaks no limit
 unfoldable pub validFields : Fields → Bool
 validFields p = leb (p .count) 63 && leb (sumOf (take (p .count) (p .sizes))) 127 && validPacket (packetIn p)
 
--- the numbers, sizes and payloads of blocks, one behind the other
+-- the numbers of blocks
 abbrev pub numbersOf : List Block → List ℕ
 numbersOf bs = map (λ (b : Block). b .number) bs
 
+-- the sizes of their payloads
 abbrev pub sizesOf : List Block → List ℕ
 sizesOf bs = map (λ (b : Block). length (b .payload)) bs
 
+-- their payloads, one behind the other
 abbrev pub payloadsOf : List Block → List ℕ
-payloadsOf [] = []
-payloadsOf (b ∷ bs) = b .payload ++ payloadsOf bs
+payloadsOf bs = flatMap (λ (b : Block). b .payload) bs
 
 -- a packet laid over places: those behind it stay
 unfoldable pub over : Fields → Packet → Fields

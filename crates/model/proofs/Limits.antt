@@ -222,12 +222,12 @@ module _ (move : List ℕ → ℕ) (moves : (d : List ℕ) (b : Block) → ReadF
       (λ bs w. record { sequence = omega arith; blocks = w .carriable; length = packet-short _ bs (omega (arith, w .short, length-drop 1 d)) })))
 
 -- the plain reader
-plain-within : (d : List ℕ) → Gives Valid (readPacket d)
+pub plain-within : (d : List ℕ) → Gives Valid (readPacket d)
 unfolding readPacket
 plain-within d = packet-within plainMove (λ _ _ f. f .plain) ltb d (λ e. omega (arith, size-most (getD d 0 0), ltb-false (packetSize (getD d 0 0)) (length d) e))
 
 -- the tidy reader
-tidy-within : (d : List ℕ) → Gives Valid (readTidy d)
+pub tidy-within : (d : List ℕ) → Gives Valid (readTidy d)
 unfolding readTidy
 tidy-within d =
     packet-within tidyMove (λ _ _ f. f .tidy) (λ size actual. not (eqb size actual)) d

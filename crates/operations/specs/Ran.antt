@@ -20,8 +20,8 @@ use Rattle.parts.specs.Table.{table, fits, doing}
 unfoldable pub freshMachine : Machine
 freshMachine =
     record {
-      s = after block.blank (mapped block.laid (newBlock 1));
-      p = after packet.blank (mapped packet.laid (newPacket 0));
+      s = after block.blank (mapped (block.over block.blank) (newBlock 1));
+      p = after packet.blank (mapped (packet.over packet.blank) (newPacket 0));
       r = parser.fresh;
       w = writer.fresh;
     }

@@ -3,7 +3,7 @@ use mathlib.Core.Path.{_≡_, refl}
 use mathlib.Core.Bool.{Bool, true}
 use mathlib.Core.List.{List}
 use Prim.Native.Nat.{ℕ, _≤_}
-use lib.ListN.{length, length-replicate}
+use lib.ListN.{length}
 use Rattle.model.specs.Lists.{every}
 use Rattle.model.specs.Said.{gave}
 use Rattle.model.specs.Packet.{Packet, readPacket, readTidy, writtenPacket, pushBlock, pushRunBy, packetLength, validPacket}
@@ -12,18 +12,14 @@ use Rattle.model.specs.Block.{Block, validBlock}
 use Rattle.model.proofs.Cases.{gives-at}
 use Rattle.model.proofs.Limits.{plain-valid, tidy-valid}
 use Rattle.model.proofs.Pushing.{block-valid, run-valid}
-use Rattle.entries.specs.Fields.{blocksHeld, sumOf, validFields}
+use Rattle.entries.specs.Fields.{blocksHeld}
 use Rattle.packet.specs.declared.DTVCCPacket.{DTVCCPacket}
 use Rattle.packet.specs.Packet.{packetOf, over, blank, validDTVCC}
-use Rattle.packet.proofs.Holds.{Places, within-facts, held-valid, over-holds, over-valid, over-places}
+use Rattle.packet.proofs.Holds.{Places, blank-places, within-facts, held-valid, over-holds, over-valid, over-places}
 
--- the empty places have their lengths
-pub blank-places : Places blank
-blank-places = record { numbers = length-replicate {A = ℕ} 63 0; sizes = length-replicate {A = ℕ} 63 0; payload = length-replicate {A = ℕ} 127 0 }
-
--- and break no limit
+-- the empty places break no limit
 pub blank-valid : validDTVCC blank ≡ true
-unfolding validDTVCC validFields blocksHeld sumOf validPacket every packetLength
+unfolding validDTVCC blocksHeld validPacket every packetLength
 blank-valid = refl
 
 -- a packet within the limits, laid over any places: it is held, breaks no limit and keeps the places

@@ -1,32 +1,41 @@
 -- What is measured of a packet, by each way out. Assumes nothing.
-use mathlib.Core.Path.{_≡_, sym, ap, _∙_}
+use mathlib.Core.Path.{_≡_, refl, sym, ap, _∙_}
 use mathlib.Core.Bool.{false, cond}
 use mathlib.Core.List.{[], _∷_}
 use Prim.Native.Nat.{ℕ, _-_, _≤_, _<_}
+use native.Mathlib.Omega.{arith}
 use lib.Dec.{eqb}
 use lib.ListN.{length}
 use borrow.Author.Tests.{lt-ltb, le-ltb}
-use Rattle.model.specs.Said.{gave, refused, mapped, measured, accepted, badValue, badNumber}
+use Rattle.model.specs.Lists.{every}
+use Rattle.model.specs.Said.{gave, refused, measured, accepted, badValue, badNumber}
 use Rattle.model.specs.Packet.{newPacket, packetLength, packetRoom}
+use Rattle.model.proofs.Packets.{Valid, length-empty}
 use Rattle.entries.specs.declared.Extent.{Extent}
 use Rattle.entries.specs.declared.Extent.the-variants.{Of, Bad}
-use Rattle.entries.specs.Fields as places
+use Rattle.entries.specs.Fields.{validFields}
 use Rattle.entries.specs.Extent.{Sized}
 use Rattle.entries.proofs.Holds.{blocks-count, tests-agree}
 use Rattle.entries.proofs.Walks as walks
 use Rattle.entries.proofs.Measures.{length-small, sized-valid, sized-length}
 use Rattle.packet.specs.declared.DTVCCPacket.{DTVCCPacket}
-use Rattle.packet.specs.Packet.{fieldsOf, packetOf, over, laid, blank, validDTVCC, extentOf}
+use Rattle.packet.specs.Packet.{packetOf, validDTVCC}
+use Rattle.packet.specs.Replies.{fieldsOf, extentOf}
 use Rattle.packet.proofs.Holds.{Places}
 
 -- a new packet
-pub new-bad : (q : ℕ) → 3 < q → mapped laid (newPacket q) ≡ refused badNumber
+pub new-bad : (q : ℕ) → 3 < q → newPacket q ≡ refused badNumber
 unfolding newPacket
 new-bad q h = simp (lt-ltb _ _ h)
 
-pub new-good : (q : ℕ) → q ≤ 3 → mapped laid (newPacket q) ≡ gave (record { «seq_no» = q; count = 0; numbers = blank .numbers; sizes = blank .sizes; payload = blank .payload })
-unfolding newPacket over places.over
+pub new-good : (q : ℕ) → q ≤ 3 → newPacket q ≡ gave (record { sequence = q; blocks = [] })
+unfolding newPacket
 new-good q h = simp (le-ltb _ _ h)
+
+-- which is within the limits
+pub new-valid : (q : ℕ) → q ≤ 3 → Valid (record { sequence = q; blocks = [] })
+unfolding every
+new-valid q h = record { sequence = h; blocks = refl; length = omega (arith, length-empty (record { sequence = q; blocks = [] }) refl) }
 
 module _ (p : DTVCCPacket) (e : Extent) (is : e ≡ extentOf p) where
   pub sized : (l u : ℕ) → e ≡ Of l u → Sized (fieldsOf p) l u
@@ -37,7 +46,7 @@ module _ (p : DTVCCPacket) (e : Extent) (is : e ≡ extentOf p) where
 
   module _ (places : Places p) where
     pub invalid : e ≡ Bad → validDTVCC p ≡ false
-    unfolding validDTVCC
+    unfolding validDTVCC validFields
     invalid q = tests-agree (fieldsOf p) (places .payload) ∙ walks.extent-invalid (fieldsOf p) e is q
 
     pub bad-measured : (n : ℕ) → e ≡ Bad → badValue ≡ measured (validDTVCC p) n
@@ -45,7 +54,7 @@ module _ (p : DTVCCPacket) (e : Extent) (is : e ≡ extentOf p) where
 
     module _ (l u : ℕ) (q : e ≡ Of l u) where
       pub good-measured : (n k : ℕ) → n ≡ k → accepted (n ∷ []) ≡ measured (validDTVCC p) k
-      unfolding validDTVCC
+      unfolding validDTVCC validFields
       good-measured n k m = rw (sized-valid (fieldsOf p) l u (sized l u q) (places .payload), m)
 
       length-is : l ≡ packetLength (packetOf p)

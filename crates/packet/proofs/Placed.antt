@@ -7,11 +7,14 @@ use native.Mathlib.Omega.{arith}
 use lib.ListN.{length, take, drop, getD, length-drop, drop-of-length-le}
 use lib.Seq.{length-take-le, drop-drop}
 use Rattle.caption.specs.declared.Refusal.the-variants.{BadValue}
+use Rattle.model.specs.Said.{Outcome, gave, checked}
+use Rattle.model.specs.Block.{Block}
 use Rattle.service.specs.Service.{blank}
 use Rattle.service.specs.declared.Service.{Service}
 use Rattle.packet.specs.declared.DTVCCPacket.{DTVCCPacket}
 use Rattle.packet.specs.declared.ServiceAt.{ServiceAt}
 use Rattle.packet.specs.declared.Place.the-variants.{Here, Nothing, Refused}
+use Rattle.entries.specs.Fields.{validFields}
 use Rattle.entries.specs.Entries.{entries, cut, usedBy}
 use Rattle.entries.specs.Extent.{Sized, sumTo, blockAt}
 use Rattle.entries.proofs.Entries.{entries-at, used-sum}
@@ -20,12 +23,17 @@ use Rattle.entries.proofs.Walks.{sum-few}
 use Rattle.entries.proofs.Measures.{sized-within, sized-valid}
 use Rattle.entries.proofs.Placed.{place-block}
 use Rattle.pushes.proofs.Pushed.{used-parts, cut-drop}
-use Rattle.packet.specs.Packet.{fieldsOf, entriesOf, packetOf, validDTVCC}
-use Rattle.packet.specs.Place.{Placed, blocksAt, saidPlace}
+use Rattle.packet.specs.Packet.{packetOf, validDTVCC}
+use Rattle.packet.specs.Place.{Placed, saidPlace}
+use Rattle.packet.specs.Replies.{fieldsOf, entriesOf}
 use Rattle.packet.proofs.Holds.{Places}
 
+-- the blocks at a place of a packet: one, or none behind the last
+abbrev pub blocksAt : ℕ → DTVCCPacket → Outcome (List Block)
+blocksAt i p = checked (validDTVCC p) (gave (take 1 (drop i (packetOf p .blocks))))
+
+-- a packet that breaks a limit
 pub place-invalid : (p : DTVCCPacket) (i : ℕ) (r : ServiceAt) → validDTVCC p ≡ false → r .place ≡ Refused BadValue → r .service ≡ blank → Placed (blocksAt i p) r
-unfolding blocksAt
 place-invalid p i r e a b = rw e (record { place = ap saidPlace a; service = b })
 
 -- the entries from a place on
@@ -45,11 +53,10 @@ module _ (p : DTVCCPacket) (l u : ℕ) (s : Sized (fieldsOf p) l u) (places : Pl
   w = sized-within (fieldsOf p) l u s
 
   valid : validDTVCC p ≡ true
-  unfolding validDTVCC
+  unfolding validDTVCC validFields
   valid = sized-valid (fieldsOf p) l u s (places .payload)
 
   pub place-none : (r : ServiceAt) → p .count ≤ i → r .place ≡ Nothing → r .service ≡ blank → Placed (blocksAt i p) r
-  unfolding blocksAt
   place-none r h a b =
       let few : length (packetOf p .blocks) ≤ i = omega (arith, blocks-count (fieldsOf p)) in
       let z : drop i (packetOf p .blocks) ≡ [] = drop-of-length-le (packetOf p .blocks) few in
@@ -75,7 +82,7 @@ module _ (p : DTVCCPacket) (l u : ℕ) (s : Sized (fieldsOf p) l u) (places : Pl
         omega (arith, before, used-parts i (entriesOf p), used-fits (fieldsOf p) w (places .payload))
 
     pub place-here : (b : Service) → b ≡ blockAt i (p .numbers) (p .sizes) (p .payload) → Placed (blocksAt i p) (record { place = Here; service = b })
-    unfolding blocksAt cut
+    unfolding cut
     place-here b e =
         let size : length (take k (drop from (p .payload))) ≡ k = length-take-le k (drop from (p .payload)) (rw length-drop (omega (arith, bytes-there))) in
         let d : drop i (packetOf p .blocks) ≡ cut (record { number = getD (p .numbers) i 0; size = k } ∷ entries (p .count - (i + 1)) (drop (i + 1) (p .numbers)) (drop (i + 1) (p .sizes))) (drop from (p .payload)) =

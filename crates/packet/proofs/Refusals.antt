@@ -14,7 +14,7 @@ use Rattle.model.specs.Said.{Said, Outcome, gave, refused, isGiven, says, mappe
 use Rattle.model.specs.Block.{readBlock, isShort}
 use Rattle.model.specs.Packet.{Packet, packetSize, plainMove, kept, blocksFrom, readBy, readPacket, reads}
 use Rattle.model.proofs.Cases.{by-cond}
-use Rattle.packet.specs.Packet.{Answers, laid, blank}
+use Rattle.packet.specs.Packet.{Answers, blank}
 use Rattle.packet.specs.declared.PacketAnswer.{PacketAnswer}
 
 -- a refusal, if there is one, is 1
@@ -48,12 +48,12 @@ one-packet d =
     by-cond One (eqb (length d) 0) (λ e. refl)
     (λ e. by-cond One (ltb (packetSize (getD d 0 0)) (length d)) (λ f. refl) (λ f. one-mapped _ (blocksFrom plainMove 0 _) (one-blocks plainMove 0 _)))
 
-module _ (d : List ℕ) (r : PacketAnswer) (read : Answers (mapped laid (readPacket d)) blank r) where
+module _ (d : List ℕ) (r : PacketAnswer) (read : Answers (readPacket d) blank r) where
   pub accepted-reads : r .answer ≡ Accepted → reads d ≡ true
   unfolding reads
   accepted-reads e = by (readPacket d) (one-packet d) (read .answer)
     where
-      by : (o : Outcome Packet) → One o → saidAnswer (r .answer) ≡ says (mapped laid o) → isGiven o ≡ true
+      by : (o : Outcome Packet) → One o → saidAnswer (r .answer) ≡ says o → isGiven o ≡ true
       by (gave x) q h = refl
       by (refused why) q h = let z : _≡_ {A = ℕ} 0 1 = ap (λ (s : Said). s .number) (rw e at h) ∙ q in absurd (omega arith)
 
@@ -61,6 +61,6 @@ module _ (d : List ℕ) (r : PacketAnswer) (read : Answers (mapped laid (readPac
   unfolding reads
   refused-reads why e = by (readPacket d) (read .answer)
     where
-      by : (o : Outcome Packet) → saidAnswer (r .answer) ≡ says (mapped laid o) → isGiven o ≡ false
+      by : (o : Outcome Packet) → saidAnswer (r .answer) ≡ says o → isGiven o ≡ false
       by (gave x) h = ap (answerOf (λ v. true) (λ y. false)) (sym (rw e at h)) ∙ refused-again (λ v. true) (λ y. false) why
       by (refused y) h = refl

@@ -1,2 +1,3 @@
 pub mod Packet
 pub mod Place
+pub mod Replies

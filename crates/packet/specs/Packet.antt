@@ -1,90 +1,48 @@
 -- What a `DTVCCPacket` holds, and what its functions answer. Assumes nothing.
 use mathlib.Core.Path.{_≡_}
-use mathlib.Core.Bool.{Bool}
-use mathlib.Core.List.{List}
-use Prim.Native.Nat.{ℕ}
-use lib.ListN.{replicate}
-use Rattle.caption.specs.declared.Counted.{Counted}
-use Rattle.caption.specs.declared.Counted.the-variants.{Count, Refused}
-use Rattle.caption.specs.declared.Refusal.{Refusal}
-use Rattle.caption.specs.declared.Answer.{Answer}
-use Rattle.caption.specs.declared.Answer.the-variants as answer
+use mathlib.Core.Bool.{Bool, _&&_}
+use mathlib.Core.List.{map, flatMap, foldr}
+use Prim.Native.Nat.{_+_}
+use lib.Dec.{leb}
+use lib.ListN.{length, take, replicate}
+use lib.Seq.{sets}
 use Rattle.caption.specs.Answers.{saidAnswer}
 use Rattle.model.specs.Said.{Outcome, says, after, mapped}
-use Rattle.model.specs.Packet.{Packet}
-use Rattle.entries.specs.declared.Extent.{Extent}
-use Rattle.entries.specs.Fields.{Fields, fields, packetIn, validFields}
-use Rattle.entries.specs.Fields as places
-use Rattle.entries.specs.Entries.{Entry}
-use Rattle.entries.specs.Entries as listed
-use Rattle.entries.specs.Extent.{extentAs}
-use Rattle.blocks.specs.declared.Filled.{Filled}
-use Rattle.blocks.specs.Reading as reading
+use Rattle.model.specs.Block.{Block}
+use Rattle.model.specs.Packet.{Packet, validPacket}
+use Rattle.entries.specs.Fields.{blocksHeld}
 use Rattle.packet.specs.declared.DTVCCPacket.{DTVCCPacket}
 use Rattle.packet.specs.declared.PacketAnswer.{PacketAnswer}
 
--- its places, and the packet of places
-abbrev pub fieldsOf : DTVCCPacket → Fields
-fieldsOf p = fields (p .«seq_no») (p .count) (p .numbers) (p .sizes) (p .payload)
+-- the packet that it holds
+abbrev pub packetOf : DTVCCPacket → Packet
+packetOf p = record { sequence = p .«seq_no»; blocks = blocksHeld (p .count) (p .numbers) (p .sizes) (p .payload) }
 
-abbrev pub packetWith : Fields → DTVCCPacket
-packetWith f = record { «seq_no» = f .«seq_no»; count = f .count; numbers = f .numbers; sizes = f .sizes; payload = f .payload }
+-- whether its blocks and their payloads are in their places, and the packet breaks no limit
+unfoldable pub validDTVCC : DTVCCPacket → Bool
+validDTVCC p = leb (p .count) 63 && leb (foldr _+_ 0 (take (p .count) (p .sizes))) 127 && validPacket (packetOf p)
 
--- what is answered by how many blocks there are
-abbrev pub answerTo : Counted → Answer
-answerTo (Count k) = answer.Accepted
-answerTo (Refused why) = answer.Refused why
-
--- a packet laid over the places of another: those behind it stay
+-- a packet laid over the places of another, its payloads one behind the other: what stands behind it stays
 unfoldable pub over : DTVCCPacket → Packet → DTVCCPacket
-over old p = packetWith (places.over (fieldsOf old) p)
+over old p =
+    record {
+      «seq_no» = p .sequence;
+      count = length (p .blocks);
+      numbers = sets (old .numbers) 0 (map (λ (b : Block). b .number) (p .blocks));
+      sizes = sets (old .sizes) 0 (map (λ (b : Block). length (b .payload)) (p .blocks));
+      payload = sets (old .payload) 0 (flatMap (λ (b : Block). b .payload) (p .blocks));
+    }
 
--- no packet: zeros in all places; and a packet with zeros behind it
+-- no packet: zeros in all places
 abbrev pub blank : DTVCCPacket
 blank = record { «seq_no» = 0; count = 0; numbers = replicate 63 0; sizes = replicate 63 0; payload = replicate 127 0 }
 
+-- a packet with zeros behind it
 abbrev pub laid : Packet → DTVCCPacket
 laid p = over blank p
 
--- the packet that it holds
-abbrev pub packetOf : DTVCCPacket → Packet
-packetOf p = packetIn (fieldsOf p)
-
--- whether its blocks are in their places, and the packet breaks no limit
-unfoldable pub validDTVCC : DTVCCPacket → Bool
-validDTVCC p = validFields (fieldsOf p)
-
--- an answer says what the outcome says, and the packet beside it is the outcome's, or `beside` where it refuses
-pub record Answers (o : Outcome DTVCCPacket) (beside : DTVCCPacket) (r : PacketAnswer) : Type 0 where
+-- an answer says what the outcome says; the packet beside it means what the outcome gives, and that is laid over `old`, which a refusal leaves
+pub record Answers (o : Outcome Packet) (old : DTVCCPacket) (r : PacketAnswer) : Type 0 where
   pub answer : saidAnswer (r .answer) ≡ says o
-  pub packet : r .packet ≡ after beside o
-
--- a push: what the packet then means is what the outcome gives of it, and it is laid over the places that were there
-pub record Pushes (o : Outcome Packet) (p : DTVCCPacket) (r : PacketAnswer) : Type 0 where
-  pub answer : saidAnswer (r .answer) ≡ says o
-  pub means : packetOf (r .packet) ≡ after (packetOf p) o
-  pub places : r .packet ≡ after p (mapped (over p) o)
-
--- for the functions that are not public: a refusal, beside no packet
-abbrev pub unreadFor : Refusal → PacketAnswer
-unreadFor why = record { answer = answer.Refused why; packet = blank }
-
--- what is answered to a reading, with the packet of the places that it filled
-abbrev pub answerFrom : Filled → PacketAnswer
-answerFrom r = record { answer = r .answer; packet = packetWith (reading.fieldsOf r) }
-
--- for the functions that are not public: its entries, and its extent, or that it breaks a limit
-abbrev pub entriesOf : DTVCCPacket → List Entry
-entriesOf p = listed.entriesOf (fieldsOf p)
-
-abbrev pub extentOf : DTVCCPacket → Extent
-extentOf p = extentAs (p .«seq_no») (p .count) (entriesOf p)
-
--- how many blocks there are after a push: as many as before, where it is refused
-abbrev pub countAfter : Counted → ℕ → ℕ
-countAfter (Count k) before = k
-countAfter (Refused why) before = before
-
--- what is answered to it, with the places that it leaves
-abbrev pub answerOf : ℕ → ℕ → Counted → List ℕ → List ℕ → List ℕ → PacketAnswer
-answerOf sequence before r n s d = record { answer = answerTo r; packet = packetWith (fields sequence (countAfter r before) n s d) }
+  pub means : packetOf (r .packet) ≡ after (packetOf old) o
+  pub places : r .packet ≡ after old (mapped (over old) o)

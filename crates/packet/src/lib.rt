@@ -1,17 +1,18 @@
 // A DTVCC packet: its sequence number and its blocks, how it is read, written and pushed to.
 ghost use mathlib.Core.Path.{_≡_};
 ghost use mathlib.Core.Bool.{cond, _&&_};
-ghost use lib.ListN.{length, take};
+ghost use lib.ListN.{length, take, drop};
 ghost use lib.Dec.{eqb};
 ghost use Rattle.caption.specs.Answers.{saidCounted, saidTruth};
-ghost use Rattle.model.specs.Said.{mapped, checked, measured};
+ghost use Rattle.model.specs.Said.{gave, checked, measured};
 ghost use Rattle.model.specs.Packet.{packetSize, sequenceIn, readPacket, readTidy, newPacket, packetLength, packetRoom, writtenPacket, pushBlock, pushRun, pushRunSingle, pushRunBy};
 ghost use Rattle.model.specs.Packet as model;
 ghost use Rattle.service.specs.Service.{Writes, blockOf, validService};
 ghost use Rattle.service.specs.Service as service;
 ghost use Rattle.blocks.specs.Reading.{readAs};
-ghost use Rattle.packet.specs.Packet.{Answers, Pushes, packetOf, unreadFor, answerFrom, answerTo, laid, blank, validDTVCC, extentOf, countAfter, answerOf};
-ghost use Rattle.packet.specs.Place.{Placed, blocksAt};
+ghost use Rattle.packet.specs.Packet.{Answers, packetOf, blank, validDTVCC};
+ghost use Rattle.packet.specs.Place.{Placed};
+ghost use Rattle.packet.specs.Replies.{unreadFor, answerFrom, answerTo, extentOf, countAfter, answerOf};
 use blocks::Filled;
 use caption::Answer;
 use caption::Counted;
@@ -129,7 +130,7 @@ fn packet_of(r: Filled) -> PacketAnswer
 
 // Reads a packet, plainly or tidily.
 fn read_packet(data: &[u8], tidy: bool) -> PacketAnswer
-    ensures { λ r. ⌜ Answers (mapped laid (readAs tidy (now («data» .entry)))) blank r ⌝ }
+    ensures { λ r. ⌜ Answers (readAs tidy (now («data» .entry))) blank r ⌝ }
 {
     packet_of(blocks::read(data, tidy))
 }
@@ -193,7 +194,7 @@ impl DTVCCPacket {
 
     // A packet without blocks.
     pub fn new(seq_no: u8) -> PacketAnswer
-        ensures { λ r. ⌜ Answers (mapped laid (newPacket «seq_no»)) blank r ⌝ }
+        ensures { λ r. ⌜ Answers (newPacket «seq_no») blank r ⌝ }
     {
         if 3 < seq_no {
             return unread(Refusal::BadNumber);
@@ -272,7 +273,7 @@ impl DTVCCPacket {
 
     // The block at a place.
     pub fn service(self, place: usize) -> ServiceAt
-        ensures { λ r. ⌜ Placed (blocksAt place self) r ⌝ }
+        ensures { λ r. ⌜ Placed (checked (validDTVCC self) (gave (take 1 (drop place (packetOf self .blocks))))) r ⌝ }
     {
         let numbers = self.numbers;
         let sizes = self.sizes;
@@ -292,7 +293,7 @@ impl DTVCCPacket {
 
     // Pushes a block behind the others.
     pub fn push_service(self, service: Service) -> PacketAnswer
-        ensures { λ r. ⌜ Pushes (checked (validDTVCC self && validService service) (pushBlock (blockOf service) (packetOf self))) self r ⌝ }
+        ensures { λ r. ⌜ Answers (checked (validDTVCC self && validService service) (pushBlock (blockOf service) (packetOf self))) self r ⌝ }
     {
         let mut numbers = self.numbers;
         let mut sizes = self.sizes;
@@ -311,7 +312,7 @@ impl DTVCCPacket {
     // Pushes a run to the latest block of its number, or as a new block: where there is no such block, or where it has no
     // room and `needs_room` says that it has to.
     fn push_run(self, needs_room: bool, service_no: u8, code: &[u8]) -> PacketAnswer
-        ensures { λ r. ⌜ Pushes (checked (validDTVCC self) (pushRunBy «needs_room» «service_no» (now (code .entry)) (packetOf self))) self r ⌝ }
+        ensures { λ r. ⌜ Answers (checked (validDTVCC self) (pushRunBy «needs_room» «service_no» (now (code .entry)) (packetOf self))) self r ⌝ }
     {
         let mut numbers = self.numbers;
         let mut sizes = self.sizes;
@@ -331,35 +332,35 @@ impl DTVCCPacket {
 
     // Pushes a code, a run of bytes, to the latest block of its number that has room, or as a new block.
     pub fn push_code(self, service_no: u8, code: &[u8]) -> PacketAnswer
-        ensures { λ r. ⌜ Pushes (checked (validDTVCC self) (pushRun «service_no» (now (code .entry)) (packetOf self))) self r ⌝ }
+        ensures { λ r. ⌜ Answers (checked (validDTVCC self) (pushRun «service_no» (now (code .entry)) (packetOf self))) self r ⌝ }
     {
         self.push_run(true, service_no, code)
     }
 
     // Pushes a code to the latest block of its number; a new block is made only where there is none.
     pub fn push_code_into_single_service(self, service_no: u8, code: &[u8]) -> PacketAnswer
-        ensures { λ r. ⌜ Pushes (checked (validDTVCC self) (pushRunSingle «service_no» (now (code .entry)) (packetOf self))) self r ⌝ }
+        ensures { λ r. ⌜ Answers (checked (validDTVCC self) (pushRunSingle «service_no» (now (code .entry)) (packetOf self))) self r ⌝ }
     {
         self.push_run(false, service_no, code)
     }
 
     // Reads a packet as the crate does: data may be shorter than its header says.
     pub fn parse(data: &[u8]) -> PacketAnswer
-        ensures { λ r. ⌜ Answers (mapped laid (readPacket (now («data» .entry)))) blank r ⌝ }
+        ensures { λ r. ⌜ Answers (readPacket (now («data» .entry))) blank r ⌝ }
     {
         read_packet(data, false)
     }
 
     // Reads the packet that the first `len` bytes are, as `parse` does; at most 128 are there.
     pub fn parse_in(bytes: &[u8; 128], len: usize) -> PacketAnswer
-        ensures { λ r. ⌜ Answers (mapped laid (readPacket (take len (now (bytes .entry))))) blank r ⌝ }
+        ensures { λ r. ⌜ Answers (readPacket (take len (now (bytes .entry)))) blank r ⌝ }
     {
         packet_of(blocks::read_in(bytes, len, false))
     }
 
     // Reads a packet whose length is what its header says, and passes each block whole.
     pub fn parse_tidy(data: &[u8]) -> PacketAnswer
-        ensures { λ r. ⌜ Answers (mapped laid (readTidy (now («data» .entry)))) blank r ⌝ }
+        ensures { λ r. ⌜ Answers (readTidy (now («data» .entry))) blank r ⌝ }
     {
         read_packet(data, true)
     }

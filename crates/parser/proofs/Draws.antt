@@ -18,7 +18,7 @@ use Rattle.caption.specs.declared.Refusal.the-variants as refusal
 use Rattle.model.specs.Said.{mapped}
 use Rattle.model.specs.Packet.{noPacket, readPacket}
 use Rattle.model.proofs.Cases.{by-test}
-use Rattle.packet.specs.Packet.{laid, blank}
+use Rattle.packet.specs.Packet.{blank}
 use Rattle.packet.specs.Packet as packet
 use Rattle.packet.specs.declared.DTVCCPacket.{DTVCCPacket}
 use Rattle.packet.specs.declared.PacketAnswer.{PacketAnswer}
@@ -118,12 +118,12 @@ module _ (c : Counts) (l : List ℕ) where
     head-long h t e = rw (← slot-long slot h) (none-taken (Refused refusal.BadValue) t e)
 
     -- within them, by what reading it answers
-    module _ (h : slot .len ≤ 128) (r : PacketAnswer) (read : packet.Answers (mapped laid (readPacket (take (slot .len) (slot .bytes)))) blank r) where
+    module _ (h : slot .len ≤ 128) (r : PacketAnswer) (read : packet.Answers (readPacket (take (slot .len) (slot .bytes))) blank r) where
       -- a packet
       pub head-packet : r .answer ≡ Accepted → (f : ℕ) → f ≡ placeBehind (c .first) (c .waiting)
           → takenBy (record { item = Packet; packet = r .packet; pairs = c .pairs; first = f; waiting = c .waiting - 1 }) l ≡ takeHead c l slot
       unfolding takeHead takePacket packetAt
-      head-packet t f q = rw (← slot-within slot true h (sym (accepted-reads _ r read t)), read .packet, q)
+      head-packet t f q = rw (← slot-within slot true h (sym (accepted-reads _ r read t)), read .places, q)
 
       -- none
       pub head-unread : (why : Refusal) → r .answer ≡ answer.Refused why → (t : Took) → t ≡ noneTook (Refused refusal.BadValue) c → takenBy t l ≡ takeHead c l slot

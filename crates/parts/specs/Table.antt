@@ -5,7 +5,7 @@ use Prim.Native.Char.{Char, code}
 use Prim.Native.Nat.{ℕ, _/_, _%_}
 use lib.Dec.{eqb, leb}
 use lib.ListN.{getD, drop}
-use Rattle.model.specs.Said.{gave, checked, mapped}
+use Rattle.model.specs.Said.{gave, checked}
 use Rattle.model.specs.Block.{newBlock, readBlock, writtenBlock, partIn, pushToBlock}
 use Rattle.model.specs.Packet.{newPacket, readPacket, readTidy, writtenPacket, pushBlock, pushRun, pushRunSingle}
 use Rattle.model.specs.Mux.{withPads, flushMux, pushPacket, pushCea608}
@@ -65,7 +65,7 @@ framed a w = machines.wrote (rate (highestFirst a) (highestFirst (drop 4 a))) (l
 unfoldable pub blockRows : List Operation
 blockRows =
     -- "s becomes Service::new(number)"
-    row "b" (exactly 1) (λ m a. onBlock m (makes block.blank (m .s) (mapped block.laid (newBlock (byte a 0)))))
+    row "b" (exactly 1) (λ m a. onBlock m (makes block.over block.blank (m .s) (newBlock (byte a 0))))
     -- "run pushed to s"
     ∷ row "c" allOfThem (λ m a. onBlock m (lays block.over (m .s) (checked (block.validService (m .s)) (pushToBlock a (block.blockOf (m .s))))))
     -- "measures of s"
@@ -73,7 +73,7 @@ blockRows =
     -- "s written to out L"
     ∷ row "e" (exactly 1) (λ m a. stays m (writtenLine (block.validService (m .s)) (writtenBlock (block.blockOf (m .s))) (byte a 0)))
     -- "plain block reader; s becomes the block"
-    ∷ row "d" allOfThem (λ m a. onBlock m (reads readBlockLine block.blank (m .s) (mapped block.laid (readBlock a))))
+    ∷ row "d" allOfThem (λ m a. onBlock m (reads readBlockLine block.over block.blank (m .s) (readBlock a)))
     -- "the payload handed back as a part"
     ∷ row "y" allOfThem (λ m a. stays m (runLine (partIn a)))
     ∷ []
@@ -82,7 +82,7 @@ blockRows =
 unfoldable pub packetRows : List Operation
 packetRows =
     -- "p becomes DTVCCPacket::new(sequence)"
-    row "k" (exactly 1) (λ m a. onPacket m (makes packet.blank (m .p) (mapped packet.laid (newPacket (byte a 0)))))
+    row "k" (exactly 1) (λ m a. onPacket m (makes packet.over packet.blank (m .p) (newPacket (byte a 0))))
     -- "s pushed to p"
     ∷ row "v" (exactly 0) (λ m a. onPacket m (lays packet.over (m .p) (checked (packet.validDTVCC (m .p) && block.validService (m .s)) (pushBlock (block.blockOf (m .s)) (packet.packetOf (m .p))))))
     -- "run pushed to p"
@@ -94,9 +94,9 @@ packetRows =
     -- "p written to out L"
     ∷ row "o" (exactly 1) (λ m a. stays m (writtenLine (packet.validDTVCC (m .p)) (writtenPacket (packet.packetOf (m .p))) (byte a 0)))
     -- "plain packet reader; p becomes the packet"
-    ∷ row "p" allOfThem (λ m a. onPacket m (reads readPacketLine packet.blank (m .p) (mapped packet.laid (readPacket a))))
+    ∷ row "p" allOfThem (λ m a. onPacket m (reads readPacketLine packet.over packet.blank (m .p) (readPacket a)))
     -- "tidy packet reader; p becomes the packet"
-    ∷ row "t" allOfThem (λ m a. onPacket m (reads readPacketLine packet.blank (m .p) (mapped packet.laid (readTidy a))))
+    ∷ row "t" allOfThem (λ m a. onPacket m (reads readPacketLine packet.over packet.blank (m .p) (readTidy a)))
     ∷ []
 
 -- on the demultiplexer:

@@ -1,6 +1,6 @@
 -- What a push does to the places of a packet: the packet that the model gives, laid over them. Assumes nothing.
 use mathlib.Core.Path.{_≡_, refl, sym, ap, _∙_}
-use mathlib.Core.List.{List, [], _∷_, _++_, map, append-nil, append-assoc}
+use mathlib.Core.List.{List, [], _∷_, _++_, map, flatMap, append-nil, append-assoc}
 use Prim.Native.Nat.{ℕ, zero, suc, _+_, _-_, _≤_, _<_}
 use native.Mathlib.Nat.{zero-add}
 use native.Mathlib.Numerals.{add-one}
@@ -38,7 +38,7 @@ module _ (p : Fields) (w : Within p) (places : Places p) where
   pub appended : (n k : ℕ) (run : List ℕ) → length run ≡ k
       → over p (withBlocks (packetIn p .blocks ++ (record { number = n; payload = run } ∷ [])) (packetIn p))
       ≡ record { «seq_no» = p .«seq_no»; count = p .count + 1; numbers = set (p .numbers) (p .count) n; sizes = set (p .sizes) (p .count) k; payload = sets (p .payload) used run }
-  unfolding over
+  unfolding over flatMap
   appended n k run e =
       let b : Block = record { number = n; payload = run } in
       let c : length (packetIn p .blocks ++ (b ∷ [])) ≡ p .count + 1 = rw (length-append, blocks-count p) in
@@ -52,6 +52,7 @@ module _ (p : Fields) (w : Within p) (places : Places p) where
 
 -- blocks of which one takes a run: its payload grows, and those behind it move up
 grown : (run : List ℕ) (bs : List Block) (i : ℕ) → i < length bs → payloadsOf (set bs i (withRun run (getD bs i noBlock))) ≡ payloadsOf (take (suc i) bs) ++ (run ++ payloadsOf (drop (suc i) bs))
+unfolding flatMap
 grown run [] i h = absurd (omega arith)
 grown run (b ∷ bs) zero h = simp (append-nil, append-assoc)
 grown run (b ∷ bs) (suc i) h = ap (λ (l : List ℕ). b .payload ++ l) (grown run bs i (omega arith)) ∙ sym (append-assoc (b .payload) (payloadsOf (take (suc i) bs)) _)
@@ -136,6 +137,7 @@ module _ (p : Fields) (n u : ℕ) (s : Sized p n u) where
 
   pub append-as : Places p → (number : ℕ) (run n₁ s₁ p₁ : List ℕ) → Laid (blockFrom number run ∷ []) (record { count = p .count; used = u }) (p .numbers) (p .sizes) (p .payload) n₁ s₁ p₁
       → over p (withBlocks (packetIn p .blocks ++ (blockFrom number run ∷ [])) (packetIn p)) ≡ fields (p .«seq_no») (p .count + 1) n₁ s₁ p₁
+  unfolding flatMap
   append-as places number run n₁ s₁ p₁ l =
       appended p w places number (length run) run refl
       ∙ rw (l .numbers, l .sizes, l .payload, append-nil run, s .used-is)

@@ -26,10 +26,11 @@ Stores (refused why) f r n s p = (e : Refusal) × (r ≡ Refused e) × (saidRefu
 abbrev pub Pushes : (Fields → Outcome Fields) → Fields → Counted → List ℕ → List ℕ → List ℕ → Type 0
 Pushes push f r n s p = Places f → Stores (push f) f r n s p
 
--- a run pushed as a new block, or to the block at place i: the packet that it gives is laid over this one
+-- a run pushed as a new block: the packet that it gives is laid over this one
 unfoldable pub pushedNew : ℕ → List ℕ → Fields → Outcome Fields
 pushedNew n run f = mapped (over f) (pushNew n run (packetIn f))
 
+-- a run pushed to the block at place i
 unfoldable pub pushedAt : ℕ → List ℕ → Fields → Outcome Fields
 pushedAt i run f = mapped (over f) (pushAt i run (packetIn f))
 

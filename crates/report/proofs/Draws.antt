@@ -16,7 +16,8 @@ use Rattle.model.proofs.Cases.{both}
 use Rattle.model.proofs.Packets.{Valid, valid-facts}
 use Rattle.model.proofs.DemuxStates.{demux-facts}
 use Rattle.packet.specs.Packet.{packetOf, blank, laid, validDTVCC}
-use Rattle.packet.proofs.Keeps.{blank-places, laid-over}
+use Rattle.packet.proofs.Holds.{blank-places}
+use Rattle.packet.proofs.Keeps.{laid-over}
 use Rattle.parser.specs.Valid.{valid}
 use Rattle.parser.specs.Means.{means}
 use Rattle.parser.specs.After.{drawn}

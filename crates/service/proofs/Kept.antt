@@ -5,7 +5,7 @@ use mathlib.Core.List.{List, _++_}
 use Prim.Native.Nat.{ℕ, _+_, _≤_}
 use native.Mathlib.Omega.{arith}
 use lib.Dec.{eqb}
-use lib.ListN.{length, take, length-replicate}
+use lib.ListN.{length, take}
 use borrow.Author.Tests.{le-leb, eqb-true, eqb-false}
 use Rattle.model.specs.Said.{gave}
 use Rattle.model.specs.Block.{Block, validBlock, readBlock, writtenBlock, withRun}
@@ -13,12 +13,12 @@ use Rattle.model.proofs.Cases.{by-test}
 use Rattle.model.proofs.Limits.{read-valid}
 use Rattle.model.proofs.BlockTrip.{read-written}
 use Rattle.service.specs.declared.Service.{Service}
-use Rattle.service.specs.Service.{blockOf, over, laid, blank, validService}
-use Rattle.service.proofs.Services.{over-means, block-facts, valid-number, valid-len, valid-null, named-valid, payload-length, push-small}
+use Rattle.service.specs.Service.{blockOf, over, blank, validService}
+use Rattle.service.proofs.Services.{over-means, blank-places, block-facts, valid-number, valid-len, valid-null, named-valid, payload-length, push-small}
 
 -- a block in its places holds the block
-pub laid-means : (b : Block) → length (b .payload) ≤ 31 → blockOf (laid b) ≡ b
-laid-means b h = over-means blank b (length-replicate {A = ℕ} 31 0) h
+pub laid-means : (b : Block) → length (b .payload) ≤ 31 → blockOf (over blank b) ≡ b
+laid-means b h = over-means blank b blank-places h
 
 -- a block that breaks no limit breaks none where it is laid over any places
 pub over-valid : (old : Service) (b : Block) → length (old .payload) ≡ 31 → validBlock b ≡ true → validService (over old b) ≡ true
@@ -26,8 +26,8 @@ unfolding validService
 over-valid old b places e = let h = block-facts b e .small in rw (over-means old b places h, e) (rw (le-leb (length (b .payload)) 31 h))
 
 -- what the reader gives breaks no limit
-pub parsed-valid : (d : List ℕ) {b : Block} → readBlock d ≡ gave b → validService (laid b) ≡ true
-parsed-valid d {b} e = over-valid blank b (length-replicate {A = ℕ} 31 0) (read-valid d e)
+pub parsed-valid : (d : List ℕ) {b : Block} → readBlock d ≡ gave b → validService (over blank b) ≡ true
+parsed-valid d {b} e = over-valid blank b blank-places (read-valid d e)
 
 -- nor does what a push leaves
 pub pushed-valid : (run : List ℕ) (s : Service) → length (s .payload) ≡ 31 → validService s ≡ true → (s .number ≡ 0 → ⊥) → s .len + length run ≤ 31

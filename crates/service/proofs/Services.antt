@@ -6,12 +6,12 @@ use Prim.Native.Nat.{ℕ, _+_, _-_, _%_, _≤_, _<_}
 use native.Mathlib.Nat.{zero-add}
 use native.Mathlib.Omega.{arith}
 use lib.Dec.{eqb, leb, ltb}
-use lib.ListN.{length, take, drop, replicate, length-append, length-take, length-drop}
+use lib.ListN.{length, take, drop, replicate, length-append, length-take, length-drop, length-replicate}
 use lib.Seq.{sets, take-at, length-take-le}
 use borrow.Author.Tests.{eq-eqb, ne-eqb, le-leb, lt-leb, lt-ltb, le-ltb, leb-true, eqb-true}
 use Rattle.caption.specs.declared.Counted.{Counted}
 use Rattle.caption.specs.Answers.{saidAnswer, saidCounted}
-use Rattle.model.specs.Said.{Said, Outcome, gave, refused, says, after, mapped, checked, measured, putInto, accepted, badValue, badNumber, badRun, readOnly, wouldOverflow, lengthMismatch, outShort}
+use Rattle.model.specs.Said.{Said, Outcome, gave, refused, checked, measured, putInto, accepted, badValue, badNumber, badRun, readOnly, wouldOverflow, lengthMismatch, outShort}
 use Rattle.model.specs.Block.{Block, validBlock, newBlock, readBlock, blockIn, pushToBlock, withRun, writtenHeader, writtenBlock, blockLength}
 use Rattle.model.proofs.Cases.{by-test, both}
 use Rattle.model.proofs.Blocks.{written-length}
@@ -19,23 +19,13 @@ use Rattle.service.specs.declared.Service.{Service}
 use Rattle.service.specs.declared.ServiceAnswer.{ServiceAnswer}
 use Rattle.headers.specs.declared.Head.the-variants.{Whole, Short}
 use Rattle.headers.specs.Head.{headOf, lengthFor}
-use Rattle.service.specs.Service.{Answers, Pushes, Writes, blockOf, over, laid, blank, validService}
+use Rattle.service.specs.Service.{Answers, Writes, blockOf, over, blank, validService}
 use Rattle.headers.proofs.Runs.{sets-front, sets-behind}
 use Rattle.headers.proofs.Heads.{headed, head-short, length-of, laid-block}
 
--- an answer that refuses, and one that gives
-pub refuses : (o : Outcome Service) (beside : Service) (why : Said) (r : ServiceAnswer) → o ≡ refused why → saidAnswer (r .answer) ≡ why
-    → r .service ≡ beside → Answers o beside r
-refuses o beside why r e a s = record { answer = a ∙ ap says (sym e); service = s ∙ ap (after beside) (sym e) }
-
--- one that gives
-pub gives : (o : Outcome Service) (beside given : Service) (r : ServiceAnswer) → o ≡ gave given → saidAnswer (r .answer) ≡ accepted []
-    → r .service ≡ given → Answers o beside r
-gives o beside given r e a s = record { answer = a ∙ ap says (sym e); service = s ∙ ap (after beside) (sym e) }
-
 -- a block and the places that it is laid in
 pub laid-as : (n k : ℕ) (p q : List ℕ) → length q ≡ k → p ≡ sets (replicate 31 0) 0 q
-    → _≡_ {A = Service} (record { number = n; len = k; payload = p }) (laid (record { number = n; payload = q }))
+    → _≡_ {A = Service} (record { number = n; len = k; payload = p }) (over blank (record { number = n; payload = q }))
 laid-as n k p q e f = rw (← e, f)
 
 -- a block laid over any places is the block that they hold
@@ -45,22 +35,26 @@ over-means old b places h =
     rw (sets-front (old .payload) (b .payload) (omega arith)) (take-at (b .payload) _ (length (b .payload)) refl) in
     ap (λ (p : List ℕ). record { number = b .number; payload = p }) e
 
--- a push that refuses
-pub push-refuses : (o : Outcome Block) (s : Service) (why : Said) (r : ServiceAnswer) → o ≡ refused why → saidAnswer (r .answer) ≡ why → r .service ≡ s → Pushes o s r
-push-refuses o s why r e a k = rw e (record { answer = a; means = ap blockOf k; places = k })
+-- an answer that refuses
+pub refuses : (o : Outcome Block) (old : Service) (why : Said) (r : ServiceAnswer) → o ≡ refused why → saidAnswer (r .answer) ≡ why → r .service ≡ old → Answers o old r
+refuses o old why r e a k = rw e (record { answer = a; means = ap blockOf k; places = k })
 
 -- one that gives
-pub push-gives : (o : Outcome Block) (s : Service) (b : Block) (r : ServiceAnswer) → length (s .payload) ≡ 31 → length (b .payload) ≤ 31 → o ≡ gave b
-    → saidAnswer (r .answer) ≡ accepted [] → r .service ≡ over s b → Pushes o s r
-push-gives o s b r places h e a k = rw e (record { answer = a; means = ap blockOf k ∙ over-means s b places h; places = k })
+pub gives : (o : Outcome Block) (old : Service) (b : Block) (r : ServiceAnswer) → length (old .payload) ≡ 31 → length (b .payload) ≤ 31 → o ≡ gave b
+    → saidAnswer (r .answer) ≡ accepted [] → r .service ≡ over old b → Answers o old r
+gives o old b r places h e a k = rw e (record { answer = a; means = ap blockOf k ∙ over-means old b places h; places = k })
+
+-- the empty places are as many
+pub blank-places : length (blank .payload) ≡ 31
+blank-places = length-replicate {A = ℕ} 31 0
 
 -- a new block
-pub new-bad : (n : ℕ) → 63 < n → mapped laid (newBlock n) ≡ refused badNumber
+pub new-bad : (n : ℕ) → 63 < n → newBlock n ≡ refused badNumber
 unfolding newBlock
 new-bad n h = simp (lt-ltb _ _ h)
 
 -- any other number makes one
-pub new-good : (n : ℕ) → n ≤ 63 → mapped laid (newBlock n) ≡ gave (laid (record { number = n; payload = [] }))
+pub new-good : (n : ℕ) → n ≤ 63 → newBlock n ≡ gave (record { number = n; payload = [] })
 unfolding newBlock
 new-good n h = simp (le-ltb _ _ h)
 
@@ -253,18 +247,18 @@ module _ (s : Service) (v : Bool) (is : v ≡ validService s) where
 -- a block read
 module _ (d : List ℕ) where
   -- bytes missing
-  pub parse-short : (k : ℕ) → headOf d ≡ Short k → mapped laid (readBlock d) ≡ refused (lengthMismatch k (length d))
+  pub parse-short : (k : ℕ) → headOf d ≡ Short k → readBlock d ≡ refused (lengthMismatch k (length d))
   unfolding readBlock
   parse-short k e = let h = head-short d k e in simp (h .0, h .1)
 
   -- number 0
-  pub parse-null : (n st sz : ℕ) → headOf d ≡ Whole n st sz → n ≡ 0 → mapped laid (readBlock d) ≡ gave blank
+  pub parse-null : (n st sz : ℕ) → headOf d ≡ Whole n st sz → n ≡ 0 → readBlock d ≡ gave (record { number = 0; payload = [] })
   unfolding readBlock blockIn
   parse-null n st sz e z = let h = headed d n st sz e in simp (h .whole, h .number, z)
 
   -- any other number
   pub parse-some : (n st sz : ℕ) → headOf d ≡ Whole n st sz → (n ≡ 0 → ⊥)
-      → mapped laid (readBlock d) ≡ gave (laid (record { number = n; payload = take sz (drop st d) }))
+      → readBlock d ≡ gave (record { number = n; payload = take sz (drop st d) })
   unfolding readBlock blockIn
   parse-some n st sz e z = let h = headed d n st sz e in simp (h .whole, h .number, ne-eqb n 0 z, h .start, h .size)
 

@@ -21,27 +21,19 @@ blockOf s = record { number = s .number; payload = take (s .len) (s .payload) }
 abbrev pub over : Service → Block → Service
 over old b = record { number = b .number; len = length (b .payload); payload = sets (old .payload) 0 (b .payload) }
 
--- no block: zeros in all places; and a block with zeros behind it
+-- no block: zeros in all places
 abbrev pub blank : Service
 blank = record { number = 0; len = 0; payload = replicate mostPayload 0 }
-
-abbrev pub laid : Block → Service
-laid b = over blank b
 
 -- whether the payload is in its places, and the block breaks no limit
 unfoldable pub validService : Service → Bool
 validService s = leb (s .len) mostPayload && validBlock (blockOf s)
 
--- an answer says what the outcome says, and the block beside it is the outcome's, or `beside` where it refuses
-pub record Answers (o : Outcome Service) (beside : Service) (r : ServiceAnswer) : Type 0 where
+-- an answer says what the outcome says; the block beside it means what the outcome gives, and that is laid over `old`, which a refusal leaves
+pub record Answers (o : Outcome Block) (old : Service) (r : ServiceAnswer) : Type 0 where
   pub answer : saidAnswer (r .answer) ≡ says o
-  pub service : r .service ≡ after beside o
-
--- a push: what the block then means is what the outcome gives of it, and it is laid over the places that were there
-pub record Pushes (o : Outcome Block) (s : Service) (r : ServiceAnswer) : Type 0 where
-  pub answer : saidAnswer (r .answer) ≡ says o
-  pub means : blockOf (r .service) ≡ after (blockOf s) o
-  pub places : r .service ≡ after s (mapped (over s) o)
+  pub means : blockOf (r .service) ≡ after (blockOf old) o
+  pub places : r .service ≡ after old (mapped (over old) o)
 
 -- bytes written to a lent output: an answer says how many, and what the output then holds is the outcome's, or what it held where it refuses
 pub record Writes (valid : Bool) (bytes before : List ℕ) (r : Counted) (now : List ℕ) : Type 0 where

@@ -4,9 +4,9 @@ ghost use lib.ListN.{length};
 ghost use mathlib.Core.Bool.{cond};
 ghost use lib.Dec.{eqb};
 ghost use Rattle.caption.specs.Answers.{saidRefusal, saidAnswer, saidCounted, saidTruth};
-ghost use Rattle.model.specs.Said.{mapped, checked, measured};
+ghost use Rattle.model.specs.Said.{checked, measured};
 ghost use Rattle.model.specs.Block.{partIn, writtenBlock, newBlock, readBlock, blockLength, blockRoom, pushToBlock};
-ghost use Rattle.service.specs.Service.{Answers, Pushes, Writes, blockOf, laid, blank, validService};
+ghost use Rattle.service.specs.Service.{Answers, Writes, blockOf, blank, validService};
 use caption::Answer;
 use caption::Counted;
 use caption::Refusal;
@@ -54,7 +54,7 @@ pub fn payload_of(data: &[u8]) -> &[u8]
 impl Service {
     // A block without payload.
     pub fn new(service_no: u8) -> ServiceAnswer
-        ensures { λ r. ⌜ Answers (mapped laid (newBlock «service_no»)) blank r ⌝ }
+        ensures { λ r. ⌜ Answers (newBlock «service_no») blank r ⌝ }
     {
         let payload = [0u8; 31];
         if MOST_NUMBER < service_no {
@@ -135,7 +135,7 @@ impl Service {
 
     // Pushes a code, a run of bytes, to the end of the payload.
     pub fn push_code(self, code: &[u8]) -> ServiceAnswer
-        ensures { λ r. ⌜ Pushes (checked (validService self) (pushToBlock (now (code .entry)) (blockOf self))) self r ⌝ }
+        ensures { λ r. ⌜ Answers (checked (validService self) (pushToBlock (now (code .entry)) (blockOf self))) self r ⌝ }
     {
         let number = self.number;
         let len = self.len;
@@ -166,7 +166,7 @@ impl Service {
 
     // Reads the block at the front of `data`.
     pub fn parse(data: &[u8]) -> ServiceAnswer
-        ensures { λ r. ⌜ Answers (mapped laid (readBlock (now («data» .entry)))) blank r ⌝ }
+        ensures { λ r. ⌜ Answers (readBlock (now («data» .entry))) blank r ⌝ }
     {
         let mut payload = [0u8; 31];
         let head = headers::read_head(data, 0);

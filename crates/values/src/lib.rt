@@ -2,7 +2,7 @@
 // and answers the place behind the line beside what the call leaves.
 ghost use mathlib.Core.Path.{_≡_};
 ghost use mathlib.Core.Bool.{_&&_};
-ghost use Rattle.model.specs.Said.{mapped, checked};
+ghost use Rattle.model.specs.Said.{checked};
 ghost use Rattle.model.specs.Block.{newBlock, readBlock, writtenBlock, pushToBlock};
 ghost use Rattle.model.specs.Packet.{newPacket, readPacket, readTidy, writtenPacket, pushBlock, pushRun, pushRunSingle};
 ghost use Rattle.caption.specs.Answers.{saidAnswer};
@@ -31,7 +31,7 @@ pub struct OnPacket {
 
 // A new block, where the call accepts.
 pub fn new_block(out: &mut [u8], at: usize, before: Service, number: u8) -> OnBlock
-    ensures { λ r. ⌜ Did (makes block.blank before (mapped block.laid (newBlock number))) (now (out .entry)) at (r .laid) (r .service) (now (out .exit)) ⌝ }
+    ensures { λ r. ⌜ Did (makes block.over block.blank before (newBlock number)) (now (out .entry)) at (r .laid) (r .service) (now (out .exit)) ⌝ }
 {
     let made = Service::new(number);
     let answer = made.answer;
@@ -59,7 +59,7 @@ pub fn push_to_block(out: &mut [u8], at: usize, before: Service, run: &[u8]) -> 
 
 // A block read out of bytes, where the call accepts.
 pub fn read_block(out: &mut [u8], at: usize, before: Service, bytes: &[u8]) -> OnBlock
-    ensures { λ r. ⌜ Did (reads readBlockLine block.blank before (mapped block.laid (readBlock (now (bytes .entry))))) (now (out .entry)) at (r .laid) (r .service) (now (out .exit)) ⌝ }
+    ensures { λ r. ⌜ Did (reads readBlockLine block.over block.blank before (readBlock (now (bytes .entry)))) (now (out .entry)) at (r .laid) (r .service) (now (out .exit)) ⌝ }
 {
     let read = Service::parse(bytes);
     let answer = read.answer;
@@ -98,7 +98,7 @@ pub fn set_block(out: &mut [u8], at: usize, before: Service, number: u8, len: u8
 
 // A new packet, where the call accepts.
 pub fn new_packet(out: &mut [u8], at: usize, before: DTVCCPacket, sequence: u8) -> OnPacket
-    ensures { λ r. ⌜ Did (makes packet.blank before (mapped packet.laid (newPacket sequence))) (now (out .entry)) at (r .laid) (r .packet) (now (out .exit)) ⌝ }
+    ensures { λ r. ⌜ Did (makes packet.over packet.blank before (newPacket sequence)) (now (out .entry)) at (r .laid) (r .packet) (now (out .exit)) ⌝ }
 {
     let made = DTVCCPacket::new(sequence);
     let answer = made.answer;
@@ -168,14 +168,14 @@ fn packet_read(out: &mut [u8], at: usize, before: DTVCCPacket, read: PacketAnswe
 
 // A packet read plainly out of bytes, where the call accepts.
 pub fn read_plain(out: &mut [u8], at: usize, before: DTVCCPacket, bytes: &[u8]) -> OnPacket
-    ensures { λ r. ⌜ Did (reads readPacketLine packet.blank before (mapped packet.laid (readPacket (now (bytes .entry))))) (now (out .entry)) at (r .laid) (r .packet) (now (out .exit)) ⌝ }
+    ensures { λ r. ⌜ Did (reads readPacketLine packet.over packet.blank before (readPacket (now (bytes .entry)))) (now (out .entry)) at (r .laid) (r .packet) (now (out .exit)) ⌝ }
 {
     packet_read(out, at, before, DTVCCPacket::parse(bytes))
 }
 
 // A packet read tidily out of bytes, where the call accepts.
 pub fn read_tidily(out: &mut [u8], at: usize, before: DTVCCPacket, bytes: &[u8]) -> OnPacket
-    ensures { λ r. ⌜ Did (reads readPacketLine packet.blank before (mapped packet.laid (readTidy (now (bytes .entry))))) (now (out .entry)) at (r .laid) (r .packet) (now (out .exit)) ⌝ }
+    ensures { λ r. ⌜ Did (reads readPacketLine packet.over packet.blank before (readTidy (now (bytes .entry)))) (now (out .entry)) at (r .laid) (r .packet) (now (out .exit)) ⌝ }
 {
     packet_read(out, at, before, DTVCCPacket::parse_tidy(bytes))
 }

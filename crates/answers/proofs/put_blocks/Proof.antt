@@ -40,11 +40,13 @@ loop-less : tie.Need-loop-less Inv-loop μ-loop
 loop-less c = search needs
 
 loop-again : tie.Need-loop-again Inv-loop μ-loop
-loop-again c = (
-  search needs,
-  search needs,
-  blocks-more _ _ _ (c .before .before .before .before .before .before .before .service .ensures) (c .before .before .before .before .before .enum-told .given .1) (c .before .before .before .before .before .before .before .before .before .loop .inv .2) (c .before .before .put-block .ensures),
-)
+loop-again c =
+    let l = c .before .before .before .before .before .before .before .before .before .loop in (
+      search needs,
+      search needs,
+      blocks-more _ (l .i) _ (c .before .before .before .before .before .before .before .service .ensures)
+          (c .before .before .before .before .before .enum-told .given .1) (l .inv .2) (c .before .before .put-block .ensures),
+    )
 
 enum-told-2 : tie.Need-enum-told-2 Inv-loop μ-loop
 enum-told-2 c = search needs

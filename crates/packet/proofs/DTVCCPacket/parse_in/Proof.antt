@@ -1,6 +1,7 @@
 -- It is the reader with the plain rules. Assumes nothing.
+use mathlib.Core.Bool.{false}
 use Rattle.blocks.specs.Reading.{readAs}
-use Rattle.packet.proofs.Replies.{read-answer}
+use Rattle.packet.proofs.Replies.{read-within, read-answer}
 use borrow.Author.Needs.{needs}
 use Rattle.packet.proofs.DTVCCPacket.parse_in.Statement.{statement}
 use Rattle.packet.proofs.DTVCCPacket.parse_in.Tie as tie
@@ -13,7 +14,7 @@ packet-of-requires c κs = search needs
 
 returns : tie.Need-returns
 unfolding readAs
-returns c = read-answer _ _ _ (c .packet-of .ensures) (c .before .read-in .ensures)
+returns c = read-answer _ _ _ (read-within false _) (c .packet-of .ensures) (c .before .read-in .ensures)
 
 pub parse-in-spec : {M : Type 1} → statement M
 parse-in-spec = tie.close (tie.spec read-in-requires packet-of-requires returns)

@@ -22,7 +22,7 @@ nowhere-requires : tie.Need-nowhere-requires
 nowhere-requires c κs = search needs
 
 returns : tie.Need-returns
-returns c = let s = c .before .before .before .before .before .before .before in let p = s .args .self in place-invalid p _ _ (invalid p _ (c .before .before .before .extent .ensures) (places s) (c .before .enum-told2 .given .1)) (c .nowhere .ensures .0) (c .nowhere .ensures .1)
+returns c = let s = c .before .before .before .before .before .before .before in let p = s .args .self in place-invalid p (s .args .place) _ (invalid p _ (c .before .before .before .extent .ensures) (places s) (c .before .enum-told2 .given .1)) (c .nowhere .ensures .0) (c .nowhere .ensures .1)
 
 nowhere-requires-2 : tie.Need-nowhere-requires-2
 nowhere-requires-2 c κs = search needs

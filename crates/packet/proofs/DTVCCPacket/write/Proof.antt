@@ -1,4 +1,5 @@
 -- What is written of the three arrays is the packet as written. Assumes nothing.
+use Rattle.entries.specs.Fields.{validFields}
 use Rattle.packet.specs.Packet.{validDTVCC}
 use borrow.Author.Needs.{needs}
 use Rattle.packet.proofs.DTVCCPacket.write.Statement.{statement}
@@ -11,7 +12,7 @@ same-length : tie.Need-same-length
 same-length c = search needs
 
 returns : tie.Need-returns
-unfolding validDTVCC
+unfolding validDTVCC validFields
 returns c = c .before .before .write .ensures
 
 pub write-spec : {M : Type 1} → statement M

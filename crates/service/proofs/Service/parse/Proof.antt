@@ -12,7 +12,7 @@ use borrow.Author.Needs.{needs}
 use Rattle.headers.specs.declared.Head.the-variants.{Whole}
 use Rattle.headers.specs.Head.{headOf}
 use Rattle.headers.proofs.Heads.{Headed, headed}
-use Rattle.service.proofs.Services.{refuses, gives, parse-short, parse-null, parse-some, part-length, laid-as}
+use Rattle.service.proofs.Services.{refuses, gives, blank-places, parse-short, parse-null, parse-some, part-length, laid-as}
 use Rattle.service.proofs.Service.parse.Statement.{statement}
 use Rattle.service.proofs.Service.parse.Tie as tie
 
@@ -62,7 +62,7 @@ returns c =
     (c .refused .ensures .0 ∙ c .before .short-of .ensures ∙ simp e) (c .refused .ensures .1)
 
 returns-2 : tie.Need-returns-2
-returns-2 c = gives _ _ _ _ (parse-null _ _ _ _ (is (c .before .before)) (c .if1 .taken)) refl refl
+returns-2 c = gives _ _ _ _ blank-places (omega arith) (parse-null _ _ _ _ (is (c .before .before)) (c .if1 .taken)) refl refl
 
 add-end : tie.Need-add-end
 add-end c = omega (arith, known (c .before .before) .fits)
@@ -86,7 +86,8 @@ returns-3 : tie.Need-returns-3
 returns-3 c = let n = c .before .before .before .before .before .before in
     let p : List ℕ = take (Sz n) (drop (St n) (D n)) in
     let e : c .before .put-bytes .last .0 ≡ sets (replicate 31 0) 0 p = c .before .put-bytes .ensures ∙ rw add-sub-cancel-left in
-    gives _ _ _ _ (parse-some (D n) _ _ _ (is n) (c .before .before .before .before .if1 .left)) refl (laid-as (N n) (Sz n) _ p (part-length (D n) _ _ _ (is n)) e)
+    let k = part-length (D n) _ _ _ (is n) in
+    gives _ _ _ _ blank-places (omega (arith, known n .small, k)) (parse-some (D n) _ _ _ (is n) (c .before .before .before .before .if1 .left)) refl (laid-as (N n) (Sz n) _ p k e)
 
 pub parse-spec : {M : Type 1} → statement M
 parse-spec =

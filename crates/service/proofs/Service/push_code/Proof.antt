@@ -9,7 +9,7 @@ use borrow.Author.Tests.{not-true, not-false}
 use borrow.Author.Needs.{needs}
 use Rattle.service.specs.declared.Service.{Service}
 use Rattle.service.specs.Service.{validService}
-use Rattle.service.proofs.Services.{push-refuses, push-gives, valid-len, push-invalid, push-empty, push-null, push-over, push-fits, push-small, pushed-as}
+use Rattle.service.proofs.Services.{refuses, gives, valid-len, push-invalid, push-empty, push-null, push-over, push-fits, push-small, pushed-as}
 use Rattle.service.proofs.Service.push_code.Statement.{statement}
 use Rattle.service.proofs.Service.push_code.Tie as tie
 
@@ -38,7 +38,7 @@ refused-requires c κs = search needs
 returns : tie.Need-returns
 returns c =
     let b = c .before .before in
-    push-refuses _ _ _ _ (push-invalid (S b) _ refl (places b) _ (sym (b .is-valid .ensures) ∙ not-true _ (c .before .if1 .taken)))
+    refuses _ _ _ _ (push-invalid (S b) _ refl (places b) _ (sym (b .is-valid .ensures) ∙ not-true _ (c .before .if1 .taken)))
     (c .refused .ensures .0) (c .refused .ensures .1)
 
 refused-requires-2 : tie.Need-refused-requires-2
@@ -47,7 +47,7 @@ refused-requires-2 c κs = search needs
 returns-2 : tie.Need-returns-2
 returns-2 c =
     let b = c .before .before in
-    push-refuses _ _ _ _ (push-empty (S (b .before)) _ refl (places (b .before)) _ (valid b) (c .before .if2 .taken)) (c .refused2 .ensures .0)
+    refuses _ _ _ _ (push-empty (S (b .before)) _ refl (places (b .before)) _ (valid b) (c .before .if2 .taken)) (c .refused2 .ensures .0)
     (c .refused2 .ensures .1)
 
 refused-requires-3 : tie.Need-refused-requires-3
@@ -56,7 +56,7 @@ refused-requires-3 c κs = search needs
 returns-3 : tie.Need-returns-3
 returns-3 c =
     let b = c .before .before .before in
-    push-refuses _ _ _ _
+    refuses _ _ _ _
     (push-null (S (b .before)) _ refl (places (b .before)) _ (valid b) (c .before .before .if2 .left) (c .before .if3 .taken))
     (c .refused3 .ensures .0) (c .refused3 .ensures .1)
 
@@ -75,7 +75,7 @@ refused-requires-4 c κs = search needs
 returns-4 : tie.Need-returns-4
 returns-4 c =
     let b = c .before .before .before .before in
-    push-refuses _ _ _ _
+    refuses _ _ _ _
     (push-over (S (b .before)) _ refl (places (b .before)) _ (valid b) (c .before .before .before .if2 .left) (c .before .before .if3 .left) (c .before .if4 .taken))
     (c .refused4 .ensures .0) (c .refused4 .ensures .1)
 
@@ -92,7 +92,7 @@ returns-5 : tie.Need-returns-5
 returns-5 c =
     let b = c .before .before .before .before .before .before in
     let fits = c .before .before .before .if4 .left in
-    push-gives _ _ _ _ (places (b .before)) (push-small (S (b .before)) _ refl (places (b .before)) (R (b .before)) (valid b) fits)
+    gives _ _ _ _ (places (b .before)) (push-small (S (b .before)) _ refl (places (b .before)) (R (b .before)) (valid b) fits)
     (push-fits (S (b .before)) _ refl (places (b .before)) _ (valid b) (c .before .before .before .before .before .if2 .left) (c .before .before .before .before .if3 .left) fits)
     refl (pushed-as (S (b .before)) _ refl (places (b .before)) (R (b .before)) (valid b) _ (c .before .put-bytes .ensures))
 

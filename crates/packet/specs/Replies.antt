@@ -1,0 +1,57 @@
+-- What the functions of this crate that are not public answer, and the places of a packet as the leaf crates have them: no public contract reaches
+-- this file. Assumes nothing.
+use mathlib.Core.List.{List}
+use Prim.Native.Nat.{ℕ}
+use Rattle.caption.specs.declared.Counted.{Counted}
+use Rattle.caption.specs.declared.Counted.the-variants.{Count, Refused}
+use Rattle.caption.specs.declared.Refusal.{Refusal}
+use Rattle.caption.specs.declared.Answer.{Answer}
+use Rattle.caption.specs.declared.Answer.the-variants as answer
+use Rattle.entries.specs.declared.Extent.{Extent}
+use Rattle.entries.specs.Fields.{Fields, fields}
+use Rattle.entries.specs.Entries.{Entry}
+use Rattle.entries.specs.Entries as listed
+use Rattle.entries.specs.Extent.{extentAs}
+use Rattle.blocks.specs.declared.Filled.{Filled}
+use Rattle.blocks.specs.Reading as reading
+use Rattle.packet.specs.declared.DTVCCPacket.{DTVCCPacket}
+use Rattle.packet.specs.declared.PacketAnswer.{PacketAnswer}
+use Rattle.packet.specs.Packet.{blank}
+
+-- its places
+abbrev pub fieldsOf : DTVCCPacket → Fields
+fieldsOf p = fields (p .«seq_no») (p .count) (p .numbers) (p .sizes) (p .payload)
+
+-- the packet of places
+abbrev pub packetAt : Fields → DTVCCPacket
+packetAt f = record { «seq_no» = f .«seq_no»; count = f .count; numbers = f .numbers; sizes = f .sizes; payload = f .payload }
+
+-- its entries
+abbrev pub entriesOf : DTVCCPacket → List Entry
+entriesOf p = listed.entriesOf (fieldsOf p)
+
+-- its extent, or that it breaks a limit
+abbrev pub extentOf : DTVCCPacket → Extent
+extentOf p = extentAs (p .«seq_no») (p .count) (entriesOf p)
+
+-- a refusal, beside no packet
+abbrev pub unreadFor : Refusal → PacketAnswer
+unreadFor why = record { answer = answer.Refused why; packet = blank }
+
+-- what is answered to a reading, with the packet of the places that it filled
+abbrev pub answerFrom : Filled → PacketAnswer
+answerFrom r = record { answer = r .answer; packet = packetAt (reading.fieldsOf r) }
+
+-- what is answered by how many blocks there are
+abbrev pub answerTo : Counted → Answer
+answerTo (Count k) = answer.Accepted
+answerTo (Refused why) = answer.Refused why
+
+-- how many blocks there are after a push: as many as before, where it is refused
+abbrev pub countAfter : Counted → ℕ → ℕ
+countAfter (Count k) before = k
+countAfter (Refused why) before = before
+
+-- what is answered to it, with the places that it leaves
+abbrev pub answerOf : ℕ → ℕ → Counted → List ℕ → List ℕ → List ℕ → PacketAnswer
+answerOf sequence before r n s d = record { answer = answerTo r; packet = packetAt (fields sequence (countAfter r before) n s d) }
