@@ -1,6 +1,5 @@
 // The operations of a script on its block and its packet: each makes one call, lays the line that tells of it into a lent buffer from a place on,
 // and answers the place behind the line beside what the call leaves.
-ghost use mathlib.Core.Path.{_≡_};
 ghost use mathlib.Core.Bool.{_&&_};
 ghost use Rattle.model.specs.Said.{checked};
 ghost use Rattle.model.specs.Block.{newBlock, readBlock, writtenBlock, pushToBlock};
@@ -15,7 +14,6 @@ use caption::Answer;
 use packet::DTVCCPacket;
 use packet::PacketAnswer;
 use service::Service;
-use service::ServiceAnswer;
 
 // The place behind a line, and the block.
 pub struct OnBlock {
