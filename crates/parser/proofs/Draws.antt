@@ -15,10 +15,9 @@ use Rattle.caption.specs.declared.Answer.the-variants as answer
 use Rattle.caption.specs.declared.Answer.the-variants.{Accepted}
 use Rattle.caption.specs.declared.Refusal.{Refusal}
 use Rattle.caption.specs.declared.Refusal.the-variants as refusal
-use Rattle.model.specs.Said.{mapped}
 use Rattle.model.specs.Packet.{noPacket, readPacket}
 use Rattle.model.proofs.Cases.{by-test}
-use Rattle.packet.specs.Packet.{blank}
+use Rattle.packet.specs.Packet.{laid, blank}
 use Rattle.packet.specs.Packet as packet
 use Rattle.packet.specs.declared.DTVCCPacket.{DTVCCPacket}
 use Rattle.packet.specs.declared.PacketAnswer.{PacketAnswer}

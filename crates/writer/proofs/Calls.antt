@@ -11,7 +11,7 @@ use lib.Seq.{sets-eq, take-at}
 use Rattle.model.specs.Said.{Outcome, gave, refused, accepted, says, saysWith, after, checked, measured, mapped, putInto, badValue, badRate}
 use Rattle.model.specs.Frame as model
 use Rattle.model.specs.Frame.{Cea608, field1, field2, Pair, pair, Triple, tri, flat, frameBytes}
-use Rattle.model.specs.Rate.{Budgets, budgets}
+use Rattle.model.specs.Rate.{Budgets, pairsThenTriples, budgets}
 use Rattle.model.specs.Mux.{Mux, Turned, turned, turnsDue, countDue, Sent, send, padding, framed, writeFrame, writeAt, withPads, withQueues, flushMux, pushPair, pushCea608}
 use Rattle.model.specs.Duration.{pairsDuration, bytesDuration, bytesLeft, field1Duration, field2Duration, packetDuration}
 use Rattle.model.proofs.Cases.{by-cond, Gives}

@@ -9,7 +9,7 @@ new-requires c κs = search needs
 
 returns : tie.Need-returns
 unfolding newPacket
-returns c = c .before .new .ensures .packet
+returns c = c .before .new .ensures .places
 
 pub no-packet-spec : {M : Type 1} → statement M
 no-packet-spec = tie.close (tie.spec new-requires returns)
