@@ -15,7 +15,7 @@ use Rattle.model.specs.Demux.{Demux, aPair, aPacket, noItem, itemValues, itemPa
 use Rattle.model.proofs.Cases.{both}
 use Rattle.model.proofs.Packets.{Valid, valid-facts}
 use Rattle.model.proofs.DemuxStates.{demux-facts}
-use Rattle.packet.specs.Packet.{packetOf, blank, validDTVCC}
+use Rattle.packet.specs.Packet.{packetOf, blank, laid, validDTVCC}
 use Rattle.packet.proofs.Holds.{blank-places}
 use Rattle.packet.proofs.Keeps.{laid-over}
 use Rattle.parser.specs.Valid.{valid}
