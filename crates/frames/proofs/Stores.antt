@@ -21,10 +21,6 @@ sets-append : (x y l : List ℕ) (i : ℕ) → sets (sets l i x) (i + length x) 
 sets-append [] y l i = rw (add-zero i)
 sets-append (v ∷ x) y l i = let e : i + suc (length x) ≡ suc i + length x = omega arith in rw e (sets-append x y (set l i v) (suc i))
 
--- nothing more
-pub appended-nil : (f : Frame) → appended f [] ≡ f
-appended-nil f = rw (add-zero (f .len))
-
 -- more, and then more
 appended-append : (f : Frame) (x y : List ℕ) → appended (appended f x) y ≡ appended f (x ++ y)
 appended-append f x y = rw (sets-append x y (f .bytes) (f .len), length-append x y, add-assoc (f .len) (length x) (length y))

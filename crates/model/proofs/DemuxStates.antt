@@ -15,7 +15,8 @@ use Rattle.model.specs.Packet.{Packet, packetSize, readPacket, validPack
 use Rattle.model.specs.Frame.{Cea608, Seen, first, second, start, more, void608, void708, seenAll, triplesIn, countIn}
 use Rattle.model.specs.Demux.{Demux, Gathered, Taken, validPending, validDemux, freshDemux, turn608On, flushDemux, pairsIn, lateFrom, carries708, givenIn, closed, packetsOf, wants, gather, ended, gathered, takeGathered, takeTriples, unread, takeFrame, withPairs, draw}
 use Rattle.model.proofs.Cases.{by-test, by-cond, both, and-both}
-use Rattle.model.proofs.Packets.{facts-valid, all-append}
+use Rattle.model.proofs.Lists.{every-append}
+use Rattle.model.proofs.Packets.{facts-valid}
 use Rattle.model.proofs.Limits.{plain-valid}
 use Rattle.model.proofs.Frames.{few-pairs}
 
@@ -139,7 +140,7 @@ closed-valid g = by-reading (readPacket g) refl
 pub packets-valid : (gs : List (List ℕ)) → every validPacket (packetsOf gs) ≡ true
 unfolding packetsOf every
 packets-valid [] = refl
-packets-valid (g ∷ gs) = all-append validPacket (closed g) (packetsOf gs) (closed-valid g) (packets-valid gs)
+packets-valid (g ∷ gs) = every-append validPacket (closed g) (packetsOf gs) (closed-valid g) (packets-valid gs)
 
 -- triples are gathered so
 gather-right : (g : List ℕ) (ts : List Seen) → Gathering g → Gathering (gather g ts .bytes)
@@ -198,7 +199,7 @@ module _ (d : Demux) (f : DemuxLimits d) where
         pairs = kept-pairs (d .on608) ps h;
         listed = kept-listed (d .on608) ps;
         waiting = rw length-append (ltb-false 32 (length (d .waiting) + length (packetsOf (o .runs))) e);
-        packets = all-append validPacket (d .waiting) (packetsOf (o .runs)) (f .packets) (packets-valid (o .runs));
+        packets = every-append validPacket (d .waiting) (packetsOf (o .runs)) (f .packets) (packets-valid (o .runs));
         pending = k;
       }))
 

@@ -1,11 +1,11 @@
--- Bytes that are tested to be the same are equal, and equal ones pass the test. Assumes nothing.
+-- Bytes that are tested to be the same are equal, and equal ones pass the test; two lists that pass a test pass it as one. Assumes nothing.
 use mathlib.Core.Path.{_≡_, refl}
-use mathlib.Core.Bool.{true, false≢true}
-use mathlib.Core.List.{List, [], _∷_}
+use mathlib.Core.Bool.{Bool, true, false≢true}
+use mathlib.Core.List.{List, [], _∷_, _++_}
 use Prim.Native.Nat.{ℕ}
 use borrow.Author.Tests.{eq-eqb, eqb-true}
 use lib.Dec.{eqb}
-use Rattle.model.specs.Lists.{same}
+use Rattle.model.specs.Lists.{every, same}
 use Rattle.model.proofs.Cases.{both, and-both}
 
 -- bytes that are the same
@@ -21,3 +21,11 @@ pub same-self : (d : List ℕ) → same d d ≡ true
 unfolding same
 same-self [] = refl
 same-self (x ∷ d) = and-both _ _ (eq-eqb x x refl) (same-self d)
+
+-- two lists whose elements pass a test
+pub every-append : {A : Type 0} (test : A → Bool) (xs ys : List A) → every test xs ≡ true → every test ys ≡ true → every test (xs ++ ys) ≡ true
+unfolding every
+every-append test [] ys v w = w
+every-append test (x ∷ xs) ys v w =
+    let u = both (test x) (every test xs) v in
+    and-both (test x) (every test (xs ++ ys)) (u .0) (every-append test xs ys (u .1) w)

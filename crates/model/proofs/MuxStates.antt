@@ -14,7 +14,8 @@ use Rattle.model.specs.Rate.{Budgets}
 use Rattle.model.specs.Mux.{Mux, freshMux, withPads, flushMux, storable, validMux, queued, pushPacket, isNull, pushPair, pushCea608, Turned, turnsDue, turn1, turn2, turned, packetTriples, countDue, Sent, send, padding, framed, writeFrame}
 use Rattle.model.specs.Run.{Accepted}
 use Rattle.model.proofs.Cases.{by-test, by-cond, both, and-both, Gives, gives-mapped}
-use Rattle.model.proofs.Packets.{valid-facts, all-append}
+use Rattle.model.proofs.Lists.{every-append}
+use Rattle.model.proofs.Packets.{valid-facts}
 use Rattle.model.proofs.Sends.{triples-length}
 use Rattle.model.proofs.Frames.{frame-length}
 
@@ -99,7 +100,7 @@ queued-stored p ps v h =
     by-cond (Gives Queued) (leb 16 (length ps)) (λ _. tt)
     (λ e. record {
       few = rw length-append (omega (arith, leb-false 16 (length ps) e));
-      stored = all-append storable ps (p ∷ []) h (and-both (storable p) true v refl);
+      stored = every-append storable ps (p ∷ []) h (and-both (storable p) true v refl);
     })
 
 -- a packet pushed that breaks no limit

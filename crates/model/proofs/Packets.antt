@@ -35,14 +35,6 @@ pub facts-valid : (p : Packet) → Valid p → validPacket p ≡ true
 unfolding validPacket
 facts-valid p v = simp (le-leb _ _ (v .sequence), v .blocks, le-leb _ _ (v .length))
 
--- two lists of packets that pass a test
-pub all-append : (test : Packet → Bool) (ps qs : List Packet) → every test ps ≡ true → every test qs ≡ true → every test (ps ++ qs) ≡ true
-unfolding every
-all-append test [] qs v w = w
-all-append test (p ∷ ps) qs v w =
-    let u = both (test p) (every test ps) v in
-    and-both (test p) (every test (ps ++ qs)) (u .0) (all-append test ps qs (u .1) w)
-
 -- blocks of a packet: their lengths' sum is the length of what they are written in, two bytes or more each
 pub blocks-length : (bs : List Block) → every carriable bs ≡ true → length (writtenBlocks bs) ≡ blocksLength bs
 unfolding every writtenBlocks blocksLength

@@ -10,11 +10,12 @@ use Rattle.model.specs.Packet.{Packet}
 use Rattle.model.specs.Frame.{Cea608, Seen, seenAll, triplesIn, countIn}
 use Rattle.model.specs.Demux.{Demux, Gathered, Taken, packetsOf, pairsIn, lateFrom, gathered, takeGathered, takeTriples, unread, takeFrame}
 use Rattle.model.proofs.Cases.{by-cond}
+use Rattle.model.proofs.Lists.{every-append}
 use Rattle.model.proofs.Frames.{Read, packets-append, packets-many, gathered-read}
 use Rattle.model.proofs.Frames as frames
 use Rattle.slots.specs.declared.Slot.{Slot}
 use Rattle.rings.specs.Ring.{ringFrom, slotRun, setRound}
-use Rattle.rings.proofs.Rings.{slotOfRun, round-length, ring-laid, runs-again, runs-fine, fine-append}
+use Rattle.rings.proofs.Rings.{slotOfRun, round-length, ring-laid, runs-again, runs-fine}
 use Rattle.parser.proofs.Laid.{Stands}
 
 -- what a frame delivers to d
@@ -73,7 +74,7 @@ module _ (f n : ℕ) (l : List Slot) (ps : List Packet) (gs : List (List ℕ)) (
       record {
         first = old .first;
         places = round-length (f + n) l gs ∙ old .places;
-        reading = rw laid-ring (fine-append (ringFrom f n l) (map slotOfRun gs) (rw counted at (old .reading)) (runs-fine r));
+        reading = rw laid-ring (every-append slotFine (ringFrom f n l) (map slotOfRun gs) (rw counted at (old .reading)) (runs-fine r));
         packets =
             rw (laid-ring, runs-append (ringFrom f n l) (map slotOfRun gs), runs-again r, packets-append (map slotRun (ringFrom f n l)) gs)
             (ap (λ (x : List Packet). x ++ packetsOf gs) (rw counted at (old .packets)));

@@ -89,11 +89,3 @@ pub runs-fine : {gs : List (List ℕ)} → Read gs → every slotFine (map slotO
 unfolding every slotFine
 runs-fine none = refl
 runs-fine (also {g} {gs} e r) = rw (le-leb (length g) 128 (reads-short g e), run-slot g e, e) (runs-fine r)
-
--- slots that read, and others
-pub fine-append : (l m : List Slot) → every slotFine l ≡ true → every slotFine m ≡ true → every slotFine (l ++ m) ≡ true
-unfolding every
-fine-append [] m e f = f
-fine-append (x ∷ l) m e f =
-    let g = both (slotFine x) (every slotFine l) e in
-    and-both _ _ (g .0) (fine-append l m (g .1) f)

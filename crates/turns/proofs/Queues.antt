@@ -15,44 +15,8 @@ use Rattle.model.specs.Frame.{Pair, pair}
 use Rattle.model.specs.Mux.{isNull, pushPair, queued, mostQueued}
 use Rattle.headers.proofs.Runs.{sets-append, sets-front}
 use Rattle.turns.specs.Queue.{pairsOf, queueOf, pairBytes, queueOver}
-use Rattle.turns.specs.Step.{slid, pushed}
+use Rattle.turns.specs.Step.{pushed}
 use Rattle.turns.specs.declared.PairQueue.{PairQueue}
-
--- moving down, one place more
-module _ {A : Type 0} (d : A) (k : ℕ) (l : List A) (m : ℕ) where
-  -- as many as are moved
-  front-length : m + k ≤ length l → length (take m (drop k l)) ≡ m
-  front-length h = length-take-le m (drop k l) (simp length-drop (omega arith))
-
-  -- one place more
-  pub slid-more : m + k < length l → set (slid k m l) m (getD (slid k m l) (m + k) d) ≡ slid k (m + 1) l
-  unfolding slid
-  slid-more h =
-      let f : length (take m (drop k l)) ≡ m = front-length (omega arith) in
-      let hk : m < length (drop k l) = simp length-drop (omega arith) in
-      let at : getD (take m (drop k l) ++ drop m l) (m + k) d ≡ getD l (m + k) d =
-      ap (λ (x : ℕ). getD (take m (drop k l) ++ drop m l) (x + k) d) (sym f) ∙ getD-append-add (take m (drop k l)) (drop m l) k d ∙ getD-drop m l k d in
-      rw (at, drop-cons l m d (omega arith), set-at (take m (drop k l)) (getD l m d) (drop (suc m) l) (getD l (m + k) d) m f, add-one, take-suc (drop k l) m d hk, append-assoc, getD-drop k l m d, add-comm k m)
-
-  -- what stands in front, and how much there is
-  pub slid-front : m + k ≤ length l → take m (slid k m l) ≡ take m (drop k l)
-  unfolding slid
-  slid-front h = take-at (take m (drop k l)) (drop m l) m (front-length h)
-
-  -- no place is lost
-  pub slid-length : m + k ≤ length l → length (slid k m l) ≡ length l
-  unfolding slid
-  slid-length h = simp (length-append, length-drop, front-length h) (omega arith)
-
-  -- the same, laid over the places from the first on
-  pub slid-over : m + k ≤ length l → sets l 0 (take m (drop k l)) ≡ slid k m l
-  unfolding slid
-  slid-over h = let f = front-length h in sets-eq (take m (drop k l)) l 0 (omega arith) ∙ rw (f, zero-add m)
-
--- nothing has moved yet
-pub slid-none : {A : Type 0} (k : ℕ) (l : List A) → l ≡ slid k 0 l
-unfolding slid
-slid-none k l = refl
 
 -- too few bytes for a pair
 pub no-pairs : (l : List ℕ) → length l ≤ 1 → pairsOf l ≡ []

@@ -11,10 +11,6 @@ use Rattle.turns.specs.declared.Course.{Course}
 use Rattle.turns.specs.declared.PairQueue.{PairQueue}
 use Rattle.turns.specs.declared.Turns.{Turns}
 
--- a list whose first m places are taken from k places further on
-unfoldable pub slid : {A : Type 0} → ℕ → ℕ → List A → List A
-slid k m l = take m (drop k l) ++ drop m l
-
 -- a pair in the first place that is free
 abbrev pub pushed : PairQueue → ℕ → ℕ → PairQueue
 pushed q a b = record { bytes = set (set (q .bytes) (2 * q .count) a) (2 * q .count + 1) b; count = q .count + 1 }

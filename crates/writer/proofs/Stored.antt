@@ -14,6 +14,7 @@ use Rattle.model.specs.Packet.{Packet, packetLength, writtenPacket, validPacket
 use Rattle.model.specs.Frame.{Pair, Cea608, field1, field2}
 use Rattle.model.specs.Mux.{Mux, withPads, withQueues, withPackets, flushMux, storable, validMux, queued, pushPacket, pushPair, pushCea608, mostPackets, started}
 use Rattle.model.proofs.Cases.{by-test, both, and-both, Gives}
+use Rattle.model.proofs.Lists.{every-append}
 use Rattle.model.proofs.Packets.{Valid, valid-facts, Shape, shape}
 use Rattle.model.proofs.MuxStates.{MuxLimits, mux-facts, pads-valid, push608-valid, push-valid}
 use Rattle.turns.specs.Queue.{pairsOf, queueOf, pairBytes, queueOver}
@@ -118,12 +119,6 @@ packets-append : (l m : List Slot) → slotPackets (l ++ m) ≡ slotPackets l ++
 packets-append [] m = refl
 packets-append (s ∷ l) m = ap (λ (ps : List Packet). slotPacket s ∷ ps) (packets-append l m)
 
--- written slots behind written slots
-all-append : (l m : List Slot) → every writtenSlot l ≡ true → every writtenSlot m ≡ true → every writtenSlot (l ++ m) ≡ true
-unfolding every
-all-append [] m e f = f
-all-append (s ∷ l) m e f = let t = both (writtenSlot s) (every writtenSlot l) e in and-both _ _ (t .0) (all-append l m (t .1) f)
-
 module _ (w : CCDataWriter) (o : Order w) where
   -- as many packets as are counted
   taken-length : length (take (w .«packet_count») (w .packets)) ≡ w .«packet_count»
@@ -211,7 +206,7 @@ module _ (w : CCDataWriter) (o : Order w) where
           first = omega (arith, s1 .few, s1 .flat);
           second = omega (arith, s2 .few, s2 .flat);
           sending = o .sending;
-          slots = rw front (all-append (take (w .«packet_count») (w .packets)) (map slotOf (g .more)) (o .slots) (slots-written (g .more) more-storable));
+          slots = rw front (every-append writtenSlot (take (w .«packet_count») (w .packets)) (map slotOf (g .more)) (o .slots) (slots-written (g .more) more-storable));
         }
 
     -- with arrays of their lengths
