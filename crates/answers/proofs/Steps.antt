@@ -1,7 +1,7 @@
 -- What an operation does, by the call that it makes. Assumes nothing.
 use mathlib.Core.Path.{_≡_, _∙_}
 use mathlib.Core.Bool.{Bool}
-use mathlib.Core.List.{List, [], _∷_}
+use mathlib.Core.List.{List}
 use Prim.Native.Nat.{ℕ}
 use Rattle.model.specs.Said.{Said}
 use Rattle.caption.specs.declared.Answer.{Answer}
@@ -11,9 +11,8 @@ use Rattle.caption.specs.declared.Refusal.{Refusal}
 use Rattle.caption.specs.Answers.{saidAnswer, saidCounted}
 use Rattle.service.specs.Service.{Writes}
 use Rattle.records.specs.Laid.{Laid}
-use Rattle.records.specs.Text.{word}
 use Rattle.answers.specs.Script.{answerLine, lentLine}
-use Rattle.answers.specs.Steps.{Effect, Did, Lends, tells, becomes, chosen}
+use Rattle.answers.specs.Steps.{Did, Lends, tells, chosen}
 use Rattle.answers.proofs.Parts.{refused-number}
 
 module _ {S : Type 0} {out now : List ℕ} {at laid : ℕ} where

@@ -6,7 +6,7 @@ use lib.Dec.{eqb}
 use lib.ListN.{length}
 use Rattle.model.specs.Said.{Said, accepted, gave, saysWith, checked}
 use Rattle.model.specs.Block.{Block, blockLength, blockRoom}
-use Rattle.model.specs.Packet.{Packet, packetLength, packetRoom}
+use Rattle.model.specs.Packet.{packetLength, packetRoom}
 use Rattle.model.specs.Duration.{field1Duration, field2Duration, packetDuration}
 use Rattle.caption.specs.Answers.{saidRefusal}
 use Rattle.caption.specs.declared.Counted.{Counted}
@@ -18,7 +18,7 @@ use Rattle.packet.specs.Packet.{packetOf, validDTVCC}
 use Rattle.writer.specs.declared.CCDataWriter.{CCDataWriter}
 use Rattle.writer.specs.Writer.{means, validWriter}
 use Rattle.records.specs.Text.{word, decimal, hex}
-use Rattle.lines.specs.Lines.{valueText, valuesText, runText, blockText, answerText}
+use Rattle.lines.specs.Lines.{valueText, runText, blockText, answerText}
 
 -- an answer, on a line of its own
 unfoldable pub answerLine : Said → List ℕ

@@ -2,7 +2,6 @@
 // what it laid.
 ghost use mathlib.Core.Path.{_≡_};
 ghost use mathlib.Core.List.{[], _∷_};
-ghost use Prim.Native.Nat.{ℕ};
 ghost use Rattle.model.specs.Said.{accepted};
 ghost use Rattle.caption.specs.Answers.{saidRefusal, saidAnswer, saidCounted, saidTruth};
 ghost use Rattle.writer.specs.Calls.{saidMicros};

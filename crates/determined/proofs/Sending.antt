@@ -1,5 +1,5 @@
 -- The packet triples of a frame. Assumes nothing.
-use mathlib.Core.Path.{_≡_, sym, _∙_}
+use mathlib.Core.Path.{sym, _∙_}
 use Rattle.sending.proofs.count_of.Reads as count_of
 use Rattle.sending.proofs.fill.Reads as Fill
 use Rattle.sending.proofs.bytes_left.Reads as bytes_left

@@ -11,7 +11,7 @@ use Rattle.model.specs.Lists.{every}
 use Rattle.model.specs.Said.{gave}
 use Rattle.model.specs.Block.{Block, writtenBlock}
 use Rattle.model.specs.Packet.{Packet, sequenceIn, packetSize, blocksFrom, readBy, readPacket, readTidy, blocksLength, packetLength, writtenBlocks, packetHeader, fill, writtenPacket, carriable, validPacket}
-use Rattle.model.proofs.Cases.{by-test, both, and-both}
+use Rattle.model.proofs.Cases.{by-test, both}
 use Rattle.model.proofs.Blocks.{carriable-facts, block-length}
 use Rattle.model.proofs.BlockTrip.{written-some}
 use Rattle.model.proofs.Walk.{Passes, plain-passing, tidy-passing, blocks-none, blocks-fill, blocks-written}

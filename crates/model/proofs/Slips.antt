@@ -5,14 +5,14 @@ use mathlib.Core.Bool.{true, false}
 use mathlib.Core.List.{List, [], _∷_}
 use Prim.Native.Nat.{ℕ}
 use lib.ListN.{replicate}
-use Rattle.model.specs.Said.{Said, Outcome, gave, checked, putInto}
+use Rattle.model.specs.Said.{Said, gave, checked, putInto}
 use Rattle.model.specs.Said as said
 use Rattle.model.specs.Block.{Block, headerLength, numberIn, needed, isShort, blockIn, readBlock, newBlock, pushToBlock, writtenHeader, writtenBlock, blockLength}
 use Rattle.model.specs.Packet.{Packet, packetSize, plainMove, blocksFrom, readBy, readPacket, reads, blocksLength, packetLength, pushBlock, latestOf, pushNew, pushAt, pushRunAt, pushRunBy, pushRun, pushRunSingle}
-use Rattle.model.specs.Frame.{Pair, pair, Cea608, field1, field2, seen, seenAll, triplesIn, flagged}
+use Rattle.model.specs.Frame.{pair, field1, seen, seenAll, triplesIn, flagged}
 use Rattle.model.specs.Demux.{turn608On, freshDemux, pairsIn, lateAfter, lateFrom, carries708, closed, packetsOf, kept, wants, gather, ended, gathered, takeGathered, takeTriples, unread, takeFrame}
 use Rattle.model.specs.Rate.{rounded, budgets}
-use Rattle.model.specs.Mux.{Mux, freshMux, withPackets, queued, isNull, pushPair}
+use Rattle.model.specs.Mux.{freshMux, withPackets, queued, isNull, pushPair}
 use Rattle.model.specs.Duration.{ceil, pairsDuration, lengthsOf, bytesLeft, bytesDuration, packetDuration}
 use Rattle.model.specs.Run.{Read, readFrames}
 use Rattle.model.proofs.Examples.{says, one}

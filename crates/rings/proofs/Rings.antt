@@ -11,7 +11,7 @@ use lib.Dec.{eqb, ltb}
 use borrow.Author.Tests.{le-leb, eqb-true, ltb-false}
 use Rattle.model.specs.Lists.{every}
 use Rattle.model.specs.Packet.{packetSize, readBy, readPacket, reads}
-use Rattle.model.proofs.Cases.{by-test, and-both, both}
+use Rattle.model.proofs.Cases.{by-test}
 use Rattle.model.proofs.Limits.{size-most}
 use Rattle.model.proofs.Frames.{Read, none, also}
 use Rattle.slots.specs.Slot.{noSlot, slotWith}

@@ -1,8 +1,8 @@
 -- It does not matter how an input is cut: what some bytes tell, and then what is told of those kept of them and of the bytes that follow, is what
 -- all of them tell. Assumes nothing.
-use mathlib.Core.Path.{_≡_, refl, sym, ap, _∙_}
+use mathlib.Core.Path.{_≡_, refl, ap, _∙_}
 use mathlib.Core.Bool.{Bool, true, false, cond}
-use mathlib.Core.List.{List, [], _++_}
+use mathlib.Core.List.{List, _++_}
 use Prim.Native.Nat.{ℕ, zero, suc, _+_, _%_, _^_, _≤_, _<_}
 use native.Mathlib.Omega.{arith}
 use lib.Dec.{eqb, ltb}
@@ -13,7 +13,7 @@ use Rattle.records.specs.Reading.{canBe, recordLength, missing, foundIn}
 use Rattle.records.specs.declared.Found.{Found}
 use Rattle.records.specs.declared.Found.the-variants as found
 use Rattle.streams.specs.Ends.{leftAt}
-use Rattle.streams.specs.Walk.{Told, Walked, body, before, onward, ifRecord, told, resumed}
+use Rattle.streams.specs.Walk.{Told, Walked, body, before, ifRecord, told, resumed}
 use Rattle.streams.specs.declared.Left.{Left}
 use Rattle.streams.specs.declared.Left.the-variants.{More, Stopped, Ended}
 use Rattle.streams.proofs.Walks.{by-front, told-on}

@@ -5,7 +5,7 @@ use mathlib.Core.List.{List, [], _∷_}
 use Prim.Native.Nat.{ℕ, zero, suc, _+_, _≤_}
 use native.Mathlib.Omega.{arith}
 use lib.Dec.{eqb, ltb}
-use lib.ListN.{length, drop, length-drop, getD}
+use lib.ListN.{length, drop, length-drop}
 use borrow.Author.Tests.{eq-eqb}
 use types.Run.{OneOf, miss}
 use denote.Enum.Declared.{tagOf}

@@ -1,15 +1,15 @@
 -- What the flat bytes of a queue are in the model: a pair pushed stands last, and the last pairs stand first once others have left. Assumes nothing.
 use mathlib.Core.Path.{_≡_, refl, sym, ap, _∙_}
 use mathlib.Core.Bool.{Bool, true, false}
-use mathlib.Core.List.{List, [], _∷_, _++_, append-assoc}
+use mathlib.Core.List.{List, [], _∷_, _++_}
 use Prim.Native.Nat.{ℕ, zero, suc, _+_, _-_, _*_, _/_, _%_, _≤_, _<_}
-use native.Mathlib.Nat.{add-comm, zero-add}
+use native.Mathlib.Nat.{zero-add}
 use native.Mathlib.Numerals.{add-one}
 use native.Mathlib.Omega.{arith}
 use borrow.Author.Tests.{le-leb, lt-leb}
 use lib.Dec.{leb}
-use lib.ListN.{length, take, drop, getD, set, length-append, length-drop, take-append-drop}
-use lib.Seq.{drop-cons, take-suc, getD-append-add, getD-drop, set-at, length-take-le, take-at, take-all, sets, sets-eq, length-sets}
+use lib.ListN.{length, take, drop, getD, length-append, length-drop, take-append-drop}
+use lib.Seq.{length-take-le, take-at, take-all, sets, length-sets}
 use Rattle.model.specs.Said.{Said, Outcome, after, says, mapped, checked, badValue, full, accepted}
 use Rattle.model.specs.Frame.{Pair, pair}
 use Rattle.model.specs.Mux.{isNull, pushPair, queued, mostQueued}

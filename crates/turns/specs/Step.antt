@@ -1,9 +1,9 @@
 -- What stands in the places of a queue and of a frame, for proofs. No public contract reaches this file. Assumes nothing.
 use mathlib.Core.Path.{_≡_}
 use mathlib.Core.Bool.{not}
-use mathlib.Core.List.{List, _++_}
+use mathlib.Core.List.{List}
 use Prim.Native.Nat.{ℕ, _+_, _*_, _≤_}
-use lib.ListN.{length, take, drop, set}
+use lib.ListN.{length, set}
 use lib.Seq.{sets}
 use Rattle.model.specs.Frame.{flat}
 use Rattle.model.specs.Mux.{Turned}

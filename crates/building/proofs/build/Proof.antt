@@ -3,14 +3,6 @@ use Rattle.building.proofs.Builds.{built-by}
 use borrow.Author.Needs.{needs}
 use Rattle.building.proofs.build.Statement.{statement}
 use Rattle.building.proofs.build.Tie as tie
-use Rattle.building.proofs.build.Reads as reads
-use Rattle.building.proofs.build.Lts as lts
-use Rattle.building.proofs.made_of.Reads as made-of-reads
-use Rattle.building.proofs.turns_of.Reads as turns-of-reads
-use Rattle.frames.proofs.Frame.start.Reads as start-reads
-use Rattle.sending.proofs.count_of.Reads as count-of-reads
-use Rattle.sending.proofs.fill.Reads as fill-reads
-use Rattle.turns.proofs.Turns.take.Reads as take-reads
 
 turns-of-requires : tie.Need-turns-of-requires
 turns-of-requires c κs = search needs

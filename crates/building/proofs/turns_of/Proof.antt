@@ -2,10 +2,6 @@
 use borrow.Author.Needs.{needs}
 use Rattle.building.proofs.turns_of.Statement.{statement}
 use Rattle.building.proofs.turns_of.Tie as tie
-use Rattle.building.proofs.turns_of.Reads as reads
-use Rattle.building.proofs.turns_of.Lts as lts
-use Rattle.building.proofs.greater.Reads as greater-reads
-use Rattle.headers.proofs.lesser.Reads as lesser-reads
 
 returns : tie.Need-returns
 returns c = search needs

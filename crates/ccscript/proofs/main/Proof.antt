@@ -2,10 +2,6 @@
 use borrow.Author.Needs.{needs}
 use Rattle.ccscript.proofs.main.Statement.{statement}
 use Rattle.ccscript.proofs.main.Tie as tie
-use Rattle.ccscript.proofs.main.Reads as reads
-use Rattle.ccscript.proofs.main.Lts as lts
-use Rattle.ccscript.proofs.run.Reads as run-reads
-use Rattle.io.proofs.large_buffer.Reads as large-buffer-reads
 
 large-buffer-requires : tie.Need-large-buffer-requires
 large-buffer-requires c κs = search needs

@@ -4,8 +4,6 @@ use Rattle.frames.proofs.Stores.{three}
 use borrow.Author.Needs.{needs}
 use Rattle.frames.proofs.put.Statement.{statement}
 use Rattle.frames.proofs.put.Tie as tie
-use Rattle.frames.proofs.put.Reads as reads
-use Rattle.frames.proofs.put.Lts as lts
 
 sub-if1 : tie.Need-sub-if1
 sub-if1 c = search needs

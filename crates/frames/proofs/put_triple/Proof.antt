@@ -9,8 +9,6 @@ use Rattle.frames.proofs.Stores.{three}
 use borrow.Author.Needs.{needs}
 use Rattle.frames.proofs.put_triple.Statement.{statement}
 use Rattle.frames.proofs.put_triple.Tie as tie
-use Rattle.frames.proofs.put_triple.Reads as reads
-use Rattle.frames.proofs.put_triple.Lts as lts
 
 element-write-bytes : tie.Need-element-write-bytes
 element-write-bytes c = search needs

@@ -3,9 +3,6 @@ use Rattle.queues.proofs.Written.{test-fails, test-passes}
 use borrow.Author.Needs.{needs}
 use Rattle.queues.proofs.four_written.Statement.{statement}
 use Rattle.queues.proofs.four_written.Tie as tie
-use Rattle.queues.proofs.four_written.Reads as reads
-use Rattle.queues.proofs.four_written.Lts as lts
-use Rattle.queues.proofs.written_if.Reads as written-if-reads
 
 written-if-requires : tie.Need-written-if-requires
 written-if-requires c κs = search needs

@@ -9,9 +9,6 @@ use Rattle.queues.proofs.Written.{length-mapped, written-next, written-
 use borrow.Author.Needs.{needs}
 use Rattle.queues.proofs.others_written.Statement.{statement}
 use Rattle.queues.proofs.others_written.Tie as tie
-use Rattle.queues.proofs.others_written.Reads as reads
-use Rattle.queues.proofs.others_written.Lts as lts
-use Rattle.slots.proofs.Slot.is_written.Reads as is-written-reads
 
 abbrev Inv-loop : tie.InvT-loop
 Inv-loop count packets i₀ i = (i ≤ count) × (every writtenSlot (drop i (take count packets)) ≡ every writtenSlot (drop 4 (take count packets)))

@@ -4,8 +4,6 @@ use Rattle.queues.specs.Steps.{sendsWhole}
 use borrow.Author.Needs.{needs}
 use Rattle.queues.proofs.sends_whole.Statement.{statement}
 use Rattle.queues.proofs.sends_whole.Tie as tie
-use Rattle.queues.proofs.sends_whole.Reads as reads
-use Rattle.queues.proofs.sends_whole.Lts as lts
 
 returns : tie.Need-returns
 unfolding sendsWhole

@@ -3,10 +3,6 @@ use Rattle.queues.proofs.Written.{over-packets, bad-sending, all-packet
 use borrow.Author.Needs.{needs}
 use Rattle.queues.proofs.slots_written.Statement.{statement}
 use Rattle.queues.proofs.slots_written.Tie as tie
-use Rattle.queues.proofs.slots_written.Reads as reads
-use Rattle.queues.proofs.slots_written.Lts as lts
-use Rattle.queues.proofs.row_written.Reads as row-written-reads
-use Rattle.queues.proofs.sends_whole.Reads as sends-whole-reads
 
 returns : tie.Need-returns
 returns c = search (needs, over-packets)

@@ -2,9 +2,6 @@
 use borrow.Author.Needs.{needs}
 use Rattle.queues.proofs.written_if.Statement.{statement}
 use Rattle.queues.proofs.written_if.Tie as tie
-use Rattle.queues.proofs.written_if.Reads as reads
-use Rattle.queues.proofs.written_if.Lts as lts
-use Rattle.slots.proofs.Slot.is_written.Reads as is-written-reads
 
 is-written-requires : tie.Need-is-written-requires
 is-written-requires c κs = search needs

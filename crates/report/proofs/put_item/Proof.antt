@@ -3,12 +3,6 @@ use Rattle.report.proofs.Lays.{laid-pair-item, laid-packet-item, laid-n
 use borrow.Author.Needs.{needs}
 use Rattle.report.proofs.put_item.Statement.{statement}
 use Rattle.report.proofs.put_item.Tie as tie
-use Rattle.report.proofs.put_item.Reads as reads
-use Rattle.report.proofs.put_item.Lts as lts
-use Rattle.lines.proofs.put_packet.Reads as put-packet-reads
-use Rattle.lines.proofs.put_pair.Reads as put-pair-reads
-use Rattle.records.proofs.put_newline.Reads as put-newline-reads
-use Rattle.report.proofs.put_blocks.Reads as put-blocks-reads
 
 enum-known-item : tie.Need-enum-known-item
 enum-known-item c = search needs

@@ -2,7 +2,6 @@
 use Prim.Native.Nat.{_-_, _≤_}
 use native.Mathlib.Omega.{arith}
 use borrow.Author.Needs.{needs}
-use Rattle.parser.specs.Means.{Shaped}
 use Rattle.parser.proofs.Calls.{length-mapped}
 use Rattle.report.proofs.Draws.{drawn-valid}
 use Rattle.report.proofs.Going.{Going, going-first, going-next, going-none, going-done}

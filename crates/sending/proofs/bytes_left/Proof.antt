@@ -8,11 +8,6 @@ use Rattle.sending.proofs.Queues.{Summing, summing-none, summing-more, 
 use borrow.Author.Needs.{needs}
 use Rattle.sending.proofs.bytes_left.Statement.{statement}
 use Rattle.sending.proofs.bytes_left.Tie as tie
-use Rattle.sending.proofs.bytes_left.Reads as reads
-use Rattle.sending.proofs.bytes_left.Lts as lts
-use Rattle.sending.proofs.length_in.Reads as length-in-reads
-use Rattle.sending.proofs.triples_left.Reads as triples-left-reads
-use Rattle.headers.proofs.lesser.Reads as lesser-reads
 
 abbrev Inv-loop : tie.InvT-loop
 Inv-loop count sent packets queued sum₀ i₀ sum i = (n : length packets ≡ 16) → Summing packets count n (λ s. min (s .len) 128) sum₀ sum i

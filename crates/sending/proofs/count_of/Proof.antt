@@ -3,10 +3,6 @@ use native.Mathlib.Omega.{arith}
 use borrow.Author.Needs.{needs}
 use Rattle.sending.proofs.count_of.Statement.{statement}
 use Rattle.sending.proofs.count_of.Tie as tie
-use Rattle.sending.proofs.count_of.Reads as reads
-use Rattle.sending.proofs.count_of.Lts as lts
-use Rattle.sending.proofs.unsent.Reads as unsent-reads
-use Rattle.headers.proofs.lesser.Reads as lesser-reads
 
 returns : tie.Need-returns
 returns c = search needs

@@ -3,12 +3,6 @@ use Rattle.sending.specs.Slots.{filled}
 use borrow.Author.Needs.{needs}
 use Rattle.sending.proofs.fill.Statement.{statement}
 use Rattle.sending.proofs.fill.Tie as tie
-use Rattle.sending.proofs.fill.Reads as reads
-use Rattle.sending.proofs.fill.Lts as lts
-use Rattle.frames.proofs.Frame.pad.Reads as pad-reads
-use Rattle.sending.proofs.lacking.Reads as lacking-reads
-use Rattle.sending.proofs.rest.Reads as rest-reads
-use Rattle.sending.proofs.send.Reads as send-reads
 
 lacking-requires : tie.Need-lacking-requires
 lacking-requires c κs = search needs

@@ -9,9 +9,6 @@ use Rattle.queues.proofs.Written.{length-mapped}
 use Rattle.sending.proofs.Queues.{Moving, moving-first, moving-none, moving-more, moving-done}
 use Rattle.sending.proofs.move_down.Statement.{statement}
 use Rattle.sending.proofs.move_down.Tie as tie
-use Rattle.sending.proofs.move_down.Reads as reads
-use Rattle.sending.proofs.move_down.Lts as lts
-use Rattle.headers.proofs.lesser.Reads as lesser-reads
 
 abbrev Inv-loop : tie.InvT-loop
 Inv-loop count begun end left₀ i₀ left i = (begun ≤ i) × ((n : length left₀ ≡ 16) → Moving left₀ count n begun i left)

@@ -4,9 +4,6 @@ use borrow.Author.Tests.{eq-eqb, ne-eqb}
 use borrow.Author.Needs.{needs}
 use Rattle.sending.proofs.rest.Statement.{statement}
 use Rattle.sending.proofs.rest.Tie as tie
-use Rattle.sending.proofs.rest.Reads as reads
-use Rattle.sending.proofs.rest.Lts as lts
-use Rattle.sending.proofs.triples_left.Reads as triples-left-reads
 
 triples-left-requires : tie.Need-triples-left-requires
 triples-left-requires c κs = search needs

@@ -8,12 +8,6 @@ use Rattle.sending.proofs.Queues.{Running, running-more, running-within
 use borrow.Author.Needs.{needs}
 use Rattle.sending.proofs.send.Statement.{statement}
 use Rattle.sending.proofs.send.Tie as tie
-use Rattle.sending.proofs.send.Reads as reads
-use Rattle.sending.proofs.send.Lts as lts
-use Rattle.frames.proofs.Frame.carry.Reads as carry-reads
-use Rattle.sending.proofs.finish.Reads as finish-reads
-use Rattle.sending.proofs.triples_left.Reads as triples-left-reads
-use Rattle.headers.proofs.lesser.Reads as lesser-reads
 
 abbrev Inv-loop : tie.InvT-loop
 Inv-loop count left packets queued s₀ m₀ i₀ s m i = (n : length packets ≡ 16) → Running packets count n s₀ s m₀ m i

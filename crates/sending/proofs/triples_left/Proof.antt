@@ -5,8 +5,6 @@ use Rattle.sending.specs.Slots.{triplesLeft}
 use borrow.Author.Needs.{needs}
 use Rattle.sending.proofs.triples_left.Statement.{statement}
 use Rattle.sending.proofs.triples_left.Tie as tie
-use Rattle.sending.proofs.triples_left.Reads as reads
-use Rattle.sending.proofs.triples_left.Lts as lts
 
 returns : tie.Need-returns
 unfolding triplesLeft

@@ -9,10 +9,6 @@ use Rattle.sending.proofs.Queues.{Summing, summing-none, summing-more, 
 use borrow.Author.Needs.{needs}
 use Rattle.sending.proofs.unsent.Statement.{statement}
 use Rattle.sending.proofs.unsent.Tie as tie
-use Rattle.sending.proofs.unsent.Reads as reads
-use Rattle.sending.proofs.unsent.Lts as lts
-use Rattle.sending.proofs.triples_left.Reads as triples-left-reads
-use Rattle.headers.proofs.lesser.Reads as lesser-reads
 
 abbrev Inv-loop : tie.InvT-loop
 Inv-loop count sent packets queued sum₀ i₀ sum i = (n : length packets ≡ 16) → Summing packets count n (λ s. triplesLeft (s .len) 0) sum₀ sum i

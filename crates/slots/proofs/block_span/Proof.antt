@@ -1,13 +1,9 @@
 -- `slots::block_span` meets its contract: one law of `Spans` for each way out. Assumes nothing.
-use mathlib.Core.Path.{_≡_, refl, sym, _∙_}
 use native.Mathlib.Omega.{arith}
 use Rattle.slots.proofs.Spans.{span-empty, span-null, span-short, span-low, span-high, span-long}
 use borrow.Author.Needs.{needs}
 use Rattle.slots.proofs.block_span.Statement.{statement}
 use Rattle.slots.proofs.block_span.Tie as tie
-use Rattle.slots.proofs.block_span.Reads as reads
-use Rattle.slots.proofs.block_span.Lts as lts
-use Rattle.slots.proofs.wide.Reads as wide-reads
 
 wide-requires : tie.Need-wide-requires
 wide-requires c κs = search needs

@@ -1,14 +1,10 @@
 -- `slots::byte_at` meets its contract. Assumes nothing.
-use mathlib.Core.Path.{_≡_, refl, sym, _∙_}
-use native.Mathlib.Omega.{arith}
-use lib.ListN.{length}
+use mathlib.Core.Path.{sym}
 use lib.Seq.{getD-take}
 use Rattle.slots.proofs.Spans.{taken-past}
 use borrow.Author.Needs.{needs}
 use Rattle.slots.proofs.byte_at.Statement.{statement}
 use Rattle.slots.proofs.byte_at.Tie as tie
-use Rattle.slots.proofs.byte_at.Reads as reads
-use Rattle.slots.proofs.byte_at.Lts as lts
 
 element-copy-out-result : tie.Need-element-copy-out-result
 element-copy-out-result c = search needs

@@ -1,11 +1,8 @@
 -- `turns::is_null` meets its contract: the second byte decides where the first is 0x80. Assumes nothing.
 use borrow.Author.Tests.{eq-eqb, ne-eqb}
 use Rattle.model.specs.Mux.{isNull}
-use borrow.Author.Needs.{needs}
 use Rattle.turns.proofs.is_null.Statement.{statement}
 use Rattle.turns.proofs.is_null.Tie as tie
-use Rattle.turns.proofs.is_null.Reads as reads
-use Rattle.turns.proofs.is_null.Lts as lts
 
 returns : tie.Need-returns
 unfolding isNull

@@ -2,10 +2,6 @@
 use borrow.Author.Needs.{needs}
 use Rattle.turns.proofs.turns_from.Statement.{statement}
 use Rattle.turns.proofs.turns_from.Tie as tie
-use Rattle.turns.proofs.turns_from.Reads as reads
-use Rattle.turns.proofs.turns_from.Lts as lts
-use Rattle.turns.proofs.field1_turn.Reads as field1-turn-reads
-use Rattle.turns.proofs.field2_turn.Reads as field2-turn-reads
 
 field2-turn-requires : tie.Need-field2-turn-requires
 field2-turn-requires c κs = search needs

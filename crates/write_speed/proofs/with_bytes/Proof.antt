@@ -3,11 +3,6 @@ use Prim.Native.Nat.{_-_, _≤_}
 use borrow.Author.Needs.{needs}
 use Rattle.write_speed.proofs.with_bytes.Statement.{statement}
 use Rattle.write_speed.proofs.with_bytes.Tie as tie
-use Rattle.write_speed.proofs.with_bytes.Reads as reads
-use Rattle.write_speed.proofs.with_bytes.Lts as lts
-use Rattle.std.proofs.num.wrapping_add_u64.Reads as wrapping-add-u64-reads
-use Rattle.write_speed.proofs.mix.Reads as mix-reads
-use Rattle.write_speed.proofs.wide.Reads as wide-reads
 
 abbrev Inv-loop : tie.InvT-loop
 Inv-loop t frame n sum₀ i₀ sum i = i ≤ 95

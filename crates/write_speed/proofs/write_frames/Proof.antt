@@ -3,15 +3,6 @@ use Prim.Native.Nat.{_-_, _≤_}
 use borrow.Author.Needs.{needs}
 use Rattle.write_speed.proofs.write_frames.Statement.{statement}
 use Rattle.write_speed.proofs.write_frames.Tie as tie
-use Rattle.write_speed.proofs.write_frames.Reads as reads
-use Rattle.write_speed.proofs.write_frames.Lts as lts
-use Rattle.write_speed.proofs.due.Reads as due-reads
-use Rattle.write_speed.proofs.packet.Reads as packet-reads
-use Rattle.write_speed.proofs.pair.Reads as pair-reads
-use Rattle.write_speed.proofs.with_frame.Reads as with-frame-reads
-use Rattle.writer.proofs.CCDataWriter.push_cea608.Reads as push-cea608-reads
-use Rattle.writer.proofs.CCDataWriter.push_packet.Reads as push-packet-reads
-use Rattle.writer.proofs.CCDataWriter.write.Reads as write-reads
 
 abbrev Inv-loop : tie.InvT-loop
 Inv-loop block1 block2 block3 pairs frame₀ writer₀ t₀ i₀ frame writer t i = i ≤ pairs

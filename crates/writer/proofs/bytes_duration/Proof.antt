@@ -4,8 +4,6 @@ use Rattle.model.specs.Duration.{ceil, bytesDuration}
 use borrow.Author.Needs.{needs}
 use Rattle.writer.proofs.bytes_duration.Statement.{statement}
 use Rattle.writer.proofs.bytes_duration.Tie as tie
-use Rattle.writer.proofs.bytes_duration.Reads as reads
-use Rattle.writer.proofs.bytes_duration.Lts as lts
 
 add-result : tie.Need-add-result
 add-result c = search needs

@@ -4,8 +4,6 @@ use Rattle.model.specs.Duration.{ceil, pairsDuration}
 use borrow.Author.Needs.{needs}
 use Rattle.writer.proofs.pairs_duration.Statement.{statement}
 use Rattle.writer.proofs.pairs_duration.Tie as tie
-use Rattle.writer.proofs.pairs_duration.Reads as reads
-use Rattle.writer.proofs.pairs_duration.Lts as lts
 
 mul-result : tie.Need-mul-result
 mul-result c = search needs

@@ -1,5 +1,5 @@
 -- `frames::Frame::carry` meets its contract: what is stored, with what is left, stays what is to be stored. Assumes nothing.
-use mathlib.Core.Path.{_≡_, refl, sym, _∙_}
+use mathlib.Core.Path.{_≡_, sym, _∙_}
 use Prim.Native.Nat.{_+_, _-_, _*_, _≤_}
 use native.Mathlib.Omega.{arith}
 use lib.ListN.{length}
@@ -7,10 +7,6 @@ use Rattle.frames.proofs.Stores.{fits-room, carries-true, past-end, not
 use borrow.Author.Needs.{needs}
 use Rattle.frames.proofs.Frame.carry.Statement.{statement}
 use Rattle.frames.proofs.Frame.carry.Tie as tie
-use Rattle.frames.proofs.Frame.carry.Reads as reads
-use Rattle.frames.proofs.Frame.carry.Lts as lts
-use Rattle.frames.proofs.Frame.has_room.Reads as has-room-reads
-use Rattle.frames.proofs.put_triple.Reads as put-triple-reads
 
 abbrev Inv-loop : tie.InvT-loop
 Inv-loop at n packet len bytes₀ i₀ bytes i = (len + 3 * n ≤ 95) × (at + 2 * n ≤ 128) × (length bytes₀ ≡ 95) × Storing packet bytes₀ bytes len at n i

@@ -1,15 +1,13 @@
 -- `frames::Frame::emit` meets its contract: the first `i` bytes are the frame's. Assumes nothing.
-use mathlib.Core.Path.{_≡_, refl, _∙_}
+use mathlib.Core.Path.{_≡_, refl}
 use mathlib.Core.List.{_++_}
-use Prim.Native.Nat.{_-_, _≤_, _<_}
+use Prim.Native.Nat.{_-_, _≤_}
 use native.Mathlib.Omega.{arith}
 use lib.ListN.{length, take, drop, length-set}
 use Rattle.frames.proofs.Stores.{copied-more, emitted-long, emitted-short, emitted-whole}
 use borrow.Author.Needs.{needs}
 use Rattle.frames.proofs.Frame.emit.Statement.{statement}
 use Rattle.frames.proofs.Frame.emit.Tie as tie
-use Rattle.frames.proofs.Frame.emit.Reads as reads
-use Rattle.frames.proofs.Frame.emit.Lts as lts
 
 abbrev Inv-loop : tie.InvT-loop
 Inv-loop out₀ n bytes i₀ out i = (n ≤ 95) × (n ≤ length out₀) × (length bytes ≡ 95) × (i ≤ n) × (length out ≡ length out₀) × (out ≡ take i bytes ++ drop i out₀)

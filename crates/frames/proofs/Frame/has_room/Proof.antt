@@ -3,8 +3,6 @@ use Rattle.frames.proofs.Stores.{too-many, not-many}
 use borrow.Author.Needs.{needs}
 use Rattle.frames.proofs.Frame.has_room.Statement.{statement}
 use Rattle.frames.proofs.Frame.has_room.Tie as tie
-use Rattle.frames.proofs.Frame.has_room.Reads as reads
-use Rattle.frames.proofs.Frame.has_room.Lts as lts
 
 returns : tie.Need-returns
 returns c = too-many _ _ (c .if1 .taken)

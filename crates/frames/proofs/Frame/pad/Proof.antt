@@ -1,15 +1,11 @@
 -- `frames::Frame::pad` meets its contract: what is stored, with what is left, stays what is to be stored. Assumes nothing.
-use mathlib.Core.Path.{_≡_, refl, sym, _∙_}
-use Prim.Native.Nat.{_+_, _-_, _*_, _≤_}
+use mathlib.Core.Path.{sym, _∙_}
+use Prim.Native.Nat.{_-_, _≤_}
 use native.Mathlib.Omega.{arith}
-use lib.ListN.{length}
 use Rattle.frames.proofs.Stores.{fits-room, Filling, filling-none, filling-more, filling-done}
 use borrow.Author.Needs.{needs}
 use Rattle.frames.proofs.Frame.pad.Statement.{statement}
 use Rattle.frames.proofs.Frame.pad.Tie as tie
-use Rattle.frames.proofs.Frame.pad.Reads as reads
-use Rattle.frames.proofs.Frame.pad.Lts as lts
-use Rattle.frames.proofs.Frame.has_room.Reads as has-room-reads
 
 abbrev Inv-loop : tie.InvT-loop
 Inv-loop n bytes₀ at₀ end bytes at = (end ≤ 95) × Filling bytes₀ bytes at₀ at end n

@@ -4,8 +4,6 @@ use Rattle.frames.specs.Frame.{headed}
 use borrow.Author.Needs.{needs}
 use Rattle.frames.proofs.Frame.start.Statement.{statement}
 use Rattle.frames.proofs.Frame.start.Tie as tie
-use Rattle.frames.proofs.Frame.start.Reads as reads
-use Rattle.frames.proofs.Frame.start.Lts as lts
 
 add-bytes : tie.Need-add-bytes
 add-bytes c = search needs

@@ -1,5 +1,5 @@
 -- `slots::Slot::is_written` meets its contract: one law of `Spans` for each way out of the walk, which is exact. Assumes nothing.
-use mathlib.Core.Path.{_≡_, refl, sym, _∙_}
+use mathlib.Core.Path.{_∙_}
 use mathlib.Core.Logic.{⊎-elim}
 use native.Mathlib.Omega.{arith}
 use Rattle.slots.proofs.Spans.{too-short, too-long, wrong-header, wrong-fill, by-blocks, even-fill, zero-fill}
@@ -7,10 +7,6 @@ use Rattle.slots.proofs.Exact.{walked-written}
 use borrow.Author.Needs.{needs}
 use Rattle.slots.proofs.Slot.is_written.Statement.{statement}
 use Rattle.slots.proofs.Slot.is_written.Tie as tie
-use Rattle.slots.proofs.Slot.is_written.Reads as reads
-use Rattle.slots.proofs.Slot.is_written.Lts as lts
-use Rattle.slots.proofs.blocks_whole.Reads as blocks-whole-reads
-use Rattle.slots.proofs.wide.Reads as wide-reads
 
 returns : tie.Need-returns
 returns c = too-short (c .before .before .args .self) (c .if1 .taken) ∙ walked-written _

@@ -7,9 +7,6 @@ use Rattle.turns.proofs.Queues.{down-bytes}
 use borrow.Author.Needs.{needs}
 use Rattle.turns.proofs.PairQueue.down_to.Statement.{statement}
 use Rattle.turns.proofs.PairQueue.down_to.Tie as tie
-use Rattle.turns.proofs.PairQueue.down_to.Reads as reads
-use Rattle.turns.proofs.PairQueue.down_to.Lts as lts
-use Rattle.headers.proofs.put_bytes.Reads as put-bytes-reads
 
 slice-aggregate-put-bytes : tie.Need-slice-aggregate-put-bytes
 slice-aggregate-put-bytes c = search needs

@@ -5,9 +5,6 @@ use Rattle.turns.proofs.Queues.{push-over, push-null, push-full, push-f
 use borrow.Author.Needs.{needs}
 use Rattle.turns.proofs.PairQueue.push.Statement.{statement}
 use Rattle.turns.proofs.PairQueue.push.Tie as tie
-use Rattle.turns.proofs.PairQueue.push.Reads as reads
-use Rattle.turns.proofs.PairQueue.push.Lts as lts
-use Rattle.turns.proofs.is_null.Reads as is-null-reads
 
 returns : tie.Need-returns
 returns c = push-over (c .before .args .t1) _ _ (omega arith)

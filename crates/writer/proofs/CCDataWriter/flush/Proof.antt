@@ -6,10 +6,6 @@ use Rattle.writer.proofs.Calls.{refused-value, flushes}
 use borrow.Author.Needs.{needs}
 use Rattle.writer.proofs.CCDataWriter.flush.Statement.{statement}
 use Rattle.writer.proofs.CCDataWriter.flush.Tie as tie
-use Rattle.writer.proofs.CCDataWriter.flush.Reads as reads
-use Rattle.writer.proofs.CCDataWriter.flush.Lts as lts
-use Rattle.writer.proofs.CCDataWriter.is_valid.Reads as is-valid-reads
-use Rattle.writer.proofs.CCDataWriter.refused.Reads as refused-reads
 
 is-valid-requires : tie.Need-is-valid-requires
 is-valid-requires c κs = search needs

@@ -5,9 +5,6 @@ use Rattle.queues.proofs.Written.{length-mapped}
 use borrow.Author.Needs.{needs}
 use Rattle.writer.proofs.CCDataWriter.is_valid.Statement.{statement}
 use Rattle.writer.proofs.CCDataWriter.is_valid.Tie as tie
-use Rattle.writer.proofs.CCDataWriter.is_valid.Reads as reads
-use Rattle.writer.proofs.CCDataWriter.is_valid.Lts as lts
-use Rattle.queues.proofs.slots_written.Reads as slots-written-reads
 
 returns : tie.Need-returns
 returns c = let s = c .before .before .before .before .before in over-first (s .args .self) (record { packets = search (needs, length-mapped, s .good); first = search needs; second = search needs }) (omega (arith, c .if1 .taken))

@@ -5,8 +5,6 @@ use Rattle.writer.specs.Writer.{fresh}
 use Rattle.writer.proofs.Laws.{means-fresh}
 use Rattle.writer.proofs.CCDataWriter.new.Statement.{statement}
 use Rattle.writer.proofs.CCDataWriter.new.Tie as tie
-use Rattle.writer.proofs.CCDataWriter.new.Reads as reads
-use Rattle.writer.proofs.CCDataWriter.new.Lts as lts
 
 returns : tie.Need-returns
 unfolding fresh queueOver pairBytes

@@ -4,10 +4,6 @@ use native.Mathlib.Omega.{arith}
 use borrow.Author.Needs.{needs}
 use Rattle.writer.proofs.CCDataWriter.push_packet.Statement.{statement}
 use Rattle.writer.proofs.CCDataWriter.push_packet.Tie as tie
-use Rattle.writer.proofs.CCDataWriter.push_packet.Reads as reads
-use Rattle.writer.proofs.CCDataWriter.push_packet.Lts as lts
-use Rattle.writer.proofs.CCDataWriter.is_valid.Reads as is-valid-reads
-use Rattle.writer.proofs.CCDataWriter.place.Reads as place-reads
 
 is-valid-requires : tie.Need-is-valid-requires
 is-valid-requires c κs = search needs

@@ -3,12 +3,6 @@ use mathlib.Core.Path.{refl}
 use borrow.Author.Needs.{needs}
 use Rattle.writer.proofs.CCDataWriter.write.Statement.{statement}
 use Rattle.writer.proofs.CCDataWriter.write.Tie as tie
-use Rattle.writer.proofs.CCDataWriter.write.Reads as reads
-use Rattle.writer.proofs.CCDataWriter.write.Lts as lts
-use Rattle.frames.proofs.Frame.emit.Reads as emit-reads
-use Rattle.sending.proofs.move_down.Reads as move-down-reads
-use Rattle.writer.proofs.CCDataWriter.is_valid.Reads as is-valid-reads
-use Rattle.writer.proofs.CCDataWriter.make.Reads as make-reads
 
 is-valid-requires : tie.Need-is-valid-requires
 is-valid-requires c κs = search needs
