@@ -1,4 +1,5 @@
--- A frame put together, whatever the queues and the slots hold. Document 01, "Writing frames". Assumes nothing.
+-- A frame put together, whatever the queues and the slots hold. Document 01, "Writing frames". No public contract of `writer` reaches this file:
+-- in a state within the limits it is proved to be the frame of the model. Assumes nothing.
 use mathlib.Core.Bool.{Bool, cond}
 use mathlib.Core.List.{List}
 use Prim.Native.Nat.{ℕ, _*_, _%_, min, max}

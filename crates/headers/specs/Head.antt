@@ -1,4 +1,4 @@
--- What the header of a block says, as an answer of the code. Assumes nothing.
+-- What the header of a block says, as an answer of the code. No public contract of `service` or `packet` reaches this file. Assumes nothing.
 use mathlib.Core.Path.{_≡_}
 use mathlib.Core.Bool.{cond}
 use mathlib.Core.List.{List}

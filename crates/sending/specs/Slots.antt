@@ -1,5 +1,5 @@
 -- Packet triples slot by slot, whatever the slots hold: how many are left, and what a frame takes of them. Document 01, "Writing frames".
--- Assumes nothing.
+-- No public contract of `writer` reaches this file: where the slots are written packets, it is proved to be what the model sends. Assumes nothing.
 use mathlib.Core.Bool.{Bool, cond, _&&_}
 use mathlib.Core.List.{List, [], _∷_}
 use Prim.Native.Nat.{ℕ, _+_, _-_, _*_, _/_, _%_, min}
