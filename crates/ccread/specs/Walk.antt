@@ -8,8 +8,8 @@ use lib.ListN.{length, take, drop}
 use Rattle.parser.specs.Calls.{fresh}
 use Rattle.parser.specs.After.{turnedOn}
 use Rattle.parser.specs.declared.CCDataParser.{CCDataParser}
-use Rattle.report.specs.Report.{frameLines, settled}
-use Rattle.streams.specs.Walk.{Told, Walked, told, leftToTell, Kept}
+use Rattle.ccread_report.specs.Report.{frameLines, settled}
+use Rattle.program_streams.specs.Walk.{Told, Walked, told, leftToTell, Kept}
 use Rattle.ccread.specs.declared.Stand.{Stand}
 use Rattle.ccread.specs.declared.State.{State}
 

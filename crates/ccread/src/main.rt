@@ -4,16 +4,17 @@ ghost use mathlib.Core.Path.{_≡_};
 ghost use mathlib.Core.Bool.{true, false};
 ghost use Prim.Native.Nat.{_+_, _≤_, _<_};
 ghost use lib.ListN.{length, take, drop};
-ghost use Rattle.records.specs.Laid.{Whole};
-ghost use Rattle.streams.specs.Walk.{before, told, silent, done, Kept, Follow};
+ghost use Rattle.program_records.specs.Laid.{Whole};
+ghost use Rattle.program_streams.specs.Walk.{before, told, silent, done, Kept, Follow};
 ghost use Rattle.ccread.specs.Walk.{mark, tell, toTell, stillToTell, Steps, Ran, freshState};
-ghost use Rattle.report.specs.Report.{frameLines, settled};
+ghost use Rattle.ccread_report.specs.Report.{frameLines, settled};
+use ccread_report::Told;
 use libc::STDIN_FILENO;
 use libc::STDOUT_FILENO;
 use parser::CCDataParser;
-use records::Found;
-use report::Told;
-use streams::Left;
+use program_records::Found;
+use program_records::part;
+use program_streams::Left;
 
 // The lines of a frame have at most 32768 bytes, and the last line has fewer.
 const ROOM: usize = 32768;
@@ -45,7 +46,7 @@ fn put_record(out: &mut [u8], at: usize, number: u64, frame: &[u8], parser: CCDa
     ensures { λ r. ⌜ Whole (frameLines number (now (frame .entry)) parser) (now (out .entry)) at (r .laid) (now (out .exit)) ⌝ }
     ensures { λ r. ⌜ r .parser ≡ settled parser (now (frame .entry)) ⌝ }
 {
-    report::put_frame(out, at, number, frame, parser)
+    ccread_report::put_frame(out, at, number, frame, parser)
 }
 
 // Lays the lines of the records that are whole in the buffer, as long as there is room for those of one more, and the last line.
@@ -61,10 +62,10 @@ fn drain(buf: &[u8], ended: bool, out: &mut [u8], from: Stand) -> Stand
     let mut parser = from.parser;
     let mut laid: usize = 0;
     while laid <= most {
-        let found = records::next_record(buf, at, ended, 0xCC, 0xDA);
+        let found = program_records::next_record(buf, at, ended, 0xCC, 0xDA);
         let Found::Record { start, len, next } = found else {
-            let left = streams::left_at(found);
-            let end = streams::put_last(out, laid, left, passed, records);
+            let left = program_streams::left_at(found);
+            let end = program_streams::put_last(out, laid, left, passed, records);
             return Stand {
                 at,
                 passed,
@@ -75,7 +76,7 @@ fn drain(buf: &[u8], ended: bool, out: &mut [u8], from: Stand) -> Stand
                 left,
             };
         };
-        let told = put_record(out, laid, records, records::part(buf, start, len), parser);
+        let told = put_record(out, laid, records, part(buf, start, len), parser);
         laid = told.laid;
         parser = told.parser;
         at = next;
@@ -118,7 +119,7 @@ fn tell_all(buf: &[u8], ended: bool, out: &mut [u8], s: State) -> Stand
     while to.full {
         let from = to;
         to = drain(buf, ended, out, from);
-        send(records::part(out, 0, to.laid), buf, ended, from, to);
+        send(part(out, 0, to.laid), buf, ended, from, to);
     }
     to
 }
@@ -133,8 +134,8 @@ fn take_in(buf: &mut [u8], more: usize, ended: bool, out: &mut [u8], s: State) -
     let at = to.at;
     let left = to.left;
     let parser = to.parser;
-    let going = streams::goes_on(left);
-    let have = records::move_to_front(buf, at, more);
+    let going = program_streams::goes_on(left);
+    let have = program_records::move_to_front(buf, at, more);
     State {
         have,
         passed: to.passed,

@@ -6,15 +6,16 @@ ghost use mathlib.Core.Bool.{true, false};
 ghost use mathlib.Core.List.{_++_};
 ghost use Prim.Native.Nat.{_+_, _≤_, _<_};
 ghost use lib.ListN.{length, take, drop};
-ghost use Rattle.streams.specs.Walk.{before, told, silent, done, Kept, Follow};
-ghost use Rattle.operations.specs.Ran.{ran};
+ghost use Rattle.program_streams.specs.Walk.{before, told, silent, done, Kept, Follow};
+ghost use Rattle.script_operations.specs.Ran.{ran};
 ghost use Rattle.ccscript.specs.Walk.{mark, lineOf, tell, toTell, stillToTell, Steps, Ran, freshState};
 use libc::STDIN_FILENO;
 use libc::STDOUT_FILENO;
-use operations::Stepped;
-use parts::Machine;
-use records::Found;
-use streams::Left;
+use program_records::Found;
+use program_records::part;
+use program_streams::Left;
+use script_operations::Stepped;
+use script_parts::Machine;
 
 // A line has at most 31 bytes, and behind them either the hex of 255 bytes or 63 blocks of 127 bytes in all: below 600 bytes. A longer one would
 // not be told.
@@ -47,7 +48,7 @@ fn put_record(out: &mut [u8], at: usize, record: &[u8], machine: Machine) -> Ste
     ensures { λ r. ⌜ take (r .laid) (now (out .exit)) ≡ take at (now (out .entry)) ++ lineOf machine (now («record» .entry)) ⌝ }
     ensures { λ r. ⌜ r .machine ≡ ran machine (now («record» .entry)) .next ⌝ }
 {
-    let told = operations::run_record(out, at, machine, record);
+    let told = script_operations::run_record(out, at, machine, record);
     if told.laid < at + ROOM {
         return told;
     }
@@ -71,10 +72,10 @@ fn drain(buf: &[u8], ended: bool, out: &mut [u8], from: Stand) -> Stand
     let mut machine = from.machine;
     let mut laid: usize = 0;
     while laid <= most {
-        let found = records::next_record(buf, at, ended, 0xCC, 0x5C);
+        let found = program_records::next_record(buf, at, ended, 0xCC, 0x5C);
         let Found::Record { start, len, next } = found else {
-            let left = streams::left_at(found);
-            let end = streams::put_last(out, laid, left, passed, records);
+            let left = program_streams::left_at(found);
+            let end = program_streams::put_last(out, laid, left, passed, records);
             return Stand {
                 at,
                 passed,
@@ -85,7 +86,7 @@ fn drain(buf: &[u8], ended: bool, out: &mut [u8], from: Stand) -> Stand
                 left,
             };
         };
-        let told = put_record(out, laid, records::part(buf, start, len), machine);
+        let told = put_record(out, laid, part(buf, start, len), machine);
         laid = told.laid;
         machine = told.machine;
         at = next;
@@ -128,7 +129,7 @@ fn tell_all(buf: &[u8], ended: bool, out: &mut [u8], s: State) -> Stand
     while to.full {
         let from = to;
         to = drain(buf, ended, out, from);
-        send(records::part(out, 0, to.laid), buf, ended, from, to);
+        send(part(out, 0, to.laid), buf, ended, from, to);
     }
     to
 }
@@ -143,8 +144,8 @@ fn take_in(buf: &mut [u8], more: usize, ended: bool, out: &mut [u8], s: State) -
     let at = to.at;
     let left = to.left;
     let machine = to.machine;
-    let going = streams::goes_on(left);
-    let have = records::move_to_front(buf, at, more);
+    let going = program_streams::goes_on(left);
+    let have = program_records::move_to_front(buf, at, more);
     State {
         have,
         passed: to.passed,
@@ -178,7 +179,7 @@ fn step(buf: &mut [u8], out: &mut [u8], s: State) -> State
 fn fresh() -> State
     ensures { λ r. ⌜ r ≡ freshState ⌝ }
 {
-    let machine = operations::fresh();
+    let machine = script_operations::fresh();
     State {
         have: 0,
         passed: 0,

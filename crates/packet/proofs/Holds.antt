@@ -5,8 +5,8 @@ use Prim.Native.Nat.{ℕ}
 use lib.ListN.{length-replicate}
 use Rattle.model.specs.Packet.{Packet}
 use Rattle.model.proofs.Packets.{Valid}
-use Rattle.entries.specs.Fields as fields
-use Rattle.entries.proofs.Holds as held
+use Rattle.packet_entries.specs.Fields as fields
+use Rattle.packet_entries.proofs.Holds as held
 use Rattle.packet.specs.declared.DTVCCPacket.{DTVCCPacket}
 use Rattle.packet.specs.Packet.{packetOf, over, blank, validDTVCC}
 use Rattle.packet.specs.Replies.{fieldsOf}

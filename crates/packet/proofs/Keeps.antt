@@ -12,7 +12,7 @@ use Rattle.model.specs.Block.{Block, validBlock}
 use Rattle.model.proofs.Cases.{gives-at}
 use Rattle.model.proofs.Limits.{plain-valid, tidy-valid}
 use Rattle.model.proofs.Pushing.{block-valid, run-valid}
-use Rattle.entries.specs.Fields.{blocksHeld}
+use Rattle.packet_entries.specs.Fields.{blocksHeld}
 use Rattle.packet.specs.declared.DTVCCPacket.{DTVCCPacket}
 use Rattle.packet.specs.Packet.{packetOf, over, blank, validDTVCC}
 use Rattle.packet.proofs.Holds.{Places, blank-places, within-facts, held-valid, over-holds, over-valid, over-places}

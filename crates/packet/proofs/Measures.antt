@@ -11,13 +11,13 @@ use Rattle.model.specs.Lists.{every}
 use Rattle.model.specs.Said.{gave, refused, measured, accepted, badValue, badNumber}
 use Rattle.model.specs.Packet.{newPacket, packetLength, packetRoom}
 use Rattle.model.proofs.Packets.{Valid, length-empty}
-use Rattle.entries.specs.declared.Extent.{Extent}
-use Rattle.entries.specs.declared.Extent.the-variants.{Of, Bad}
-use Rattle.entries.specs.Fields.{validFields}
-use Rattle.entries.specs.Extent.{Sized}
-use Rattle.entries.proofs.Holds.{blocks-count, tests-agree}
-use Rattle.entries.proofs.Walks as walks
-use Rattle.entries.proofs.Measures.{length-small, sized-valid, sized-length}
+use Rattle.packet_entries.specs.declared.Extent.{Extent}
+use Rattle.packet_entries.specs.declared.Extent.the-variants.{Of, Bad}
+use Rattle.packet_entries.specs.Fields.{validFields}
+use Rattle.packet_entries.specs.Extent.{Sized}
+use Rattle.packet_entries.proofs.Holds.{blocks-count, tests-agree}
+use Rattle.packet_entries.proofs.Walks as walks
+use Rattle.packet_entries.proofs.Measures.{length-small, sized-valid, sized-length}
 use Rattle.packet.specs.declared.DTVCCPacket.{DTVCCPacket}
 use Rattle.packet.specs.Packet.{packetOf, validDTVCC}
 use Rattle.packet.specs.Replies.{fieldsOf, extentOf}

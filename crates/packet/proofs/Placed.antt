@@ -14,15 +14,15 @@ use Rattle.service.specs.declared.Service.{Service}
 use Rattle.packet.specs.declared.DTVCCPacket.{DTVCCPacket}
 use Rattle.packet.specs.declared.ServiceAt.{ServiceAt}
 use Rattle.packet.specs.declared.Place.the-variants.{Here, Nothing, Refused}
-use Rattle.entries.specs.Fields.{validFields}
-use Rattle.entries.specs.Entries.{entries, cut, usedBy}
-use Rattle.entries.specs.Extent.{Sized, sumTo, blockAt}
-use Rattle.entries.proofs.Entries.{entries-at, used-sum}
-use Rattle.entries.proofs.Holds.{Within, used-fits, blocks-cut, blocks-count}
-use Rattle.entries.proofs.Walks.{sum-few}
-use Rattle.entries.proofs.Measures.{sized-within, sized-valid}
-use Rattle.entries.proofs.Placed.{place-block}
-use Rattle.pushes.proofs.Pushed.{used-parts, cut-drop}
+use Rattle.packet_entries.specs.Fields.{validFields}
+use Rattle.packet_entries.specs.Entries.{entries, cut, usedBy}
+use Rattle.packet_entries.specs.Extent.{Sized, sumTo, blockAt}
+use Rattle.packet_entries.proofs.Entries.{entries-at, used-sum}
+use Rattle.packet_entries.proofs.Holds.{Within, used-fits, blocks-cut, blocks-count}
+use Rattle.packet_entries.proofs.Walks.{sum-few}
+use Rattle.packet_entries.proofs.Measures.{sized-within, sized-valid}
+use Rattle.packet_entries.proofs.Placed.{place-block}
+use Rattle.packet_pushes.proofs.Pushed.{used-parts, cut-drop}
 use Rattle.packet.specs.Packet.{packetOf, validDTVCC}
 use Rattle.packet.specs.Place.{Placed, saidPlace}
 use Rattle.packet.specs.Replies.{fieldsOf, entriesOf}

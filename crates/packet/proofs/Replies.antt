@@ -14,13 +14,13 @@ use Rattle.model.proofs.Pushing.{block-valid, run-valid}
 use Rattle.service.specs.declared.Service.{Service}
 use Rattle.service.specs.Service.{blockOf, validService}
 use Rattle.service.proofs.Services.{valid-block}
-use Rattle.entries.specs.Fields.{fields}
-use Rattle.entries.specs.Fields as places
-use Rattle.blocks.specs.declared.Filled.{Filled}
-use Rattle.blocks.specs.Reading.{Read, readAs}
-use Rattle.blocks.specs.Reading as reading
-use Rattle.pushes.specs.Pushing.{Stores}
-use Rattle.pushes.specs.Pushing as pushes
+use Rattle.packet_entries.specs.Fields.{fields}
+use Rattle.packet_entries.specs.Fields as places
+use Rattle.packet_blocks.specs.declared.Filled.{Filled}
+use Rattle.packet_blocks.specs.Reading.{Read, readAs}
+use Rattle.packet_blocks.specs.Reading as reading
+use Rattle.packet_pushes.specs.Pushing.{Stores}
+use Rattle.packet_pushes.specs.Pushing as pushes
 use Rattle.packet.specs.declared.DTVCCPacket.{DTVCCPacket}
 use Rattle.packet.specs.declared.PacketAnswer.{PacketAnswer}
 use Rattle.packet.specs.Packet.{Answers, packetOf, validDTVCC, over, blank}

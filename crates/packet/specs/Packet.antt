@@ -10,7 +10,7 @@ use Rattle.caption.specs.Answers.{saidAnswer}
 use Rattle.model.specs.Said.{Outcome, says, after, mapped}
 use Rattle.model.specs.Block.{Block}
 use Rattle.model.specs.Packet.{Packet, validPacket}
-use Rattle.entries.specs.Fields.{blocksHeld}
+use Rattle.packet_entries.specs.Fields.{blocksHeld}
 use Rattle.packet.specs.declared.DTVCCPacket.{DTVCCPacket}
 use Rattle.packet.specs.declared.PacketAnswer.{PacketAnswer}
 

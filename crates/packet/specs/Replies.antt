@@ -7,13 +7,13 @@ use Rattle.caption.specs.declared.Counted.the-variants.{Count, Refused}
 use Rattle.caption.specs.declared.Refusal.{Refusal}
 use Rattle.caption.specs.declared.Answer.{Answer}
 use Rattle.caption.specs.declared.Answer.the-variants as answer
-use Rattle.entries.specs.declared.Extent.{Extent}
-use Rattle.entries.specs.Fields.{Fields, fields}
-use Rattle.entries.specs.Entries.{Entry}
-use Rattle.entries.specs.Entries as listed
-use Rattle.entries.specs.Extent.{extentAs}
-use Rattle.blocks.specs.declared.Filled.{Filled}
-use Rattle.blocks.specs.Reading as reading
+use Rattle.packet_entries.specs.declared.Extent.{Extent}
+use Rattle.packet_entries.specs.Fields.{Fields, fields}
+use Rattle.packet_entries.specs.Entries.{Entry}
+use Rattle.packet_entries.specs.Entries as listed
+use Rattle.packet_entries.specs.Extent.{extentAs}
+use Rattle.packet_blocks.specs.declared.Filled.{Filled}
+use Rattle.packet_blocks.specs.Reading as reading
 use Rattle.packet.specs.declared.DTVCCPacket.{DTVCCPacket}
 use Rattle.packet.specs.declared.PacketAnswer.{PacketAnswer}
 use Rattle.packet.specs.Packet.{blank}

@@ -9,16 +9,16 @@ ghost use Rattle.model.specs.Packet.{packetSize, sequenceIn, readPacket, readTi
 ghost use Rattle.model.specs.Packet as model;
 ghost use Rattle.service.specs.Service.{Writes, blockOf, validService};
 ghost use Rattle.service.specs.Service as service;
-ghost use Rattle.blocks.specs.Reading.{readAs};
+ghost use Rattle.packet_blocks.specs.Reading.{readAs};
 ghost use Rattle.packet.specs.Packet.{Answers, packetOf, blank, validDTVCC};
 ghost use Rattle.packet.specs.Place.{Placed};
 ghost use Rattle.packet.specs.Replies.{unreadFor, answerFrom, answerTo, extentOf, countAfter, answerOf};
-use blocks::Filled;
 use caption::Answer;
 use caption::Counted;
 use caption::Refusal;
 use caption::Truth;
-use entries::Extent;
+use packet_blocks::Filled;
+use packet_entries::Extent;
 use service::Service;
 
 // The most bytes of a packet.
@@ -62,7 +62,7 @@ pub struct Header {
 pub fn packet_size(h: u8) -> usize
     ensures { λ r. ⌜ r ≡ packetSize h ⌝ }
 {
-    blocks::packet_size(h)
+    packet_blocks::packet_size(h)
 }
 
 // The header of a packet.
@@ -79,7 +79,7 @@ pub fn parse_hdr_byte(byte: u8) -> Header
 pub fn reads_in(bytes: &[u8; 128], len: usize) -> bool
     ensures { λ r. ⌜ r ≡ model.reads (take len (now (bytes .entry))) ⌝ }
 {
-    blocks::reads_in(bytes, len)
+    packet_blocks::reads_in(bytes, len)
 }
 
 // A refusal, beside an empty packet.
@@ -132,7 +132,7 @@ fn packet_of(r: Filled) -> PacketAnswer
 fn read_packet(data: &[u8], tidy: bool) -> PacketAnswer
     ensures { λ r. ⌜ Answers (readAs tidy (now («data» .entry))) blank r ⌝ }
 {
-    packet_of(blocks::read(data, tidy))
+    packet_of(packet_blocks::read(data, tidy))
 }
 
 // How many blocks there are after a push; one that is refused leaves as many as there were.
@@ -189,7 +189,7 @@ impl DTVCCPacket {
     {
         let numbers = self.numbers;
         let sizes = self.sizes;
-        entries::extent_of(self.seq_no, self.count, &numbers, &sizes)
+        packet_entries::extent_of(self.seq_no, self.count, &numbers, &sizes)
     }
 
     // A packet without blocks.
@@ -268,7 +268,7 @@ impl DTVCCPacket {
         let numbers = self.numbers;
         let sizes = self.sizes;
         let payload = self.payload;
-        entries::write(self.seq_no, self.count, &numbers, &sizes, &payload, out)
+        packet_entries::write(self.seq_no, self.count, &numbers, &sizes, &payload, out)
     }
 
     // The block at a place.
@@ -287,7 +287,7 @@ impl DTVCCPacket {
         }
         ServiceAt {
             place: Place::Here,
-            service: entries::block_at(&numbers, &sizes, &payload, place),
+            service: packet_entries::block_at(&numbers, &sizes, &payload, place),
         }
     }
 
@@ -298,7 +298,7 @@ impl DTVCCPacket {
         let mut numbers = self.numbers;
         let mut sizes = self.sizes;
         let mut payload = self.payload;
-        let r = pushes::push_block(
+        let r = packet_pushes::push_block(
             service,
             self.seq_no,
             self.count,
@@ -317,7 +317,7 @@ impl DTVCCPacket {
         let mut numbers = self.numbers;
         let mut sizes = self.sizes;
         let mut payload = self.payload;
-        let r = pushes::push_run(
+        let r = packet_pushes::push_run(
             needs_room,
             service_no,
             code,
@@ -355,7 +355,7 @@ impl DTVCCPacket {
     pub fn parse_in(bytes: &[u8; 128], len: usize) -> PacketAnswer
         ensures { λ r. ⌜ Answers (readPacket (take len (now (bytes .entry)))) blank r ⌝ }
     {
-        packet_of(blocks::read_in(bytes, len, false))
+        packet_of(packet_blocks::read_in(bytes, len, false))
     }
 
     // Reads a packet whose length is what its header says, and passes each block whole.

@@ -14,8 +14,8 @@ use Rattle.model.proofs.Lists.{every-append}
 use Rattle.model.proofs.Frames.{Read, packets-append, packets-many, gathered-read}
 use Rattle.model.proofs.Frames as frames
 use Rattle.slots.specs.declared.Slot.{Slot}
-use Rattle.rings.specs.Ring.{ringFrom, slotRun, slotFine, setRound}
-use Rattle.rings.proofs.Rings.{slotOfRun, round-length, ring-laid, runs-again, runs-fine}
+use Rattle.parser_rings.specs.Ring.{ringFrom, slotRun, slotFine, setRound}
+use Rattle.parser_rings.proofs.Rings.{slotOfRun, round-length, ring-laid, runs-again, runs-fine}
 use Rattle.parser.proofs.Laid.{Stands}
 
 -- what a frame delivers to d

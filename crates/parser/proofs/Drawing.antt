@@ -15,14 +15,14 @@ use Rattle.model.proofs.Cases.{by-test, both}
 use Rattle.packet.specs.Packet.{laid}
 use Rattle.slots.specs.Slot.{noSlot}
 use Rattle.slots.specs.declared.Slot.{Slot}
-use Rattle.triples.specs.Pairs.{placedAll, pairsOf}
-use Rattle.rings.specs.Ring.{ringFrom, slotRun, slotFine, setRound}
-use Rattle.rings.specs.Tests.{headFine, behindFine}
-use Rattle.gather.specs.Tests.{pendingFine}
-use Rattle.rings.specs.declared.Front.{Front}
-use Rattle.triples.specs.Listing.{listFine}
-use Rattle.triples.proofs.Fields.{again-placed, pairs-length}
-use Rattle.rings.proofs.Rings.{ring-length}
+use Rattle.parser_triples.specs.Pairs.{placedAll, pairsOf}
+use Rattle.parser_rings.specs.Ring.{ringFrom, slotRun, slotFine, setRound}
+use Rattle.parser_rings.specs.Tests.{headFine, behindFine}
+use Rattle.parser_gather.specs.Tests.{pendingFine}
+use Rattle.parser_rings.specs.declared.Front.{Front}
+use Rattle.parser_triples.specs.Listing.{listFine}
+use Rattle.parser_triples.proofs.Fields.{again-placed, pairs-length}
+use Rattle.parser_rings.proofs.Rings.{ring-length}
 use Rattle.parser.specs.Means.{means, Shaped}
 use Rattle.parser.specs.Valid.{valid}
 use Rattle.parser.specs.Calls.{laidIn, laidAfter}

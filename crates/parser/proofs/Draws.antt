@@ -23,8 +23,8 @@ use Rattle.packet.specs.declared.DTVCCPacket.{DTVCCPacket}
 use Rattle.packet.specs.declared.PacketAnswer.{PacketAnswer}
 use Rattle.packet.proofs.Refusals.{accepted-reads, refused-reads}
 use Rattle.slots.specs.declared.Slot.{Slot}
-use Rattle.rings.specs.Tests.{headFine}
-use Rattle.rings.proofs.Slots.{slot-long, slot-within}
+use Rattle.parser_rings.specs.Tests.{headFine}
+use Rattle.parser_rings.proofs.Slots.{slot-long, slot-within}
 use Rattle.parser.specs.Take.{slid, placeBehind, firstPair, packetAt, Taken, takenBy, takePair, takePacket, takeNone, noneTook, takeItem, takeHead, takeBehind}
 use Rattle.parser.specs.declared.Counts.{Counts}
 use Rattle.parser.specs.declared.Took.{Took}

@@ -17,10 +17,10 @@ use Rattle.model.specs.Demux.{Demux, Taken, quiet, freshDemux, turn608On, packe
 use Rattle.model.proofs.Cases.{by-cond}
 use Rattle.model.proofs.Frames.{few-packets}
 use Rattle.model.proofs.DemuxStates.{demux-facts, on-valid, take-valid, draw-valid}
-use Rattle.triples.specs.Walk.{seenFrom}
-use Rattle.triples.specs.Pairs.{placedAll, pairsOf}
-use Rattle.triples.proofs.Found.{few-triples}
-use Rattle.rings.specs.Ring.{ringFrom, setRound}
+use Rattle.parser_triples.specs.Walk.{seenFrom}
+use Rattle.parser_triples.specs.Pairs.{placedAll, pairsOf}
+use Rattle.parser_triples.proofs.Found.{few-triples}
+use Rattle.parser_rings.specs.Ring.{ringFrom, setRound}
 use Rattle.parser.specs.Means.{means}
 use Rattle.parser.specs.Valid.{inOrder, valid}
 use Rattle.parser.specs.Calls.{laidIn, fresh, headAfter, laidAfter}

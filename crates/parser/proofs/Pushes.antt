@@ -11,11 +11,11 @@ use Rattle.caption.specs.declared.Refusal.the-variants.{Full, BadValue}
 use Rattle.caption.specs.Answers.{saidAnswer}
 use Rattle.model.specs.Demux.{takeFrame}
 use Rattle.model.proofs.Cases.{by-test}
-use Rattle.triples.specs.Listing.{Listing, listedBy}
-use Rattle.triples.specs.Plan.{planOf}
-use Rattle.triples.specs.declared.Plan.{Plan}
-use Rattle.gather.specs.Gather.{Left, takenBy, gatheredBy}
-use Rattle.gather.specs.declared.Gathered.{Gathered}
+use Rattle.parser_triples.specs.Listing.{Listing, listedBy}
+use Rattle.parser_triples.specs.Plan.{planOf}
+use Rattle.parser_triples.specs.declared.Plan.{Plan}
+use Rattle.parser_gather.specs.Gather.{Left, takenBy, gatheredBy}
+use Rattle.parser_gather.specs.declared.Gathered.{Gathered}
 use Rattle.parser.specs.Means.{means, Shaped}
 use Rattle.parser.specs.Valid.{valid}
 use Rattle.parser.specs.Calls.{laidAfter, Answers}

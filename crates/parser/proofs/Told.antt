@@ -18,14 +18,14 @@ use Rattle.model.specs.Demux as model
 use Rattle.model.specs.Demux.{Demux, Taken, packetsOf, withPairs, pairsIn, lateFrom, carries708, ended, takeGathered, takeTriples, unread, takeFrame}
 use Rattle.model.proofs.Frames.{Read, packets-many, gathered-read, kept-pending, take-full, take-room}
 use Rattle.model.proofs.Frames as frames
-use Rattle.triples.specs.Walk.{seenFrom}
-use Rattle.triples.specs.Listing.{Listing, listedBy}
-use Rattle.triples.specs.Plan.{plan, planFound, planOf}
-use Rattle.triples.specs.declared.Plan.{Plan}
-use Rattle.rings.specs.Ring.{setRound}
-use Rattle.gather.specs.Tests.{readyFor}
-use Rattle.gather.specs.Gather.{Left, leftOf, gatheredBy}
-use Rattle.gather.proofs.Pending.{fine-pending}
+use Rattle.parser_triples.specs.Walk.{seenFrom}
+use Rattle.parser_triples.specs.Listing.{Listing, listedBy}
+use Rattle.parser_triples.specs.Plan.{plan, planFound, planOf}
+use Rattle.parser_triples.specs.declared.Plan.{Plan}
+use Rattle.parser_rings.specs.Ring.{setRound}
+use Rattle.parser_gather.specs.Tests.{readyFor}
+use Rattle.parser_gather.specs.Gather.{Left, leftOf, gatheredBy}
+use Rattle.parser_gather.proofs.Pending.{fine-pending}
 use Rattle.parser.specs.Means.{means, Shaped}
 use Rattle.parser.specs.Calls.{laidIn}
 use Rattle.parser.specs.Push.{joined}

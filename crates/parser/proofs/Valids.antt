@@ -16,18 +16,18 @@ use Rattle.model.proofs.Frames.{closed-one}
 use Rattle.model.proofs.DemuxStates.{demux-facts, facts-demux, packets-valid}
 use Rattle.slots.specs.Slot.{noSlot, slotWith}
 use Rattle.slots.specs.declared.Slot.{Slot}
-use Rattle.triples.specs.Pairs.{placedAll, pairsOf}
-use Rattle.rings.specs.Ring.{ringFrom, slotRun, slotFine}
-use Rattle.rings.specs.Tests.{ringFine, headFine, behindFine, oldestOf}
-use Rattle.gather.specs.Tests.{pendingFine}
-use Rattle.rings.specs.declared.Front.{Front}
-use Rattle.triples.proofs.Fields.{placed-again, again-placed, list-facts, facts-list, pairs-length}
-use Rattle.rings.proofs.Slots.{RingFine, ring-facts, facts-ring, behind-empty, ring-parts}
-use Rattle.gather.proofs.Pending.{fine-pending}
-use Rattle.rings.proofs.Rings.{ring-length}
+use Rattle.parser_triples.specs.Pairs.{placedAll, pairsOf}
+use Rattle.parser_rings.specs.Ring.{ringFrom, slotRun, slotFine}
+use Rattle.parser_rings.specs.Tests.{ringFine, headFine, behindFine, oldestOf}
+use Rattle.parser_gather.specs.Tests.{pendingFine}
+use Rattle.parser_rings.specs.declared.Front.{Front}
+use Rattle.parser_triples.proofs.Fields.{placed-again, again-placed, list-facts, facts-list, pairs-length}
+use Rattle.parser_rings.proofs.Slots.{RingFine, ring-facts, facts-ring, behind-empty, ring-parts}
+use Rattle.parser_gather.proofs.Pending.{fine-pending}
+use Rattle.parser_rings.proofs.Rings.{ring-length}
 use Rattle.parser.specs.Means.{means, Shaped}
 use Rattle.parser.specs.Valid.{inOrder, valid}
-use Rattle.triples.specs.Listing.{listFine}
+use Rattle.parser_triples.specs.Listing.{listFine}
 use Rattle.parser.specs.Tests.{countsOf, frontOf, fine}
 use Rattle.parser.specs.declared.CCDataParser.{CCDataParser}
 use Rattle.parser.specs.declared.Counts.{Counts}

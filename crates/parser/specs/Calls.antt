@@ -11,8 +11,8 @@ use Rattle.model.specs.Said.{badValue}
 use Rattle.model.specs.Demux.{Demux, Taken, freshDemux}
 use Rattle.slots.specs.Slot.{slotWith}
 use Rattle.slots.specs.declared.Slot.{Slot}
-use Rattle.triples.specs.Pairs.{placedAll}
-use Rattle.rings.specs.Ring.{setRound}
+use Rattle.parser_triples.specs.Pairs.{placedAll}
+use Rattle.parser_rings.specs.Ring.{setRound}
 use Rattle.parser.specs.Means.{means}
 use Rattle.parser.specs.Valid.{valid}
 use Rattle.parser.specs.declared.CCDataParser.{CCDataParser}

@@ -3,8 +3,8 @@ use mathlib.Core.List.{map}
 use mathlib.Core.Path.{_≡_}
 use lib.ListN.{length, take}
 use Rattle.model.specs.Demux.{Demux, packetsOf}
-use Rattle.triples.specs.Pairs.{pairsOf}
-use Rattle.rings.specs.Ring.{ringFrom, slotRun}
+use Rattle.parser_triples.specs.Pairs.{pairsOf}
+use Rattle.parser_rings.specs.Ring.{ringFrom, slotRun}
 use Rattle.parser.specs.declared.CCDataParser.{CCDataParser}
 
 -- 608, the pairs that wait, the bytes of the packet that is not complete, and the packets that wait

@@ -2,8 +2,8 @@
 use Rattle.caption.specs.declared.Answer.{Answer}
 use Rattle.caption.specs.declared.Answer.the-variants.{Refused}
 use Rattle.caption.specs.declared.Refusal.{Refusal}
-use Rattle.triples.specs.Listing.{Listing}
-use Rattle.gather.specs.Gather.{Left}
+use Rattle.parser_triples.specs.Listing.{Listing}
+use Rattle.parser_gather.specs.Gather.{Left}
 use Rattle.parser.specs.declared.CCDataParser.{CCDataParser}
 use Rattle.parser.specs.declared.ParserAnswer.{ParserAnswer}
 

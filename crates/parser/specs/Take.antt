@@ -12,7 +12,7 @@ use Rattle.model.specs.Packet.{noPacket, readPacket}
 use Rattle.packet.specs.Packet.{laid, blank}
 use Rattle.slots.specs.declared.Slot.{Slot}
 use Rattle.packet.specs.declared.DTVCCPacket.{DTVCCPacket}
-use Rattle.rings.specs.Ring.{slotFine}
+use Rattle.parser_rings.specs.Ring.{slotFine}
 use Rattle.parser.specs.declared.Counts.{Counts}
 use Rattle.parser.specs.declared.Took.{Took}
 use Rattle.parser.specs.declared.Item.{Item}

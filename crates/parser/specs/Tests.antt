@@ -5,10 +5,10 @@ use Prim.Native.Nat.{ℕ}
 use lib.Dec.{eqb, leb}
 use Rattle.slots.specs.Slot.{slotWith}
 use Rattle.slots.specs.declared.Slot.{Slot}
-use Rattle.triples.specs.Listing.{listFine}
-use Rattle.rings.specs.Tests.{ringFine, oldestOf}
-use Rattle.gather.specs.Tests.{pendingFine}
-use Rattle.rings.specs.declared.Front.{Front}
+use Rattle.parser_triples.specs.Listing.{listFine}
+use Rattle.parser_rings.specs.Tests.{ringFine, oldestOf}
+use Rattle.parser_gather.specs.Tests.{pendingFine}
+use Rattle.parser_rings.specs.declared.Front.{Front}
 use Rattle.parser.specs.declared.CCDataParser.{CCDataParser}
 use Rattle.parser.specs.declared.Counts.{Counts}
 

@@ -5,8 +5,8 @@ use lib.ListN.{take}
 use lib.Dec.{leb}
 use Rattle.model.specs.Lists.{every, same}
 use Rattle.model.specs.Demux.{validDemux}
-use Rattle.triples.specs.Pairs.{placedAll}
-use Rattle.rings.specs.Ring.{ringFrom, slotFine}
+use Rattle.parser_triples.specs.Pairs.{placedAll}
+use Rattle.parser_rings.specs.Ring.{ringFrom, slotFine}
 use Rattle.parser.specs.Means.{means}
 use Rattle.parser.specs.declared.CCDataParser.{CCDataParser}
 

@@ -9,12 +9,12 @@ ghost use Rattle.model.specs.Said.{measured};
 ghost use Rattle.model.specs.Packet.{noPacket};
 ghost use Rattle.packet.specs.Packet.{laid};
 ghost use Rattle.model.specs.Demux.{freshDemux, quiet, turn608On, flushDemux, takeFrame};
-ghost use Rattle.rings.specs.Tests.{headFine};
-ghost use Rattle.gather.specs.Tests.{pendingFine};
+ghost use Rattle.parser_rings.specs.Tests.{headFine};
+ghost use Rattle.parser_gather.specs.Tests.{pendingFine};
 ghost use Rattle.parser.specs.Means.{means, Shaped};
 ghost use Rattle.parser.specs.Valid.{valid};
 ghost use Rattle.parser.specs.Calls.{fresh, laidAfter, Answers};
-ghost use Rattle.triples.specs.Listing.{listFine};
+ghost use Rattle.parser_triples.specs.Listing.{listFine};
 ghost use Rattle.parser.specs.Tests.{frontOf, countsOf};
 ghost use Rattle.parser.specs.Push.{fed, refusedFor};
 ghost use Rattle.parser.specs.Take.{placeBehind, firstPair, slid, takenBy, takePair, takeHead, takeBehind, takeItem, noneTook, Takes};
@@ -24,7 +24,7 @@ use caption::Cea608;
 use caption::Counted;
 use caption::Refusal;
 use packet::DTVCCPacket;
-use rings::Front;
+use parser_rings::Front;
 use slots::Slot;
 
 // The most packets that wait.
@@ -101,7 +101,7 @@ fn oldest(c: Counts, slots: [Slot; 32]) -> Front
         let good = c.first <= 31;
         return Front { good, slot };
     }
-    rings::oldest(slots, c.first, c.waiting)
+    parser_rings::oldest(slots, c.first, c.waiting)
 }
 
 // Whether the slot that has waited longest, if there is one, reads as a packet.
@@ -111,7 +111,7 @@ fn head_good(waiting: usize, slot: Slot) -> bool
     if waiting == 0 {
         return true;
     }
-    rings::slot_good(slot)
+    parser_rings::slot_good(slot)
 }
 
 // Whether the ring is within its limits, its head too.
@@ -129,10 +129,10 @@ fn ring_good(waiting: usize, o: Front) -> bool
 fn good<'a>(c: Counts, pairs: &'a [u8; 93], pending: &'a [u8; 128], ring: bool) -> bool
     ensures { λ r. ⌜ r ≡ (listFine (c .on) (c .pairs) (now (pairs .entry)) && (pendingFine (c .pending) (now (pending .entry)) && ring)) ⌝ }
 {
-    if !triples::list_good(c.on, pairs, c.pairs) {
+    if !parser_triples::list_good(c.on, pairs, c.pairs) {
         return false;
     }
-    if !gather::pending_good(pending, c.pending) {
+    if !parser_gather::pending_good(pending, c.pending) {
         return false;
     }
     ring
@@ -417,9 +417,9 @@ impl CCDataParser {
         let o = oldest(c, slots);
         let ring = ring_good(c.waiting, o);
         if good(c, &pairs, &pending, ring) {
-            let plan = triples::plan_of(frame);
-            let n = triples::list_by(plan.lists, c.on, &mut pairs, frame);
-            let g = gather::gather_by(
+            let plan = parser_triples::plan_of(frame);
+            let n = parser_triples::list_by(plan.lists, c.on, &mut pairs, frame);
+            let g = parser_gather::gather_by(
                 plan.gathers,
                 c.first,
                 c.waiting,

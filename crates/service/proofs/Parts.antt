@@ -5,9 +5,9 @@ use Prim.Native.Nat.{ℕ}
 use lib.ListN.{take, drop}
 use borrow.Author.Tests.{eq-eqb, ne-eqb}
 use Rattle.model.specs.Block.{blockIn, partIn}
-use Rattle.headers.specs.declared.Head.the-variants.{Whole, Short}
-use Rattle.headers.specs.Head.{headOf}
-use Rattle.headers.proofs.Heads.{headed, head-short}
+use Rattle.service_headers.specs.declared.Head.the-variants.{Whole, Short}
+use Rattle.service_headers.specs.Head.{headOf}
+use Rattle.service_headers.proofs.Heads.{headed, head-short}
 
 module _ (d : List ℕ) where
   -- none where bytes are missing

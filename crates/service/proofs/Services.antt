@@ -17,11 +17,11 @@ use Rattle.model.proofs.Cases.{by-test, both}
 use Rattle.model.proofs.Blocks.{written-length}
 use Rattle.service.specs.declared.Service.{Service}
 use Rattle.service.specs.declared.ServiceAnswer.{ServiceAnswer}
-use Rattle.headers.specs.declared.Head.the-variants.{Whole, Short}
-use Rattle.headers.specs.Head.{headOf, lengthFor}
+use Rattle.service_headers.specs.declared.Head.the-variants.{Whole, Short}
+use Rattle.service_headers.specs.Head.{headOf, lengthFor}
 use Rattle.service.specs.Service.{Answers, Writes, blockOf, over, blank, validService}
-use Rattle.headers.proofs.Runs.{sets-front, sets-behind}
-use Rattle.headers.proofs.Heads.{headed, head-short, length-of, laid-block}
+use Rattle.service_headers.proofs.Runs.{sets-front, sets-behind}
+use Rattle.service_headers.proofs.Heads.{headed, head-short, length-of, laid-block}
 
 -- a block and the places that it is laid in
 pub laid-as : (n k : ℕ) (p q : List ℕ) → length q ≡ k → p ≡ sets (replicate 31 0) 0 q

@@ -11,7 +11,7 @@ use caption::Answer;
 use caption::Counted;
 use caption::Refusal;
 use caption::Truth;
-use headers::Head;
+use service_headers::Head;
 
 // The most bytes of a payload, and the largest number.
 const MOST_PAYLOAD: usize = 31;
@@ -35,7 +35,7 @@ pub struct ServiceAnswer {
 pub fn payload_of(data: &[u8]) -> &[u8]
     ensures { λ r. ⌜ now r ≡ partIn (now («data» .entry)) ⌝ }
 {
-    let head = headers::read_head(data, 0);
+    let head = service_headers::read_head(data, 0);
     let Head::Whole {
         number,
         start,
@@ -118,7 +118,7 @@ impl Service {
         ensures { λ r. ⌜ saidCounted r ≡ measured (validService self) (blockLength (blockOf self)) ⌝ }
     {
         if self.is_valid() {
-            return Counted::Count(headers::block_length(self.number, self.len as u8));
+            return Counted::Count(service_headers::block_length(self.number, self.len as u8));
         }
         Counted::Refused(Refusal::BadValue)
     }
@@ -153,7 +153,7 @@ impl Service {
         if MOST_PAYLOAD - len < n {
             return refused(Refusal::WouldOverflow(n - (MOST_PAYLOAD - len)), self);
         }
-        headers::put_bytes(&mut payload, len, code);
+        service_headers::put_bytes(&mut payload, len, code);
         ServiceAnswer {
             answer: Answer::Accepted,
             service: Service {
@@ -169,7 +169,7 @@ impl Service {
         ensures { λ r. ⌜ Answers (readBlock (now («data» .entry))) blank r ⌝ }
     {
         let mut payload = [0u8; 31];
-        let head = headers::read_head(data, 0);
+        let head = service_headers::read_head(data, 0);
         let Head::Whole {
             number,
             start,
@@ -177,7 +177,7 @@ impl Service {
         } = head
         else {
             return refused(
-                headers::short_of(head, data.len()),
+                service_headers::short_of(head, data.len()),
                 Service {
                     number: 0,
                     len: 0,
@@ -196,7 +196,7 @@ impl Service {
             };
         }
         let end = start + size;
-        headers::put_bytes(&mut payload, 0, &data[start..end]);
+        service_headers::put_bytes(&mut payload, 0, &data[start..end]);
         ServiceAnswer {
             answer: Answer::Accepted,
             service: Service {
@@ -217,13 +217,13 @@ impl Service {
         if !self.is_valid() {
             return Counted::Refused(Refusal::BadValue);
         }
-        let start = headers::written_header_length(number);
+        let start = service_headers::written_header_length(number);
         let total = start + len;
         if out.len() < total {
             return Counted::Refused(Refusal::OutShort { needed: total });
         }
-        headers::put_header(out, 0, number, len as u8);
-        headers::put_bytes(out, start, &payload[0..len]);
+        service_headers::put_header(out, 0, number, len as u8);
+        service_headers::put_bytes(out, start, &payload[0..len]);
         Counted::Count(total)
     }
 }

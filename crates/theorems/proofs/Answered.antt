@@ -6,7 +6,7 @@ use native.Mathlib.Omega.{arith}
 use Rattle.model.specs.Said.{Outcome, gave, refused, checked}
 use Rattle.model.specs.Mux.{Mux, withPads}
 use Rattle.model.specs.Run.{pads, writes, call, others}
-use Rattle.journey.proofs.Calls.{quiet-pads}
+use Rattle.model_journey.proofs.Calls.{quiet-pads}
 use Rattle.caption.specs.Answers.{saidRefusal}
 use Rattle.caption.proofs.Answers.{saidAnswer-injective}
 use Rattle.caption.specs.declared.Refusal.{Refusal}

@@ -16,19 +16,19 @@ use Rattle.model.specs.Rate.{Budgets}
 use Rattle.model.specs.Mux.{Mux, freshMux, writeFrame}
 use Rattle.model.specs.Run as runs
 use Rattle.model.proofs.Frames.{unflat}
-use Rattle.journey.specs.Bounds as journey
-use Rattle.journey.specs.Bounds.{Field, one, two, acceptedOf}
-use Rattle.journey.proofs.Leaves as leaves
-use Rattle.journey.proofs.Four as four
-use Rattle.journey.proofs.Drains as drains
+use Rattle.model_journey.specs.Bounds as journey
+use Rattle.model_journey.specs.Bounds.{Field, one, two, acceptedOf}
+use Rattle.model_journey.proofs.Leaves as leaves
+use Rattle.model_journey.proofs.Four as four
+use Rattle.model_journey.proofs.Drains as drains
 use Rattle.caption.proofs.Answers.{saidCounted-injective}
 use Rattle.caption.specs.declared.Counted.the-variants as counted
 use Rattle.caption.specs.declared.Framerate.{Framerate}
-use Rattle.turns.specs.Queue.{queueOf}
-use Rattle.turns.proofs.Queues.{queue-length}
+use Rattle.writer_turns.specs.Queue.{queueOf}
+use Rattle.writer_turns.proofs.Queues.{queue-length}
 use Rattle.slots.specs.Slot.{slotPacket}
 use Rattle.writer.specs.Writer.{means}
-use Rattle.sending.proofs.Triples.{left-length}
+use Rattle.writer_sending.proofs.Triples.{left-length}
 use Rattle.writer.proofs.Kept.{Sound, sound-ok}
 use Rattle.writer.proofs.Laws.{write-given}
 use Rattle.writer.specs.declared.CCDataWriter.{CCDataWriter}

@@ -13,8 +13,8 @@ use Rattle.model.specs.Demux.{Demux, aPair, aPacket, noItem, itemValues, itemPa
 use Rattle.model.specs.Run.{emptied, ofField1, ofField2, others}
 use Rattle.model.proofs.Cases.{both}
 use Rattle.model.proofs.Packets.{valid-facts}
-use Rattle.journey.proofs.Turns.{others-append}
-use Rattle.journey.proofs.Draws as draws
+use Rattle.model_journey.proofs.Turns.{others-append}
+use Rattle.model_journey.proofs.Draws as draws
 use Rattle.caption.specs.Pairs.{cea608Of}
 use Rattle.caption.specs.declared.Refusal.{Refusal}
 use Rattle.caption.specs.declared.Cea608 as caption

@@ -13,9 +13,9 @@ use Rattle.model.specs.Frame.{Cea608}
 use Rattle.model.specs.Demux.{Demux, Item, takeFrame}
 use Rattle.model.specs.Run.{Read, readFrames, emptied, ofField1, ofField2, others}
 use Rattle.model.proofs.DemuxStates.{demux-facts}
-use Rattle.journey.specs.Bounds.{one, two}
-use Rattle.journey.proofs.Turns.{others-append}
-use Rattle.journey.proofs.Carried.{field-append}
+use Rattle.model_journey.specs.Bounds.{one, two}
+use Rattle.model_journey.proofs.Turns.{others-append}
+use Rattle.model_journey.proofs.Carried.{field-append}
 use Rattle.caption.specs.Answers.{saidAnswer}
 use Rattle.caption.specs.declared.Answer.{Answer}
 use Rattle.caption.specs.declared.Refusal.{Refusal}

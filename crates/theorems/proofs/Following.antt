@@ -7,9 +7,9 @@ use Rattle.model.specs.Packet.{Packet}
 use Rattle.model.specs.Frame.{Pair}
 use Rattle.model.specs.Mux.{Mux}
 use Rattle.model.specs.Run.{Call, Run, call, run, AllowedCall, Allowed, others}
-use Rattle.journey.specs.Bounds.{writesIn, AtRates, NoPush}
-use Rattle.journey.proofs.Turns.{others-append}
-use Rattle.journey.proofs.Calls.{thenRun}
+use Rattle.model_journey.specs.Bounds.{writesIn, AtRates, NoPush}
+use Rattle.model_journey.proofs.Turns.{others-append}
+use Rattle.model_journey.proofs.Calls.{thenRun}
 use Rattle.writer.specs.Writer.{means}
 use Rattle.writer.proofs.Kept.{Sound}
 use Rattle.writer.specs.declared.CCDataWriter.{CCDataWriter}

@@ -9,13 +9,13 @@ use Rattle.model.specs.Frame.{Pair}
 use Rattle.model.specs.Demux.{Demux, freshDemux, turn608On}
 use Rattle.model.specs.Mux.{Mux, freshMux}
 use Rattle.model.specs.Run.{Read, Run, run, readFrames, others}
-use Rattle.journey.specs.Bounds.{Field, one, two, acceptedOf, Left}
-use Rattle.journey.specs.Bounds as journey
-use Rattle.journey.proofs.Turns.{ofField}
-use Rattle.journey.proofs.Round.{ready-fresh}
-use Rattle.journey.proofs.Taking.{holding}
-use Rattle.journey.proofs.Carried.{Carried, carried}
-use Rattle.journey.proofs.Leaves.{leaves, first-gone}
+use Rattle.model_journey.specs.Bounds.{Field, one, two, acceptedOf, Left}
+use Rattle.model_journey.specs.Bounds as journey
+use Rattle.model_journey.proofs.Turns.{ofField}
+use Rattle.model_journey.proofs.Round.{ready-fresh}
+use Rattle.model_journey.proofs.Taking.{holding}
+use Rattle.model_journey.proofs.Carried.{Carried, carried}
+use Rattle.model_journey.proofs.Leaves.{leaves, first-gone}
 use Rattle.caption.specs.declared.Answer.{Answer}
 use Rattle.writer.specs.Writer.{means}
 use Rattle.writer.specs.declared.CCDataWriter.{CCDataWriter}

@@ -11,7 +11,7 @@ use Rattle.model.specs.Mux.{Mux, withPackets, pushPacket, queued, mostPackets}
 use Rattle.model.specs.Run.{pushes, writes, call, others}
 use Rattle.model.proofs.Cases.{by-test, gives-at}
 use Rattle.model.proofs.Packets.{Valid, facts-valid}
-use Rattle.journey.proofs.Calls.{quiet-push}
+use Rattle.model_journey.proofs.Calls.{quiet-push}
 use Rattle.caption.specs.declared.Refusal.the-variants.{BadValue, Full}
 use Rattle.packet.specs.Packet.{packetOf, validDTVCC}
 use Rattle.packet.proofs.Holds.{within-facts, held-valid}

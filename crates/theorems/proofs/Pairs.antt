@@ -9,7 +9,7 @@ use Rattle.model.specs.Frame.{Cea608, field1, field2}
 use Rattle.model.specs.Mux.{Mux, isNull, withQueues, pushPair, pushCea608, queued, mostQueued}
 use Rattle.model.specs.Run.{pushes608, writes, call, others}
 use Rattle.model.proofs.Cases.{by-test, gives-at}
-use Rattle.journey.proofs.Calls.{quiet-608}
+use Rattle.model_journey.proofs.Calls.{quiet-608}
 use Rattle.caption.specs.Pairs.{cea608Of}
 use Rattle.caption.specs.declared.Refusal.the-variants.{Full}
 use Rattle.caption.specs.declared.Cea608 as caption

@@ -14,13 +14,13 @@ use Rattle.model.specs.Rate.{Budgets}
 use Rattle.model.specs.Mux.{Mux, Sent, framed, writeFrame, turnsDue, turned, countDue}
 use Rattle.model.specs.Run.{Run}
 use Rattle.model.proofs.Cases.{by-test}
-use Rattle.journey.proofs.Calls.{Quiet}
-use Rattle.journey.proofs.Carried.{Kept, chain}
-use Rattle.journey.proofs.Sending.{Begins, none-begun, one-begun, begins, sentBy}
+use Rattle.model_journey.proofs.Calls.{Quiet}
+use Rattle.model_journey.proofs.Carried.{Kept, chain}
+use Rattle.model_journey.proofs.Sending.{Begins, none-begun, one-begun, begins, sentBy}
 use Rattle.slots.specs.Slot.{noSlot, writtenLength, writtenBytes, slotPacket}
 use Rattle.slots.specs.declared.Slot.{Slot}
-use Rattle.sending.proofs.Triples.{leftFrom, Held, left-length}
-use Rattle.sending.proofs.Sends.{slotPackets}
+use Rattle.writer_sending.proofs.Triples.{leftFrom, Held, left-length}
+use Rattle.writer_sending.proofs.Sends.{slotPackets}
 use Rattle.writer.specs.Writer.{means, moved}
 use Rattle.writer.proofs.Moved.{begun-at}
 use Rattle.writer.proofs.Builds.{means-frame}

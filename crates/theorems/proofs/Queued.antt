@@ -8,10 +8,10 @@ use Rattle.model.specs.Frame.{Pair}
 use Rattle.model.specs.Mux.{freshMux, isNull}
 use Rattle.model.specs.Run.{run, others}
 use Rattle.model.proofs.Cases.{by-test}
-use Rattle.journey.specs.Bounds.{Field, one, two, acceptedOf, Left}
-use Rattle.journey.specs.Bounds as journey
-use Rattle.journey.proofs.Turns.{others-append}
-use Rattle.journey.proofs.Leaves.{leaves}
+use Rattle.model_journey.specs.Bounds.{Field, one, two, acceptedOf, Left}
+use Rattle.model_journey.specs.Bounds as journey
+use Rattle.model_journey.proofs.Turns.{others-append}
+use Rattle.model_journey.proofs.Leaves.{leaves}
 use Rattle.writer.specs.Writer.{means}
 use Rattle.writer.specs.declared.CCDataWriter.{CCDataWriter}
 use Rattle.theorems.specs.Items.{Items}

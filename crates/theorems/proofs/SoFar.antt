@@ -12,14 +12,14 @@ use Rattle.model.specs.Demux.{freshDemux, turn608On}
 use Rattle.model.specs.Mux.{freshMux}
 use Rattle.model.specs.Run.{run, Read, readFrames, others}
 use Rattle.model.proofs.Cases.{by-test}
-use Rattle.journey.specs.Bounds.{one, two}
-use Rattle.journey.proofs.Gather as gather
-use Rattle.journey.proofs.Round.{ready-fresh}
-use Rattle.journey.proofs.Carried as journey
+use Rattle.model_journey.specs.Bounds.{one, two}
+use Rattle.model_journey.proofs.Gather as gather
+use Rattle.model_journey.proofs.Round.{ready-fresh}
+use Rattle.model_journey.proofs.Carried as journey
 use Rattle.caption.specs.declared.Answer.{Answer}
 use Rattle.slots.specs.Slot.{writtenLength}
 use Rattle.writer.specs.Writer.{means}
-use Rattle.sending.proofs.Triples.{left-length}
+use Rattle.writer_sending.proofs.Triples.{left-length}
 use Rattle.writer.proofs.Kept.{Sound, sound-ok}
 use Rattle.writer.specs.declared.CCDataWriter.{CCDataWriter}
 use Rattle.parser.specs.declared.CCDataParser.{CCDataParser}

@@ -8,15 +8,15 @@ use Rattle.model.specs.Said as said
 use Rattle.model.specs.Demux.{quiet, freshDemux, turn608On}
 use Rattle.model.specs.Run as model
 use Rattle.model.specs.Run.{Read, readFrames}
-use Rattle.journey.proofs.Trip as journey
+use Rattle.model_journey.proofs.Trip as journey
 use Rattle.caption.specs.declared.Answer.{Answer}
 use Rattle.caption.specs.declared.Answer.the-variants.{Accepted}
 use Rattle.caption.proofs.Answers.{saidAnswer-injective}
-use Rattle.turns.specs.Queue.{queueOf, pairsOf}
+use Rattle.writer_turns.specs.Queue.{queueOf, pairsOf}
 use Rattle.slots.specs.Slot.{writtenBytes}
 use Rattle.writer.specs.Writer.{means}
 use Rattle.writer.proofs.Kept.{Sound, sound-ok}
-use Rattle.sending.proofs.Triples.{left-end}
+use Rattle.writer_sending.proofs.Triples.{left-end}
 use Rattle.writer.specs.declared.CCDataWriter.{CCDataWriter}
 use Rattle.parser.specs.Means as parser
 use Rattle.parser.specs.Calls as calls

@@ -7,11 +7,11 @@ use Rattle.model.specs.Said.{gave}
 use Rattle.model.specs.Frame.{Pair, seenAll, triplesIn, mostFrame, frameBytes}
 use Rattle.model.specs.Rate.{Budgets, budgets}
 use Rattle.model.specs.Mux.{unsent, writeFrame}
-use Rattle.journey.specs.Bounds.{Field, the, Left, packetTriplesIn}
+use Rattle.model_journey.specs.Bounds.{Field, the, Left, packetTriplesIn}
 use Rattle.caption.specs.declared.Counted.{Counted}
 use Rattle.caption.specs.declared.Counted.the-variants.{Count}
 use Rattle.caption.specs.declared.Framerate.{Framerate}
-use Rattle.turns.specs.Queue.{queueOf}
+use Rattle.writer_turns.specs.Queue.{queueOf}
 use Rattle.writer.specs.Writer.{means}
 use Rattle.writer.specs.declared.CCDataWriter.{CCDataWriter}
 use Rattle.theorems.specs.Items.{Items}

@@ -14,22 +14,22 @@ use Rattle.model.proofs.Cases.{by-cond}
 use Rattle.model.proofs.Frames.{flat-length}
 use Rattle.model.proofs.MuxStates.{write-valid}
 use Rattle.caption.specs.declared.Counted.the-variants.{Count}
-use Rattle.frames.specs.Frame.{headed, appended}
-use Rattle.frames.proofs.Stores.{appended-flat}
-use Rattle.frames.specs.declared.Frame.{Frame}
-use Rattle.turns.specs.Turn.{taken, turnsFrom}
-use Rattle.turns.specs.declared.Turns.{Turns}
-use Rattle.turns.proofs.Queues.{queue-length}
-use Rattle.turns.proofs.Steps.{Leaves, leaves1, leaves2, fit}
+use Rattle.writer_frames.specs.Frame.{headed, appended}
+use Rattle.writer_frames.proofs.Stores.{appended-flat}
+use Rattle.writer_frames.specs.declared.Frame.{Frame}
+use Rattle.writer_turns.specs.Turn.{taken, turnsFrom}
+use Rattle.writer_turns.specs.declared.Turns.{Turns}
+use Rattle.writer_turns.proofs.Queues.{queue-length}
+use Rattle.writer_turns.proofs.Steps.{Leaves, leaves1, leaves2, fit}
 use Rattle.slots.specs.declared.Slot.{Slot}
-use Rattle.sending.specs.Slots.{countOf, filled}
-use Rattle.sending.proofs.Triples.{left-length, left-triples}
-use Rattle.sending.proofs.Sends.{triples-queued}
-use Rattle.sending.proofs.Fills.{filled-is}
-use Rattle.sending.specs.declared.Sending.{Sending}
+use Rattle.writer_sending.specs.Slots.{countOf, filled}
+use Rattle.writer_sending.proofs.Triples.{left-length, left-triples}
+use Rattle.writer_sending.proofs.Sends.{triples-queued}
+use Rattle.writer_sending.proofs.Fills.{filled-is}
+use Rattle.writer_sending.specs.declared.Sending.{Sending}
 use Rattle.writer.specs.Writer.{means, moved}
-use Rattle.building.specs.Building.{turnsOf, takes, madeOf, built}
-use Rattle.building.specs.declared.Made.{Made}
+use Rattle.writer_building.specs.Building.{turnsOf, takes, madeOf, built}
+use Rattle.writer_building.specs.declared.Made.{Made}
 use Rattle.writer.specs.Making.{joined, builtFrom}
 use Rattle.writer.proofs.Valid.{Shaped, Ok, Order}
 use Rattle.writer.proofs.Moved as moved

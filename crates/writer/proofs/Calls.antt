@@ -28,27 +28,27 @@ use Rattle.caption.specs.declared.Cea608.the-variants.{Field1, Field2}
 use Rattle.caption.specs.declared.Framerate.{Framerate}
 use Rattle.caption.specs.declared.Budgets as caption
 use Rattle.caption.specs.declared.Budgets.the-variants.{Of, BadRate as NoBudgets}
-use Rattle.frames.specs.Frame.{headed, emitted}
-use Rattle.frames.proofs.Stores.{emitted-whole}
-use Rattle.turns.specs.Queue.{queueOf, queueOver}
+use Rattle.writer_frames.specs.Frame.{headed, emitted}
+use Rattle.writer_frames.proofs.Stores.{emitted-whole}
+use Rattle.writer_turns.specs.Queue.{queueOf, queueOver}
 use Rattle.writer.specs.Writer.{means, validWriter, stored, emptied}
 use Rattle.writer.specs.Calls.{Answers, written, Writes}
 use Rattle.writer.specs.Making.{unmadeOf, joined, builtFrom, withPadding, withFields, pairOutcome, Makes}
-use Rattle.turns.proofs.Queues.{queue-length}
-use Rattle.frames.specs.declared.Frame.{Frame}
-use Rattle.turns.specs.declared.PairQueue.{PairQueue}
+use Rattle.writer_turns.proofs.Queues.{queue-length}
+use Rattle.writer_frames.specs.declared.Frame.{Frame}
+use Rattle.writer_turns.specs.declared.PairQueue.{PairQueue}
 use Rattle.caption.specs.declared.Counted.{Counted}
 use Rattle.caption.specs.declared.Counted.the-variants as counted
-use Rattle.sending.specs.Slots.{triplesLeft, lengthsIn}
-use Rattle.sending.proofs.Queues.{sets-own}
-use Rattle.sending.proofs.Triples.{left-length, left-triples}
-use Rattle.sending.proofs.Sends.{lengths-queued}
-use Rattle.sending.proofs.Fills.{send-few}
+use Rattle.writer_sending.specs.Slots.{triplesLeft, lengthsIn}
+use Rattle.writer_sending.proofs.Queues.{sets-own}
+use Rattle.writer_sending.proofs.Triples.{left-length, left-triples}
+use Rattle.writer_sending.proofs.Sends.{lengths-queued}
+use Rattle.writer_sending.proofs.Fills.{send-few}
 use Rattle.writer.proofs.Valid.{Shaped, Ok, Order, valid-order, valid-ok, valid-mux}
 use Rattle.writer.proofs.Builds.{laid, Builds, built-is, leaves, count-most, count-least, means-frame}
 use Rattle.writer.proofs.Stored.{Grows, grows-pads, grows-pair, stored-pads, stored-first, stored-second, means-stored, means-emptied}
 use Rattle.writer.specs.declared.CCDataWriter.{CCDataWriter}
-use Rattle.building.specs.declared.Made.{Made}
+use Rattle.writer_building.specs.declared.Made.{Made}
 
 -- an answer, by what it says and where the state stands, if the places of what the model gives mean it
 pub answered : (o : Outcome Mux) {f : Mux → CCDataWriter} {w y : CCDataWriter} {r : Answer} → saidAnswer r ≡ says o → y ≡ after w (mapped f o) → Gives (λ (x : Mux). means (f x) ≡ x) o

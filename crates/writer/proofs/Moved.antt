@@ -13,15 +13,15 @@ use Rattle.model.specs.Frame.{Triple}
 use Rattle.model.specs.Mux.{Mux, Sent, send, started, validMux}
 use Rattle.model.proofs.Cases.{by-test, both}
 use Rattle.model.proofs.MuxStates.{mux-facts}
-use Rattle.turns.proofs.Queues.{over-queue, over-sized}
-use Rattle.turns.proofs.Steps.{not-not}
+use Rattle.writer_turns.proofs.Queues.{over-queue, over-sized}
+use Rattle.writer_turns.proofs.Steps.{not-not}
 use Rattle.slots.specs.Slot.{noSlot, writtenLength, writtenBytes, slotPacket, writtenSlot}
 use Rattle.slots.specs.declared.Slot.{Slot}
 use Rattle.queues.specs.Written.{validSending}
 use Rattle.writer.specs.Writer.{means, laidIn, moved}
-use Rattle.sending.proofs.Triples.{leftFrom}
-use Rattle.sending.proofs.Sends.{slotPackets}
-use Rattle.sending.proofs.Ends.{Tail, Ends, ends}
+use Rattle.writer_sending.proofs.Triples.{leftFrom}
+use Rattle.writer_sending.proofs.Sends.{slotPackets}
+use Rattle.writer_sending.proofs.Ends.{Tail, Ends, ends}
 use Rattle.writer.proofs.Valid.{Shaped, Ok, Order, all-each}
 use Rattle.writer.specs.declared.CCDataWriter.{CCDataWriter}
 

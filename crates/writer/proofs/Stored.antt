@@ -17,10 +17,10 @@ use Rattle.model.proofs.Cases.{by-test, both, and-both, Gives}
 use Rattle.model.proofs.Lists.{every-append}
 use Rattle.model.proofs.Packets.{Valid, valid-facts, Shape, shape}
 use Rattle.model.proofs.MuxStates.{MuxLimits, mux-facts, pads-valid, push608-valid, push-valid}
-use Rattle.turns.specs.Queue.{pairsOf, queueOf, pairBytes, queueOver}
-use Rattle.turns.proofs.Queues.{over-same, over-queue, over-sized}
-use Rattle.turns.proofs.Steps.{not-not}
-use Rattle.headers.proofs.Runs.{sets-front}
+use Rattle.writer_turns.specs.Queue.{pairsOf, queueOf, pairBytes, queueOver}
+use Rattle.writer_turns.proofs.Queues.{over-same, over-queue, over-sized}
+use Rattle.writer_turns.proofs.Steps.{not-not}
+use Rattle.service_headers.proofs.Runs.{sets-front}
 use Rattle.slots.specs.Slot.{slotWith, writtenBytes, slotPacket, writtenSlot}
 use Rattle.slots.proofs.Written.{slot-reads, facts-written}
 use Rattle.slots.specs.declared.Slot.{Slot}
@@ -28,7 +28,7 @@ use Rattle.queues.specs.Written.{validSending}
 use Rattle.writer.specs.Writer.{means, stored, emptied}
 use Rattle.writer.specs.Making as making
 use Rattle.writer.specs.Making.{withPadding, withFields}
-use Rattle.sending.proofs.Sends.{slotPackets}
+use Rattle.writer_sending.proofs.Sends.{slotPackets}
 use Rattle.writer.proofs.Valid.{Shaped, Ok, Order}
 use Rattle.writer.specs.declared.CCDataWriter.{CCDataWriter}
 

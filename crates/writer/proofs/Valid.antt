@@ -12,7 +12,7 @@ use Rattle.model.specs.Lists.{every}
 use Rattle.model.specs.Mux.{storable, validMux}
 use Rattle.model.proofs.Cases.{by-test, both, and-both}
 use Rattle.model.proofs.MuxStates.{facts-mux}
-use Rattle.turns.proofs.Queues.{Sized, queue-length}
+use Rattle.writer_turns.proofs.Queues.{Sized, queue-length}
 use Rattle.slots.specs.Slot.{noSlot, writtenLength, writtenBytes, slotPacket, writtenSlot}
 use Rattle.slots.specs.Walk.{Carries}
 use Rattle.slots.proofs.Written.{carried, carried-storable}
@@ -20,8 +20,8 @@ use Rattle.slots.specs.declared.Slot.{Slot}
 use Rattle.queues.specs.Written.{validSending, validSlots}
 use Rattle.queues.proofs.Written.{and-false}
 use Rattle.writer.specs.Writer.{means, inOrder, validWriter}
-use Rattle.sending.proofs.Triples.{Held, left-length}
-use Rattle.sending.proofs.Sends.{slotPackets}
+use Rattle.writer_sending.proofs.Triples.{Held, left-length}
+use Rattle.writer_sending.proofs.Sends.{slotPackets}
 use Rattle.writer.specs.declared.CCDataWriter.{CCDataWriter}
 
 -- each slot passes

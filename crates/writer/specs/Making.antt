@@ -15,11 +15,11 @@ use Rattle.caption.specs.declared.Refusal.the-variants.{BadValue}
 use Rattle.caption.specs.declared.Counted.{Counted}
 use Rattle.packet.specs.Packet.{packetOf, validDTVCC}
 use Rattle.packet.specs.declared.DTVCCPacket.{DTVCCPacket}
-use Rattle.turns.specs.declared.PairQueue.{PairQueue}
-use Rattle.frames.specs.Frame.{emitted}
+use Rattle.writer_turns.specs.declared.PairQueue.{PairQueue}
+use Rattle.writer_frames.specs.Frame.{emitted}
 use Rattle.slots.specs.declared.Slot.{Slot}
-use Rattle.building.specs.Building.{built}
-use Rattle.building.specs.declared.Made.{Made}
+use Rattle.writer_building.specs.Building.{built}
+use Rattle.writer_building.specs.declared.Made.{Made}
 use Rattle.writer.specs.Writer.{means, validWriter, stored}
 use Rattle.writer.specs.Calls.{Answers, Writes}
 use Rattle.writer.specs.declared.CCDataWriter.{CCDataWriter}

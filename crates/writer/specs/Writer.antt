@@ -9,8 +9,8 @@ use lib.Seq.{sets}
 use Rattle.model.specs.Lists.{every}
 use Rattle.model.specs.Packet.{packetLength, writtenPacket}
 use Rattle.model.specs.Mux.{Mux, freshMux, validMux, started}
-use Rattle.turns.specs.Queue.{queueOf, queueOver}
-use Rattle.turns.specs.declared.PairQueue.{PairQueue}
+use Rattle.writer_turns.specs.Queue.{queueOf, queueOver}
+use Rattle.writer_turns.specs.declared.PairQueue.{PairQueue}
 use Rattle.slots.specs.Slot.{slotWith, writtenLength, writtenBytes, slotPacket, writtenSlot}
 use Rattle.slots.specs.declared.Slot.{Slot}
 use Rattle.queues.specs.Written.{validSending}

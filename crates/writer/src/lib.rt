@@ -1,5 +1,4 @@
 // The multiplexer: packets and CEA-608 pairs in, frames of `cc_data` out.
-use building::Made;
 use caption::Answer;
 use caption::Budgets;
 use caption::Cea608;
@@ -7,13 +6,14 @@ use caption::Counted;
 use caption::Framerate;
 use caption::Refusal;
 use caption::Truth;
-use frames::Frame;
 use packet::DTVCCPacket;
 use queues::slots_written;
-use sending::bytes_left;
-use sending::move_down;
 use slots::Slot;
-use turns::PairQueue;
+use writer_building::Made;
+use writer_frames::Frame;
+use writer_sending::bytes_left;
+use writer_sending::move_down;
+use writer_turns::PairQueue;
 ghost use mathlib.Core.Path.{_≡_};
 ghost use mathlib.Core.Bool.{true, false, cond, _&&_};
 ghost use Prim.Native.Nat.{_≤_};
@@ -88,7 +88,7 @@ impl CCDataWriter {
         let slot = self.sending;
         let field1 = self.field1;
         let field2 = self.field2;
-        building::build(
+        writer_building::build(
             self.output_cea608_padding,
             self.output_padding,
             pairs,

@@ -5,11 +5,11 @@ use Prim.Native.Nat.{_+_, _-_, _^_, _≤_, _<_}
 use native.Mathlib.Omega.{arith}
 use lib.ListN.{length, take, drop}
 use borrow.Author.Needs.{needs}
-use Rattle.streams.specs.Walk.{before, told}
+use Rattle.program_streams.specs.Walk.{before, told}
 use Rattle.ccread.specs.Walk.{mark, tell}
-use Rattle.records.proofs.Layings.{whole-taken}
-use Rattle.streams.proofs.Ends.{last-taken}
-use Rattle.streams.proofs.Stands.{record-within, stands-at-end, stands-behind}
+use Rattle.program_records.proofs.Layings.{whole-taken}
+use Rattle.program_streams.proofs.Ends.{last-taken}
+use Rattle.program_streams.proofs.Stands.{record-within, stands-at-end, stands-behind}
 use Rattle.ccread.proofs.drain.Statement.{statement}
 use Rattle.ccread.proofs.drain.Tie as tie
 

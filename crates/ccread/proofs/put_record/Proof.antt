@@ -7,15 +7,15 @@ use borrow.Author.Needs.{needs}
 use Rattle.parser.specs.Means.{Shaped}
 use Rattle.parser.proofs.Calls.{length-mapped}
 use Rattle.parser.specs.declared.CCDataParser.{CCDataParser}
-use Rattle.records.specs.Laid.{Laid, Whole}
-use Rattle.records.proofs.Layings.{laid-whole}
-use Rattle.report.specs.Report.{frameLines}
-use Rattle.report.proofs.Fits.{frame-fits}
+use Rattle.program_records.specs.Laid.{Laid, Whole}
+use Rattle.program_records.proofs.Layings.{laid-whole}
+use Rattle.ccread_report.specs.Report.{frameLines}
+use Rattle.ccread_report.proofs.Fits.{frame-fits}
 use Rattle.ccread.proofs.put_record.Statement.{statement}
 use Rattle.ccread.proofs.put_record.Tie as tie
 use Rattle.ccread.proofs.put_record.Reads as reads
 use Rattle.ccread.proofs.put_record.Lts as lts
-use Rattle.report.proofs.put_frame.Reads as put-frame-reads
+use Rattle.ccread_report.proofs.put_frame.Reads as put-frame-reads
 
 -- all lines are laid
 lines-whole : (r : ℕ) (f : List ℕ) {p : CCDataParser} {at t : ℕ} {out after : List ℕ} → r < 2 ^ 64 → Shaped p → at + 32768 ≤ length out

@@ -2,7 +2,7 @@
 use mathlib.Core.Path.{_≡_}
 use Prim.Native.Nat.{_-_}
 use native.Mathlib.Omega.{arith}
-use Rattle.streams.proofs.Pieces.{moved-kept}
+use Rattle.program_streams.proofs.Pieces.{moved-kept}
 use borrow.Author.Needs.{needs}
 use Rattle.ccscript.proofs.take_in.Statement.{statement}
 use Rattle.ccscript.proofs.take_in.Tie as tie

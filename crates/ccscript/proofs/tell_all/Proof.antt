@@ -4,9 +4,9 @@ use mathlib.Core.Bool.{cond}
 use Prim.Native.Nat.{suc, _-_}
 use lib.ListN.{length}
 use borrow.Author.Needs.{needs}
-use Rattle.streams.specs.Walk.{silent}
+use Rattle.program_streams.specs.Walk.{silent}
 use Rattle.ccscript.specs.Walk.{toTell, stillToTell}
-use Rattle.streams.proofs.Pieces.{left-falls, next-piece, last-piece}
+use Rattle.program_streams.proofs.Pieces.{left-falls, next-piece, last-piece}
 use Rattle.ccscript.proofs.tell_all.Statement.{statement}
 use Rattle.ccscript.proofs.tell_all.Tie as tie
 

@@ -1,4 +1,4 @@
--- `parser::oldest` meets its contract: an empty ring has its place tested, and any other is asked of `gather`. Assumes nothing.
+-- `parser::oldest` meets its contract: an empty ring has its place tested, and any other is asked of `parser_rings`. Assumes nothing.
 use Rattle.parser.proofs.Valids.{front-none, front-some}
 use borrow.Author.Needs.{needs}
 use Rattle.parser.proofs.oldest.Statement.{statement}

@@ -7,9 +7,9 @@ use native.Mathlib.Nat.{add-sub-cancel-left}
 use native.Mathlib.Omega.{arith}
 use denote.Ref.{now}
 use borrow.Author.Needs.{needs}
-use Rattle.headers.specs.declared.Head.the-variants.{Whole}
-use Rattle.headers.specs.Head.{headOf}
-use Rattle.headers.proofs.Heads.{Headed, headed}
+use Rattle.service_headers.specs.declared.Head.the-variants.{Whole}
+use Rattle.service_headers.specs.Head.{headOf}
+use Rattle.service_headers.proofs.Heads.{Headed, headed}
 use Rattle.service.proofs.Parts.{part-short, part-null, part-some}
 use Rattle.service.proofs.payload_of.Statement.{statement}
 use Rattle.service.proofs.payload_of.Tie as tie

@@ -1,5 +1,5 @@
 -- It is the reader with the plain rules. Assumes nothing.
-use Rattle.blocks.specs.Reading.{readAs}
+use Rattle.packet_blocks.specs.Reading.{readAs}
 use borrow.Author.Needs.{needs}
 use Rattle.packet.proofs.DTVCCPacket.parse.Statement.{statement}
 use Rattle.packet.proofs.DTVCCPacket.parse.Tie as tie

@@ -1,5 +1,5 @@
 -- It is the reader with the tidy rules. Assumes nothing.
-use Rattle.blocks.specs.Reading.{readAs}
+use Rattle.packet_blocks.specs.Reading.{readAs}
 use borrow.Author.Needs.{needs}
 use Rattle.packet.proofs.DTVCCPacket.parse_tidy.Statement.{statement}
 use Rattle.packet.proofs.DTVCCPacket.parse_tidy.Tie as tie

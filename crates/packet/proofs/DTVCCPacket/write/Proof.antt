@@ -1,5 +1,5 @@
 -- What is written of the three arrays is the packet as written. Assumes nothing.
-use Rattle.entries.specs.Fields.{validFields}
+use Rattle.packet_entries.specs.Fields.{validFields}
 use Rattle.packet.specs.Packet.{validDTVCC}
 use borrow.Author.Needs.{needs}
 use Rattle.packet.proofs.DTVCCPacket.write.Statement.{statement}

@@ -9,9 +9,9 @@ use lib.ListN.{take, drop, replicate}
 use lib.Seq.{sets}
 use denote.Ref.{now}
 use borrow.Author.Needs.{needs}
-use Rattle.headers.specs.declared.Head.the-variants.{Whole}
-use Rattle.headers.specs.Head.{headOf}
-use Rattle.headers.proofs.Heads.{Headed, headed}
+use Rattle.service_headers.specs.declared.Head.the-variants.{Whole}
+use Rattle.service_headers.specs.Head.{headOf}
+use Rattle.service_headers.proofs.Heads.{Headed, headed}
 use Rattle.service.proofs.Services.{refuses, gives, blank-places, parse-short, parse-null, parse-some, part-length, laid-as}
 use Rattle.service.proofs.Service.parse.Statement.{statement}
 use Rattle.service.proofs.Service.parse.Tie as tie

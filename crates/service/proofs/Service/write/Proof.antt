@@ -10,7 +10,7 @@ use borrow.Author.Tests.{not-true, not-false}
 use borrow.Author.Needs.{needs}
 use Rattle.service.specs.declared.Service.{Service}
 use Rattle.service.specs.Service.{validService}
-use Rattle.headers.proofs.Heads.{written-most}
+use Rattle.service_headers.proofs.Heads.{written-most}
 use Rattle.service.proofs.Services.{valid-len, write-invalid, write-short, write-fits}
 use Rattle.service.proofs.Service.write.Statement.{statement}
 use Rattle.service.proofs.Service.write.Tie as tie

@@ -10,7 +10,7 @@ use Rattle.writer.proofs.CCDataWriter.buffered_packet_duration.Reads as
 use Rattle.writer.proofs.CCDataWriter.buffered_packet_duration.Lts as lts
 use Rattle.writer.proofs.CCDataWriter.is_valid.Reads as is-valid-reads
 use Rattle.writer.proofs.bytes_duration.Reads as bytes-duration-reads
-use Rattle.sending.proofs.bytes_left.Reads as bytes-left-reads
+use Rattle.writer_sending.proofs.bytes_left.Reads as bytes-left-reads
 
 -- a state that passes the test is within its limits
 ok : (c : lts.Then1 (is-valid-reads.Asked, is-valid-reads.Learnt, bytes-left-reads.Asked, bytes-left-reads.Learnt, bytes-duration-reads.Asked, bytes-duration-reads.Learnt) reads.Pre reads.Post) → Ok (c .before .before .args .self)

@@ -1,0 +1,68 @@
+-- Each write at an accepted rate sends at least four packet triples, or all that remain. Assumes nothing.
+use mathlib.Core.Path.{_≡_, refl}
+use mathlib.Core.Bool.{Bool, true, false, cond}
+use mathlib.Core.List.{List, [], _∷_, _++_}
+use Prim.Native.Nat.{ℕ, _+_, _-_, _≤_, min}
+use native.Mathlib.Omega.{arith}
+use lib.ListN.{length}
+use Rattle.model.specs.Frame.{Triple, Seen, seenAll}
+use Rattle.model.specs.Rate.{Budgets}
+use Rattle.model.specs.Mux.{Mux, freshMux, Sent, turnsDue, turned, unsent, countDue, padding, framed, writeFrame}
+use Rattle.model.specs.Run.{Call, pushes, pushes608, pads, writes, call, run, Accepted}
+use Rattle.model_journey.specs.Bounds.{packetTriplesIn, SendsFour}
+use Rattle.model_journey.proofs.Parts.{In608, end6, one6, two6, void6, seen-append}
+use Rattle.model_journey.proofs.Padding.{padding-none}
+use Rattle.model_journey.proofs.Turns.{turns-seen, turns-count}
+use Rattle.model_journey.proofs.Sending.{numbers, sentBy, remains}
+use Rattle.model_journey.proofs.Triples.{Follow, stop, sent-only}
+use Rattle.model_journey.proofs.Count.{turns-most}
+use Rattle.model_journey.proofs.Calls.{quiet-608, quiet-push}
+
+-- a 608 part has no packet triple
+none-608 : {xs : List Seen} → In608 xs → (ys : List Seen) → packetTriplesIn (xs ++ ys) ≡ packetTriplesIn ys
+unfolding packetTriplesIn
+none-608 end6 ys = refl
+none-608 (one6 h) ys = none-608 h ys
+none-608 (two6 h) ys = none-608 h ys
+none-608 (void6 h) ys = none-608 h ys
+
+-- the triples budget leaves four places beside the turns
+room : (b : Bool) (t p u n x : ℕ) → p + 4 ≤ t → n ≤ p → x ≤ n → min 4 u ≤ min (cond b t (min t (n + u)) - x) u
+room true t p u n x h k l = omega arith
+room false t p u n x h k l = omega arith
+
+-- so four triples are sent, or all that remain
+pub sends-four : (b : Budgets) (s : Mux) → b .pairs + 4 ≤ b .triples → min 4 (unsent s) ≤ length (sentBy b s .out)
+unfolding countDue
+sends-four b s apart =
+    let n : ℕ = turnsDue (b .pairs) s in
+    let x : ℕ = length (turned n s .out) in
+    rw (numbers (countDue b s - x) (s .sending) (s .packets) .sent) (room (s .padOut) (b .triples) (b .pairs) (unsent s) n x apart (turns-most (b .pairs) s) (turns-count n s .most))
+
+-- the packet triples of a frame are those that are sent
+sent-in : (b : Budgets) (s : Mux) → Follow (s .sending) → packetTriplesIn (seenAll (writeFrame b s .frame .triples)) ≡ length (sentBy b s .out)
+unfolding writeFrame framed
+sent-in b s f =
+    let n : ℕ = turnsDue (b .pairs) s in
+    let m : ℕ = countDue b s - length (turned n s .out) in
+    let o : Sent = sentBy b s in
+    let pad : List Triple = padding (s .padOut) (m - length (o .out)) in
+    rw (seen-append (turned n s .out) (o .out ++ pad), none-608 (turns-seen n s) (seenAll (o .out ++ pad)), seen-append (o .out) pad)
+    (omega (arith, sent-only m f (s .packets) .number (seenAll pad), padding-none (s .padOut) (m - length (o .out))))
+
+-- a write in any state whose triples left go on with a packet
+pub four-at : (b : Budgets) (s : Mux) → b .pairs + 4 ≤ b .triples → Follow (s .sending) → SendsFour s (writeFrame b s)
+four-at b s apart f = record { four = omega (arith, sent-in b s f, sends-four b s apart); no-other = omega (arith, sent-in b s f, remains b s) }
+
+-- the triples left go on with a packet, whatever is called
+pub follow-run : (cs : List Call) (s : Mux) → Follow (s .sending) → Follow (run cs s .last .sending)
+unfolding run call writeFrame framed
+follow-run [] s f = f
+follow-run (pushes p ∷ cs) s f = follow-run cs (call (pushes p) s .last) (rw (quiet-push p s .sending) f)
+follow-run (pushes608 x ∷ cs) s f = follow-run cs (call (pushes608 x) s .last) (rw (quiet-608 x s .sending) f)
+follow-run (pads a b ∷ cs) s f = follow-run cs (call (pads a b) s .last) f
+follow-run (writes b ∷ cs) s f = follow-run cs (writeFrame b s .next) (sent-only _ f (s .packets) .follow)
+
+-- "each sends at least four packet triples or all that remain": after any calls on a fresh multiplexer
+pub four : (cs : List Call) (b : Budgets) → Accepted b → SendsFour (run cs freshMux .last) (writeFrame b (run cs freshMux .last))
+four cs b a = four-at b (run cs freshMux .last) (a .apart) (follow-run cs freshMux stop)

@@ -1,0 +1,131 @@
+-- The bytes that are left fall with each block; what is stored and what the call of itself stores join to what `Stored` says. Assumes nothing.
+use mathlib.Core.Path.{_≡_}
+use Prim.Native.Nat.{_+_, _-_, _≤_, ℕ, _<_}
+use native.Mathlib.Omega.{arith}
+use denote.Ref.{now}
+use lib.ListN.{length}
+use borrow.Author.Needs.{needs}
+use Rattle.packet_blocks.specs.Reading.{moveFor, soFar, KeepRoom}
+use Rattle.packet_blocks.proofs.Reading.{reach, stored-none, stored-short, stored-next, head-room, move-within, keep-room, room-next}
+use borrow.Fn.Kinds.{In}
+use borrow.Fn.PlainCycle.{Measures, is, falls, and}
+use Rattle.packet_blocks.proofs.read_blocks.Reads as read-blocks
+use Rattle.packet_blocks.proofs.read_blocks.Kinds as read-blocks-kinds
+use Rattle.packet_blocks.proofs.+read_blocks.Lts-read_blocks as read-blocks-lts
+use Rattle.packet_blocks.proofs.keep_block.Reads as keep-block-reads
+use Rattle.packet_blocks.proofs.moved.Reads as moved-reads
+use Rattle.service_headers.proofs.head_in.Reads as head-in-reads
+use Rattle.service_headers.proofs.short_of.Reads as short-of-reads
+use Rattle.packet_blocks.proofs.+read_blocks.{statement}
+use Rattle.packet_blocks.proofs.+read_blocks.Tie.{close}
+
+abbrev μ-read-blocks : Measures 4 read-blocks-kinds.ps ℕ
+μ-read-blocks κs a = a .1 .1 .0 - a .1 .0
+
+abbrev read-blocks-at : ℕ → In 4 read-blocks-kinds.ps
+read-blocks-at t =
+    and 4 read-blocks-kinds.ps (is 4 read-blocks-kinds.ps μ-read-blocks t) read-blocks.Pre
+
+abbrev read-blocks-below : ℕ → In 4 read-blocks-kinds.ps
+read-blocks-below t =
+    and 4 read-blocks-kinds.ps (falls 4 read-blocks-kinds.ps _<_ μ-read-blocks t) read-blocks.Pre
+
+-- what read-blocks's calls ask and tell
+abbrev read-blocks-claims : ℕ → read-blocks-lts.Claims
+read-blocks-claims t = (
+  head-in-reads.Asked,
+  head-in-reads.Learnt,
+  short-of-reads.Asked,
+  short-of-reads.Learnt,
+  keep-block-reads.Asked,
+  keep-block-reads.Learnt,
+  moved-reads.Asked,
+  moved-reads.Learnt,
+  read-blocks-below t,
+  read-blocks.Post,
+)
+
+-- what is known where a header was read whole
+abbrev Headed-at : ℕ → Type 0
+Headed-at t = read-blocks-lts.After-head (read-blocks-claims t) (read-blocks-at t) read-blocks.Post
+
+keeps : (t : ℕ) (c : Headed-at t) → (let s = c .before .before .before .before in KeepRoom (soFar (s .args .count) (s .args .used)) (s .args .at + c .head .given .0 .1 .0) (c .head .given .0 .1 .1 .0) (length (now (s .args .bytes))))
+keeps t c =
+    let s = c .before .before .before .before in
+    keep-room _ _ (s .pre .1 .1) (s .args .tidy) _ (c .before .before .before .if1 .left) _ (c .before .before .head-in .ensures) _ _ _ (c .head .given .1) _ (s .pre .1 .0)
+
+reaches : (t : ℕ) (c : Headed-at t) → (let s = c .before .before .before .before in s .args .at + c .head .given .0 .1 .0 + c .head .given .0 .1 .1 .0 ≤ s .args .end)
+reaches t c =
+    let s = c .before .before .before .before in
+    reach _ _ (s .pre .1 .1) (s .args .tidy) _ (c .before .before .before .if1 .left) _ (c .before .before .head-in .ensures) _ _ _ (c .head .given .1)
+
+within : (t : ℕ) (c : Headed-at t) (m : ℕ) → (let s = c .before .before .before .before in m ≡ moveFor (s .args .tidy) (c .head .given .0 .0) (c .head .given .0 .1 .0) (c .head .given .0 .1 .1 .0) → (s .args .at + m ≤ s .args .end) × (1 ≤ m))
+within t c m e =
+    let s = c .before .before .before .before in
+    move-within _ _ (s .pre .1 .1) (s .args .tidy) _ (c .before .before .before .if1 .left) _ (c .before .before .head-in .ensures) _ _ _ (c .head .given .1) m e
+
+read-blocks-returns : (t : ℕ) → read-blocks-lts.Need-returns (read-blocks-claims t) (read-blocks-at t) read-blocks.Post
+read-blocks-returns t c = search (needs, stored-none)
+
+read-blocks-head-in-requires : (t : ℕ) → read-blocks-lts.Need-head-in-requires (read-blocks-claims t) (read-blocks-at t) read-blocks.Post
+read-blocks-head-in-requires t c κs = search needs
+
+read-blocks-enum-known-head : (t : ℕ) → read-blocks-lts.Need-enum-known-head (read-blocks-claims t) (read-blocks-at t) read-blocks.Post
+read-blocks-enum-known-head t c = search needs
+
+read-blocks-enum-told : (t : ℕ) → read-blocks-lts.Need-enum-told (read-blocks-claims t) (read-blocks-at t) read-blocks.Post
+read-blocks-enum-told t c = search needs
+
+read-blocks-sub-short-of : (t : ℕ) → read-blocks-lts.Need-sub-short-of (read-blocks-claims t) (read-blocks-at t) read-blocks.Post
+read-blocks-sub-short-of t c = search needs
+
+read-blocks-short-of-requires : (t : ℕ) → read-blocks-lts.Need-short-of-requires (read-blocks-claims t) (read-blocks-at t) read-blocks.Post
+read-blocks-short-of-requires t c κs = search needs
+
+read-blocks-returns-2 : (t : ℕ) → read-blocks-lts.Need-returns-2 (read-blocks-claims t) (read-blocks-at t) read-blocks.Post
+read-blocks-returns-2 t c = search (needs, stored-short)
+
+read-blocks-add-keep-block : (t : ℕ) → read-blocks-lts.Need-add-keep-block (read-blocks-claims t) (read-blocks-at t) read-blocks.Post
+read-blocks-add-keep-block t c = omega (arith, reaches t (c .before), c .before .before .before .before .before .pre .1 .0 .short)
+
+read-blocks-keep-block-requires : (t : ℕ) → read-blocks-lts.Need-keep-block-requires (read-blocks-claims t) (read-blocks-at t) read-blocks.Post
+read-blocks-keep-block-requires t c κs = keeps t (c .before .before .before .before)
+
+read-blocks-moved-requires : (t : ℕ) → read-blocks-lts.Need-moved-requires (read-blocks-claims t) (read-blocks-at t) read-blocks.Post
+read-blocks-moved-requires t c κs = let h = c .before .before .before .before .before in head-room _ _ _ _ _ (h .before .before .head-in .ensures) (h .head .given .1)
+
+read-blocks-add-read-blocks : (t : ℕ) → read-blocks-lts.Need-add-read-blocks (read-blocks-claims t) (read-blocks-at t) read-blocks.Post
+read-blocks-add-read-blocks t c = omega (arith, within t (c .before .before .before .before .before .before) (c .moved .result) (c .moved .ensures) .0)
+
+read-blocks-read-blocks-requires : (t : ℕ) → read-blocks-lts.Need-read-blocks-requires (read-blocks-claims t) (read-blocks-at t) read-blocks.Post
+read-blocks-read-blocks-requires t c κs = let m = c .before .before .before in
+    let k = m .before in
+    let h = k .before .before .before .before .before in
+    let s = h .before .before .before .before in
+    let w = within t h (m .moved .result) (m .moved .ensures) in
+    (omega (arith, w .0, w .1), (room-next _ _ (s .pre .1 .1) (s .args .tidy) _ (h .before .before .before .if1 .left) _ (h .before .before .head-in .ensures) _ _ _ (h .head .given .1) _ (m .moved .ensures) _ _ (k .keep-block .ensures .0) (s .pre .1 .0), s .pre .1 .1))
+
+read-blocks-returns-3 : (t : ℕ) → read-blocks-lts.Need-returns-3 (read-blocks-claims t) (read-blocks-at t) read-blocks.Post
+read-blocks-returns-3 t c = let m = c .before .before .before .before in
+    let k = m .before in
+    let h = k .before .before .before .before .before in
+    let s = h .before .before .before .before in
+    stored-next _ _ (s .pre .1 .1) (s .args .tidy) _ (h .before .before .before .if1 .left) _ (h .before .before .head-in .ensures) _ _ _ (h .head .given .1) _ (m .moved .ensures) _ _ (k .keep-block .ensures .0) _ _ _ _ _ _ _ _ _ _ (k .keep-block .ensures .1) (c .read-blocks .ensures)
+
+pub +read-blocks-spec : {M : Type 1} → statement M
++read-blocks-spec = close μ-read-blocks λ t. read-blocks-lts.spec (read-blocks-claims t)
+    (read-blocks-at t)
+    read-blocks.Post
+    (read-blocks-returns t)
+    (read-blocks-head-in-requires t)
+    (read-blocks-enum-known-head t)
+    (read-blocks-enum-told t)
+    (read-blocks-sub-short-of t)
+    (read-blocks-short-of-requires t)
+    (read-blocks-returns-2 t)
+    (read-blocks-add-keep-block t)
+    (read-blocks-keep-block-requires t)
+    (read-blocks-moved-requires t)
+    (read-blocks-add-read-blocks t)
+    (read-blocks-read-blocks-requires t)
+    (read-blocks-returns-3 t)

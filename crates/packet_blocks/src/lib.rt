@@ -1,0 +1,315 @@
+// The blocks of a packet read from bytes into its places.
+ghost use mathlib.Core.Path.{_≡_};
+ghost use mathlib.Core.Bool.{false};
+ghost use Prim.Native.Nat.{_+_, _≤_};
+ghost use lib.ListN.{length, take, drop};
+ghost use lib.Seq.{sets};
+ghost use Rattle.caption.specs.Answers.{saidRefusal};
+ghost use Rattle.model.specs.Said.{refused, isGiven, mapped, lengthMismatch};
+ghost use Rattle.model.specs.Packet.{packetSize, plainMove, blocksFrom};
+ghost use Rattle.model.specs.Packet as model;
+ghost use Rattle.packet_blocks.specs.Reading.{moveBy, moveFor, wrongLength, readAs, keptFor, behind, soFar, packetWith, Laid, Stored, Read, Room, KeepRoom};
+use caption::Answer;
+use caption::Counted;
+use caption::Refusal;
+use service_headers::Head;
+
+// The most bytes of a packet.
+const MOST_PACKET: usize = 128;
+
+// How far the plain reader moves past a null header, whatever its size.
+const NULL_MOVE: usize = 1;
+
+// An answer to reading, and the places of the packet beside it: zeros where it refuses.
+pub struct Filled {
+    pub answer: Answer,
+    pub seq_no: u8,
+    pub count: usize,
+    pub numbers: [u8; 63],
+    pub sizes: [u8; 63],
+    pub payload: [u8; 127],
+}
+
+// How many bytes a packet whose first byte is `h` has in all.
+pub fn packet_size(h: u8) -> usize
+    ensures { λ r. ⌜ r ≡ packetSize h ⌝ }
+{
+    let n = (h % 64) as usize;
+    if n == 0 {
+        return 128;
+    }
+    2 * n
+}
+
+// How far a reader moves on past a block whose header says this.
+fn moved(tidy: bool, number: u8, start: usize, size: usize) -> usize
+    requires { ⌜ (start ≤ 2) × (size ≤ 31) ⌝ }
+    ensures { λ r. ⌜ r ≡ moveFor tidy number start size ⌝ }
+{
+    if tidy {
+        return start + size;
+    }
+    if number == 0 {
+        return NULL_MOVE;
+    }
+    if size == 0 {
+        return 1;
+    }
+    if number < 7 {
+        return 1 + size;
+    }
+    2 + size
+}
+
+// Whether the blocks of the first `end` bytes, from `at` on, read plainly.
+fn reads_from(bytes: &[u8; 128], at: usize, end: usize) -> bool
+    requires { ⌜ end ≤ length (now bytes) ⌝ }
+    ensures { λ r. ⌜ r ≡ isGiven (blocksFrom plainMove 0 (drop at (take end (now (bytes .entry))))) ⌝ }
+{
+    if end <= at {
+        return true;
+    }
+    let Head::Whole {
+        number,
+        start,
+        size,
+    } = service_headers::head_in(bytes, at, end)
+    else {
+        return false;
+    };
+    reads_from(bytes, at + moved(false, number, start, size), end)
+}
+
+// How many of the first `len` bytes there are.
+fn held(bytes: &[u8; 128], len: usize) -> usize
+    ensures { λ r. ⌜ r ≡ length (take len (now (bytes .entry))) ⌝ }
+{
+    let all = &bytes[..];
+    service_headers::lesser(len, all.len())
+}
+
+// Whether the first `len` bytes read as a packet; at most 128 are there.
+pub fn reads_in(bytes: &[u8; 128], len: usize) -> bool
+    ensures { λ r. ⌜ r ≡ model.reads (take len (now (bytes .entry))) ⌝ }
+{
+    let n = held(bytes, len);
+    if n == 0 {
+        return false;
+    }
+    if packet_size(bytes[0]) < n {
+        return false;
+    }
+    reads_from(bytes, 1, n)
+}
+
+// How many blocks are stored, and how many bytes of payload they have.
+pub struct Kept {
+    pub count: usize,
+    pub used: usize,
+}
+
+// Lays bytes into a payload, from `at` on, four in a turn while four are left: most payloads are too short for a longer turn. Answers how many
+// it laid.
+fn put_fours(payload: &mut [u8; 127], at: usize, part: &[u8]) -> usize
+    requires { ⌜ at + length (now part) ≤ 127 ⌝ }
+    ensures { λ r. ⌜ (r ≤ length (now (part .entry))) × (now (payload .exit) ≡ sets (now (payload .entry)) at (take r (now (part .entry)))) ⌝ }
+{
+    let n = part.len();
+    let mut i = 0;
+    while i + 4 <= n {
+        let a = part[i];
+        let b = part[i + 1];
+        let c = part[i + 2];
+        let d = part[i + 3];
+        payload[at + i] = a;
+        payload[at + i + 1] = b;
+        payload[at + i + 2] = c;
+        payload[at + i + 3] = d;
+        i += 4;
+    }
+    i
+}
+
+// Lays bytes into a payload, from `at` on.
+fn put_payload(payload: &mut [u8; 127], at: usize, part: &[u8])
+    requires { ⌜ at + length (now part) ≤ 127 ⌝ }
+    ensures { λ _. ⌜ now (payload .exit) ≡ sets (now (payload .entry)) at (now (part .entry)) ⌝ }
+{
+    let n = put_fours(payload, at, part);
+    service_headers::put_bytes(payload, at + n, &part[n..]);
+}
+
+// Stores a block that has a payload, as block `count` with its payload from `used` on.
+fn keep_block(
+    bytes: &[u8; 128],
+    from: usize,
+    number: u8,
+    size: usize,
+    at: Kept,
+    numbers: &mut [u8; 63],
+    sizes: &mut [u8; 63],
+    payload: &mut [u8; 127],
+) -> Kept
+    requires { ⌜ KeepRoom at from size (length (now bytes)) ⌝ }
+    ensures { λ r. ⌜ (r ≡ behind (keptFor number (take size (drop from (now (bytes .entry))))) at) × Laid (keptFor number (take size (drop from (now (bytes .entry))))) at (now (numbers .entry)) (now (sizes .entry)) (now (payload .entry)) (now (numbers .exit)) (now (sizes .exit)) (now (payload .exit)) ⌝ }
+{
+    let count = at.count;
+    let used = at.used;
+    if number == 0 {
+        return at;
+    }
+    if size == 0 {
+        return at;
+    }
+    let all = &bytes[..];
+    let end = from + size;
+    numbers[count] = number;
+    sizes[count] = size as u8;
+    put_payload(payload, used, &all[from..end]);
+    Kept {
+        count: count + 1,
+        used: used + size,
+    }
+}
+
+// Reads the blocks of the first `end` bytes, from `at` on, into the arrays; answers how many blocks there then are.
+fn read_blocks(
+    bytes: &[u8; 128],
+    at: usize,
+    end: usize,
+    tidy: bool,
+    count: usize,
+    used: usize,
+    numbers: &mut [u8; 63],
+    sizes: &mut [u8; 63],
+    payload: &mut [u8; 127],
+) -> Counted
+    requires { ⌜ Room (soFar count used) at end × (end ≤ length (now bytes)) ⌝ }
+    ensures { λ r. ⌜ Stored (blocksFrom (moveBy tidy) 0 (drop at (take end (now (bytes .entry))))) (soFar count used) r (now (numbers .entry)) (now (sizes .entry)) (now (payload .entry)) (now (numbers .exit)) (now (sizes .exit)) (now (payload .exit)) ⌝ }
+{
+    if end <= at {
+        return Counted::Count(count);
+    }
+    let head = service_headers::head_in(bytes, at, end);
+    let Head::Whole {
+        number,
+        start,
+        size,
+    } = head
+    else {
+        let why = service_headers::short_of(head, end - at);
+        return Counted::Refused(why);
+    };
+    let next = keep_block(
+        bytes,
+        at + start,
+        number,
+        size,
+        Kept { count, used },
+        numbers,
+        sizes,
+        payload,
+    );
+    read_blocks(
+        bytes,
+        at + moved(tidy, number, start, size),
+        end,
+        tidy,
+        next.count,
+        next.used,
+        numbers,
+        sizes,
+        payload,
+    )
+}
+
+// Whether a reader refuses `actual` bytes where the header says `size`.
+fn wrong_length(tidy: bool, size: usize, actual: usize) -> bool
+    ensures { λ r. ⌜ r ≡ wrongLength tidy size actual ⌝ }
+{
+    if tidy {
+        return size != actual;
+    }
+    size < actual
+}
+
+// Why data of this length is refused.
+fn mismatch(expected: usize, actual: usize) -> Refusal
+    ensures { λ r. ⌜ saidRefusal r ≡ lengthMismatch expected actual ⌝ }
+{
+    Refusal::LengthMismatch { expected, actual }
+}
+
+// A refusal of reading, beside zeros.
+fn unread(why: Refusal) -> Filled
+    ensures { λ r. ⌜ Read (refused (saidRefusal why)) r ⌝ }
+{
+    Filled {
+        answer: Answer::Refused(why),
+        seq_no: 0,
+        count: 0,
+        numbers: [0u8; 63],
+        sizes: [0u8; 63],
+        payload: [0u8; 127],
+    }
+}
+
+// Reads the packet that the first `end` bytes are, whose length is not wrong.
+fn fill(bytes: &[u8; 128], end: usize, tidy: bool) -> Filled
+    requires { ⌜ Room (soFar 0 0) 1 end × (end ≤ length (now bytes)) ⌝ }
+    ensures { λ r. ⌜ Read (mapped (packetWith (now (bytes .entry))) (blocksFrom (moveBy tidy) 0 (drop 1 (take end (now (bytes .entry)))))) r ⌝ }
+{
+    let mut numbers = [0u8; 63];
+    let mut sizes = [0u8; 63];
+    let mut payload = [0u8; 127];
+    let r = read_blocks(
+        bytes,
+        1,
+        end,
+        tidy,
+        0,
+        0,
+        &mut numbers,
+        &mut sizes,
+        &mut payload,
+    );
+    match r {
+        Counted::Refused(why) => unread(why),
+        Counted::Count(count) => Filled {
+            answer: Answer::Accepted,
+            seq_no: bytes[0] / 64 % 4,
+            count,
+            numbers,
+            sizes,
+            payload,
+        },
+    }
+}
+
+// Reads the packet that the first `len` bytes are, plainly or tidily; at most 128 bytes are there.
+pub fn read_in(bytes: &[u8; 128], len: usize, tidy: bool) -> Filled
+    ensures { λ r. ⌜ Read (readAs tidy (take len (now (bytes .entry)))) r ⌝ }
+{
+    let n = held(bytes, len);
+    if n == 0 {
+        return unread(mismatch(1, 0));
+    }
+    let size = packet_size(bytes[0]);
+    if wrong_length(tidy, size, n) {
+        return unread(mismatch(size, n));
+    }
+    fill(bytes, n, tidy)
+}
+
+// Reads the packet that bytes are, as `read_in` does.
+pub fn read(data: &[u8], tidy: bool) -> Filled
+    ensures { λ r. ⌜ Read (readAs tidy (now («data» .entry))) r ⌝ }
+{
+    let n = data.len();
+    if MOST_PACKET < n {
+        return unread(mismatch(packet_size(data[0]), n));
+    }
+    let mut bytes = [0u8; 128];
+    service_headers::put_bytes(&mut bytes, 0, data);
+    read_in(&bytes, n, tidy)
+}

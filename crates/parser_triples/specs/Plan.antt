@@ -1,0 +1,43 @@
+-- What is to be done with a frame: document 01, "Reading frames". No public contract of `parser` reaches this file. Assumes nothing.
+use mathlib.Core.List.{List}
+use mathlib.Core.Bool.{Bool, true, false, cond}
+use mathlib.Core.Option.{Option, none, some}
+use Prim.Native.Nat.{ℕ, _+_, _*_}
+use lib.ListN.{length, getD}
+use lib.Dec.{eqb}
+use Rattle.caption.specs.declared.Answer.{Answer}
+use Rattle.caption.specs.declared.Answer.the-variants.{Accepted, Refused}
+use Rattle.caption.specs.declared.Refusal.the-variants.{LengthMismatch, Cea608AfterCea708}
+use Rattle.model.specs.Frame.{countIn}
+use Rattle.model.specs.Demux.{unread, lateFrom, carries708}
+use Rattle.parser_triples.specs.Walk.{seenFrom}
+use Rattle.parser_triples.specs.declared.Head.{Head}
+use Rattle.parser_triples.specs.declared.Head.the-variants.{Unread, Mismatch, Walk}
+use Rattle.parser_triples.specs.declared.Plan.{Plan}
+
+-- what the first byte and the length say: nothing is read, or "length other than 3n+2 is refused with 1, *expected 3n+1*", or there are triples
+unfoldable pub headOf : List ℕ → Head
+headOf f =
+    let n = countIn (getD f 0 0) in
+    cond (unread f) Unread (cond (eqb (length f) (3 * n + 2)) Walk (Mismatch (3 * n + 1) (length f)))
+
+-- an answer, whether pairs are listed, and whether bytes are gathered
+abbrev pub plan : Answer → Bool → Bool → Plan
+plan a lists gathers = record { answer = a; lists = lists; gathers = gathers }
+
+-- "one refused with 2 leaves in it the pairs before the offending triple"; "With no valid type 2 or 3 triple, pending bytes are kept."
+abbrev pub planFound : Option ℕ → Bool → Plan
+planFound (some at) carries = plan (Refused (Cea608AfterCea708 at)) true false
+planFound none carries = plan Accepted true carries
+
+-- a frame with triples
+abbrev pub planWalked : List ℕ → Plan
+planWalked f = planFound (lateFrom 0 (seenFrom 0 f)) (carries708 (seenFrom 0 f))
+
+-- "In this order: the pair list is emptied; under 5 bytes, flag 0x40 clear, or count (low five bits) 0 is accepted with nothing further done;
+-- length other than 3n+2 is refused with 1, *expected 3n+1*."
+unfoldable pub planOf : List ℕ → Plan
+planOf f =
+    let n = countIn (getD f 0 0) in
+    cond (unread f) (plan Accepted false false)
+    (cond (eqb (length f) (3 * n + 2)) (planWalked f) (plan (Refused (LengthMismatch (3 * n + 1) (length f))) false false))

@@ -1,0 +1,45 @@
+-- The search for a late 608 triple and for a valid 708 triple. No public contract of `parser` reaches this file. Assumes nothing.
+use mathlib.Core.List.{List}
+use mathlib.Core.Bool.{Bool, cond}
+use Prim.Native.Nat.{ℕ, _*_}
+use Rattle.model.specs.Frame.{Seen, first, second, start, more, void608, void708}
+use Rattle.parser_triples.specs.Walk.{over, seenFrom}
+use Rattle.parser_triples.specs.declared.Scan.{Scan}
+use Rattle.parser_triples.specs.declared.Scan.the-variants.{Only608, Ended, Carries, Late}
+
+-- "A type 2 or 3 triple, valid or not, ends the 608 part": a triple within it
+abbrev pub scanFirst : Seen → Scan
+scanFirst (first a b) = Only608
+scanFirst (second a b) = Only608
+scanFirst void608 = Only608
+scanFirst void708 = Ended
+scanFirst (start a b) = Carries
+scanFirst (more a b) = Carries
+
+-- "a valid type 0 or 1 after it is refused with 2": a triple after it
+abbrev pub scanAfter : Scan → ℕ → Seen → Scan
+scanAfter s at (first a b) = Late at
+scanAfter s at (second a b) = Late at
+scanAfter s at void608 = s
+scanAfter s at void708 = s
+scanAfter s at (start a b) = Carries
+scanAfter s at (more a b) = Carries
+
+-- a triple by what the search has come to; the first late one stays
+abbrev pub scanAt : Scan → ℕ → Seen → Scan
+scanAt Only608 at t = scanFirst t
+scanAt Ended at t = scanAfter Ended at t
+scanAt Carries at t = scanAfter Carries at t
+scanAt (Late i) at t = Late i
+
+-- "at 3 times its index": the triple with index i
+unfoldable pub scanTurn : Scan → ℕ → Seen → Scan
+scanTurn s i t = scanAt s (3 * i) t
+
+-- after the 608 part: there was a "valid type 2 or 3 triple", or none yet
+abbrev pub found : Bool → Scan
+found carries = cond carries Carries Ended
+
+-- the search over a frame
+abbrev pub scanned : List ℕ → Scan
+scanned f = over scanTurn Only608 0 (seenFrom 0 f)

@@ -1,0 +1,69 @@
+-- What an answer says, laid. Assumes nothing.
+use mathlib.Core.Path.{_≡_, sym, ap, _∙_}
+use mathlib.Core.List.{List, [], _∷_, _++_, append-nil}
+use Prim.Native.Nat.{ℕ, _≤_}
+use native.Mathlib.Omega.{arith}
+use lib.Seq.{take-all}
+use borrow.Author.Tests.{eq-eqb, ne-eqb}
+use Rattle.model.specs.Said.{Said}
+use Rattle.program_lines.specs.declared.Told.{Told}
+use Rattle.program_lines.specs.Telling.{saidBy}
+use Rattle.program_records.specs.Laid.{Laid}
+use Rattle.program_records.specs.Text.{word, decimal}
+use Rattle.program_lines.specs.Lines.{valueText, valuesText, answerText, frameLine}
+use Rattle.program_records.proofs.Layings.{laid-append}
+
+-- an answer that is known says what its row of the table says
+pub told-as : {A : Type 0} (said : A → Said) (t : Told) (x row : A) → x ≡ row → saidBy t ≡ said row → saidBy t ≡ said x
+told-as said t x row e s = s ∙ sym (ap said e)
+
+-- one value, and two
+values-one : (v : ℕ) → valuesText (v ∷ []) ≡ valueText v
+unfolding valuesText
+values-one v = append-nil (valueText v)
+
+values-two : (v w : ℕ) → valuesText (v ∷ w ∷ []) ≡ valueText v ++ valueText w
+unfolding valuesText
+values-two v w = rw append-nil
+
+-- the values, by how many there are
+module _ (t : Told) {out after : List ℕ} {at r : ℕ} where
+  pub no-values : t .count ≡ 0 → Laid [] out at r after → Laid (valuesText (saidBy t .values)) out at r after
+  unfolding valuesText
+  no-values z w = rw z w
+
+  pub one-value : t .count ≡ 1 → Laid (valueText (t .first)) out at r after → Laid (valuesText (saidBy t .values)) out at r after
+  one-value z w = rw (z, values-one) w
+
+  pub two-values : {mid : List ℕ} {p : ℕ} → (t .count ≡ 0 → ⊥) → (t .count ≡ 1 → ⊥) → Laid (valueText (t .first)) out at p mid
+      → Laid (valueText (t .second)) mid p r after → Laid (valuesText (saidBy t .values)) out at r after
+  two-values x y f s =
+      let two : 2 ≤ t .count = omega arith in rw (take-all (t .count) (t .first ∷ t .second ∷ []) two, values-two) (laid-append f s)
+
+-- an answer: accepted, and refused
+module _ (t : Told) {out mid after : List ℕ} {at p r : ℕ} where
+  pub told-ok : t .number ≡ 0 → Laid (word "ok") out at p mid → Laid (valuesText (saidBy t .values)) mid p r after
+      → Laid (answerText (saidBy t)) out at r after
+  unfolding answerText
+  told-ok e f v = rw (eq-eqb _ _ e) (laid-append f v)
+
+  pub told-refused : (t .number ≡ 0 → ⊥) → Laid (word "refused " ++ decimal (t .number)) out at p mid
+      → Laid (valuesText (saidBy t .values)) mid p r after → Laid (answerText (saidBy t)) out at r after
+  unfolding answerText
+  told-refused e f v = rw (ne-eqb _ _ e) (laid-append f v)
+
+-- what is told of an answer is the answer's
+pub laid-told : {out after : List ℕ} {at r : ℕ} (t : Told) (s : Said) → saidBy t ≡ s → Laid (answerText (saidBy t)) out at r after
+    → Laid (answerText s) out at r after
+laid-told t s e w = rw e at w
+
+-- the line of a frame
+module _ (t : Told) (s : Said) (e : saidBy t ≡ s) (n : ℕ) {out mid after : List ℕ} {at p r : ℕ} where
+  pub frame-ok : t .number ≡ 0 → Laid (word "frame " ++ decimal n) out at p mid → Laid (word " ok\n") mid p r after → Laid (frameLine n s) out at r after
+  unfolding frameLine
+  frame-ok z f k = rw (← e, eq-eqb _ _ z) (laid-append f k)
+
+  pub frame-refused : {mid′ : List ℕ} {q : ℕ} → (t .number ≡ 0 → ⊥) → Laid (word "frame " ++ decimal n) out at p mid
+      → Laid (word " refused " ++ decimal (t .number)) mid p q mid′ → Laid (word "\n") mid′ q r after → Laid (frameLine n s) out at r after
+  unfolding frameLine
+  frame-refused z f k l = rw (← e, ne-eqb _ _ z) (laid-append f (laid-append k l))

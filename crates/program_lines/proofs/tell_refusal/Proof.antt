@@ -1,0 +1,143 @@
+-- Each arm tells what its row of the table says. Assumes nothing.
+use Rattle.caption.specs.Answers.{saidRefusal}
+use Rattle.program_lines.proofs.Tellings.{told-as}
+use borrow.Author.Needs.{needs}
+use Rattle.program_lines.proofs.tell_refusal.Statement.{statement}
+use Rattle.program_lines.proofs.tell_refusal.Tie as tie
+
+enum-known-why : tie.Need-enum-known-why
+enum-known-why c = search needs
+
+telling-requires : tie.Need-telling-requires
+telling-requires c κs = search needs
+
+enum-known-why-2 : tie.Need-enum-known-why-2
+enum-known-why-2 c = search needs
+
+with-value-requires : tie.Need-with-value-requires
+with-value-requires c κs = search needs
+
+enum-known-why-3 : tie.Need-enum-known-why-3
+enum-known-why-3 c = search needs
+
+with-value-requires-2 : tie.Need-with-value-requires-2
+with-value-requires-2 c κs = search needs
+
+enum-told : tie.Need-enum-told
+enum-told c = search needs
+
+bare-requires : tie.Need-bare-requires
+bare-requires c κs = search needs
+
+enum-told-2 : tie.Need-enum-told-2
+enum-told-2 c = search needs
+
+bare-requires-2 : tie.Need-bare-requires-2
+bare-requires-2 c κs = search needs
+
+enum-told-3 : tie.Need-enum-told-3
+enum-told-3 c = search needs
+
+bare-requires-3 : tie.Need-bare-requires-3
+bare-requires-3 c κs = search needs
+
+enum-told-4 : tie.Need-enum-told-4
+enum-told-4 c = search needs
+
+bare-requires-4 : tie.Need-bare-requires-4
+bare-requires-4 c κs = search needs
+
+enum-told-5 : tie.Need-enum-told-5
+enum-told-5 c = search needs
+
+bare-requires-5 : tie.Need-bare-requires-5
+bare-requires-5 c κs = search needs
+
+enum-known-why-4 : tie.Need-enum-known-why-4
+enum-known-why-4 c = search needs
+
+with-value-requires-3 : tie.Need-with-value-requires-3
+with-value-requires-3 c κs = search needs
+
+enum-told-6 : tie.Need-enum-told-6
+enum-told-6 c = search needs
+
+bare-requires-6 : tie.Need-bare-requires-6
+bare-requires-6 c κs = search needs
+
+enum-told-7 : tie.Need-enum-told-7
+enum-told-7 c = search needs
+
+bare-requires-7 : tie.Need-bare-requires-7
+bare-requires-7 c κs = search needs
+
+returns : tie.Need-returns
+returns c = search (needs, told-as saidRefusal)
+
+returns-2 : tie.Need-returns-2
+returns-2 c = search (needs, told-as saidRefusal)
+
+returns-3 : tie.Need-returns-3
+returns-3 c = search (needs, told-as saidRefusal)
+
+returns-4 : tie.Need-returns-4
+returns-4 c = search (needs, told-as saidRefusal)
+
+returns-5 : tie.Need-returns-5
+returns-5 c = search (needs, told-as saidRefusal)
+
+returns-6 : tie.Need-returns-6
+returns-6 c = search (needs, told-as saidRefusal)
+
+returns-7 : tie.Need-returns-7
+returns-7 c = search (needs, told-as saidRefusal)
+
+returns-8 : tie.Need-returns-8
+returns-8 c = search (needs, told-as saidRefusal)
+
+returns-9 : tie.Need-returns-9
+returns-9 c = search (needs, told-as saidRefusal)
+
+returns-10 : tie.Need-returns-10
+returns-10 c = search (needs, told-as saidRefusal)
+
+returns-11 : tie.Need-returns-11
+returns-11 c = search (needs, told-as saidRefusal)
+
+pub tell-refusal-spec : {M : Type 1} → statement M
+tell-refusal-spec =
+    tie.close
+    (tie.spec
+    enum-known-why
+    telling-requires
+    enum-known-why-2
+    with-value-requires
+    enum-known-why-3
+    with-value-requires-2
+    enum-told
+    bare-requires
+    enum-told-2
+    bare-requires-2
+    enum-told-3
+    bare-requires-3
+    enum-told-4
+    bare-requires-4
+    enum-told-5
+    bare-requires-5
+    enum-known-why-4
+    with-value-requires-3
+    enum-told-6
+    bare-requires-6
+    enum-told-7
+    bare-requires-7
+    returns
+    returns-2
+    returns-3
+    returns-4
+    returns-5
+    returns-6
+    returns-7
+    returns-8
+    returns-9
+    returns-10
+    returns-11)

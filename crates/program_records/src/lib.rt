@@ -1,0 +1,241 @@
+// Records out of a buffer, and text into one.
+//
+// Text is laid into a lent buffer from a place on, as far as there is room, and each function that lays some answers the place behind it.
+ghost use mathlib.Core.Path.{_≡_};
+ghost use mathlib.Core.List.{[], _∷_};
+ghost use Prim.Native.Nat.{_≤_, _<_};
+ghost use lib.ListN.{length, getD, take, drop};
+ghost use Rattle.program_records.specs.Reading.{canBe, foundIn, missing, highestFirst};
+ghost use Rattle.program_records.specs.Laid.{Laid, Moved, between};
+ghost use Rattle.program_records.specs.Text.{word, digit, hexByte, hex, decimal};
+
+// What stands in a buffer from a place on.
+pub enum Found {
+    // A whole record: its `len` bytes begin at `start`, and the next record at `next`.
+    Record {
+        start: usize,
+        len: usize,
+        next: usize,
+    },
+    // No whole record, and nothing wrong as far as the bytes go; the input goes on.
+    More,
+    // No record: the bytes that are there cannot be the mark.
+    WrongMark,
+    // A record of which bytes are missing, at the input's end.
+    Short,
+    // Nothing, at the input's end.
+    End,
+}
+
+// The digits of a number: those of `bytes` from `from` on.
+struct Digits {
+    bytes: [u8; 20],
+    from: usize,
+}
+
+// Whether the bytes from `at` on, as far as they go, are the mark `first`, `second`.
+fn can_be_mark(bytes: &[u8], at: usize, first: u8, second: u8) -> bool
+    ensures { λ r. ⌜ r ≡ canBe (first ∷ second ∷ []) (drop at (now (bytes .entry))) ⌝ }
+{
+    let n = bytes.len();
+    if n <= at {
+        return true;
+    }
+    if bytes[at] != first {
+        return false;
+    }
+    if n - at == 1 {
+        return true;
+    }
+    bytes[at + 1] == second
+}
+
+// What is found where a record is begun and bytes of it are missing.
+fn unfinished(ended: bool) -> Found
+    ensures { λ r. ⌜ r ≡ missing ended Found.Short ⌝ }
+{
+    if ended {
+        return Found::Short;
+    }
+    Found::More
+}
+
+// What stands in `bytes` from `at` on, where a record's mark is `first`, `second`; `ended` says that no more bytes follow these.
+pub fn next_record(bytes: &[u8], at: usize, ended: bool, first: u8, second: u8) -> Found
+    ensures { λ r. ⌜ r ≡ foundIn (first ∷ second ∷ []) ended at (drop at (now (bytes .entry))) ⌝ }
+{
+    let n = bytes.len();
+    if n <= at {
+        if ended {
+            return Found::End;
+        }
+        return Found::More;
+    }
+    if can_be_mark(bytes, at, first, second) {
+        let left = n - at;
+        if left < 3 {
+            return unfinished(ended);
+        }
+        let len = bytes[at + 2] as usize;
+        if left < 3 + len {
+            return unfinished(ended);
+        }
+        return Found::Record {
+            start: at + 3,
+            len,
+            next: at + (3 + len),
+        };
+    }
+    Found::WrongMark
+}
+
+// The `len` bytes from `start` on, as far as they are there.
+pub fn part(bytes: &[u8], start: usize, len: usize) -> &[u8]
+    ensures { λ r. ⌜ now r ≡ take len (drop start (now (bytes .entry))) ⌝ }
+{
+    let n = bytes.len();
+    if n <= start {
+        return &bytes[0..0];
+    }
+    if n - start < len {
+        return &bytes[start..n];
+    }
+    let end = start + len;
+    &bytes[start..end]
+}
+
+// The byte at `at`, 0 past the end.
+pub fn byte_at(bytes: &[u8], at: usize) -> u8
+    ensures { λ r. ⌜ r ≡ getD (now (bytes .entry)) at 0 ⌝ }
+{
+    if at < bytes.len() {
+        return bytes[at];
+    }
+    0
+}
+
+// The number that the four bytes from `at` on make, the highest first; bytes past the end count as 0.
+pub fn number_at(bytes: &[u8], at: usize) -> u32
+    ensures { λ r. ⌜ r ≡ highestFirst (drop at (now (bytes .entry))) ⌝ }
+{
+    let four = part(bytes, at, 4);
+    let high = byte_at(four, 0) as u32 * 256 + byte_at(four, 1) as u32;
+    let low = byte_at(four, 2) as u32 * 256 + byte_at(four, 3) as u32;
+    high * 65536 + low
+}
+
+// Moves the bytes from `from` to `to`, as far as they are there, to the front; answers how many they are.
+pub fn move_to_front(bytes: &mut [u8], from: usize, to: usize) -> usize
+    ensures { λ r. ⌜ Moved (between from to (now (bytes .entry))) (now (bytes .entry)) r (now (bytes .exit)) ⌝ }
+{
+    let end = service_headers::lesser(to, bytes.len());
+    let mut i = from;
+    let mut o = 0;
+    while i < end {
+        bytes[o] = bytes[i];
+        o += 1;
+        i += 1;
+    }
+    o
+}
+
+// One byte.
+pub fn put_byte(out: &mut [u8], at: usize, byte: u8) -> usize
+    ensures { λ r. ⌜ Laid (byte ∷ []) (now (out .entry)) at r (now (out .exit)) ⌝ }
+{
+    let n = out.len();
+    if n <= at {
+        return n;
+    }
+    out[at] = byte;
+    at + 1
+}
+
+// A line's end.
+pub fn put_newline(out: &mut [u8], at: usize) -> usize
+    ensures { λ r. ⌜ Laid (word "\n") (now (out .entry)) at r (now (out .exit)) ⌝ }
+{
+    put_byte(out, at, b'\n')
+}
+
+// A word: its bytes.
+pub fn put_word(out: &mut [u8], at: usize, word: &[u8]) -> usize
+    ensures { λ r. ⌜ Laid (now (word .entry)) (now (out .entry)) at r (now (out .exit)) ⌝ }
+{
+    service_headers::put_bytes(out, at, word);
+    let n = out.len();
+    if n <= at {
+        return n;
+    }
+    at + service_headers::lesser(n - at, word.len())
+}
+
+// The digit of a number below 16.
+fn digit_of(d: u8) -> u8
+    requires { ⌜ d < 16 ⌝ }
+    ensures { λ r. ⌜ r ≡ digit d ⌝ }
+{
+    if d < 10 { 48 + d } else { 55 + d }
+}
+
+// A byte as two digits.
+pub fn put_hex_byte(out: &mut [u8], at: usize, byte: u8) -> usize
+    ensures { λ r. ⌜ Laid (hexByte byte) (now (out .entry)) at r (now (out .exit)) ⌝ }
+{
+    let low = put_byte(out, at, digit_of(byte / 16));
+    put_byte(out, low, digit_of(byte % 16))
+}
+
+// Bytes, each as two digits.
+pub fn put_hex(out: &mut [u8], at: usize, bytes: &[u8]) -> usize
+    ensures { λ r. ⌜ Laid (hex (now (bytes .entry))) (now (out .entry)) at r (now (out .exit)) ⌝ }
+{
+    let n = out.len();
+    if n <= at {
+        return n;
+    }
+    let whole = service_headers::lesser((n - at) / 2, bytes.len());
+    let mut i = 0;
+    let mut o = at;
+    while i < whole {
+        let b = bytes[i];
+        out[o] = digit_of(b / 16);
+        out[o + 1] = digit_of(b % 16);
+        o += 2;
+        i += 1;
+    }
+    if i < bytes.len() {
+        return put_hex_byte(out, o, bytes[i]);
+    }
+    o
+}
+
+// The decimal digits of a number.
+fn digits_of(n: u64) -> Digits
+    ensures { λ r. ⌜ (drop (r .from) (r .bytes) ≡ decimal n) × (r .from ≤ 20) × (length (r .bytes) ≡ 20) ⌝ }
+{
+    let mut bytes = [0u8; 20];
+    let mut from = 20;
+    let mut rest = n;
+    while 10 <= rest {
+        from -= 1;
+        bytes[from] = digit_of((rest % 10) as u8);
+        rest /= 10;
+    }
+    from -= 1;
+    bytes[from] = digit_of(rest as u8);
+    Digits { bytes, from }
+}
+
+// A number in decimal.
+pub fn put_decimal(out: &mut [u8], at: usize, n: u64) -> usize
+    ensures { λ r. ⌜ Laid (decimal n) (now (out .entry)) at r (now (out .exit)) ⌝ }
+{
+    if n < 10 {
+        return put_byte(out, at, digit_of(n as u8));
+    }
+    let digits = digits_of(n);
+    let bytes = digits.bytes;
+    let from = digits.from;
+    put_word(out, at, &bytes[from..])
+}

@@ -1,0 +1,58 @@
+-- By the last measure: the numbers, laid one behind another, or the refusal. Assumes nothing.
+use Rattle.script_answers.proofs.Parts.{four-given, refused-together}
+use borrow.Author.Needs.{needs}
+use Rattle.script_answers.proofs.put_four_line.Statement.{statement}
+use Rattle.script_answers.proofs.put_four_line.Tie as tie
+
+enum-known-d : tie.Need-enum-known-d
+enum-known-d c = search needs
+
+put-two-requires : tie.Need-put-two-requires
+put-two-requires c κs = search needs
+
+count-of-requires : tie.Need-count-of-requires
+count-of-requires c κs = search needs
+
+put-value-requires : tie.Need-put-value-requires
+put-value-requires c κs = search needs
+
+put-value-requires-2 : tie.Need-put-value-requires-2
+put-value-requires-2 c κs = search needs
+
+put-newline-requires : tie.Need-put-newline-requires
+put-newline-requires c κs = search needs
+
+enum-known-d-2 : tie.Need-enum-known-d-2
+enum-known-d-2 c = search needs
+
+put-refusal-line-requires : tie.Need-put-refusal-line-requires
+put-refusal-line-requires c κs = search needs
+
+same-length : tie.Need-same-length
+same-length c = search needs
+
+returns : tie.Need-returns
+returns c = search (needs, four-given)
+
+same-length-2 : tie.Need-same-length-2
+same-length-2 c = search needs
+
+returns-2 : tie.Need-returns-2
+returns-2 c = search (needs, refused-together)
+
+pub put-four-line-spec : {M : Type 1} → statement M
+put-four-line-spec =
+    tie.close
+    (tie.spec
+    enum-known-d
+    put-two-requires
+    count-of-requires
+    put-value-requires
+    put-value-requires-2
+    put-newline-requires
+    enum-known-d-2
+    put-refusal-line-requires
+    same-length
+    returns
+    same-length-2
+    returns-2)

@@ -1,0 +1,52 @@
+-- What an operation of a script does: the line that it lays, and what it leaves. Assumes nothing.
+use mathlib.Core.Path.{_≡_}
+use mathlib.Core.Bool.{Bool, cond}
+use mathlib.Core.List.{List, [], _∷_}
+use Prim.Native.Nat.{ℕ}
+use lib.Dec.{eqb}
+use lib.ListN.{length}
+use Rattle.model.specs.Said.{Said, Outcome, says, after, saysWith, mapped, checked, putInto}
+use Rattle.program_records.specs.Laid.{Laid}
+use Rattle.program_records.specs.Text.{word}
+use Rattle.script_answers.specs.Script.{answerLine, lentLine}
+
+-- the line of an operation, and the block, packet or machine after it
+pub record Effect (S : Type 0) : Type 0 where
+  pub line : List ℕ
+  pub next : S
+
+-- the line is laid, and `state` is what there is after it
+pub record Did {S : Type 0} (e : Effect S) (before : List ℕ) (at laid : ℕ) (state : S) (now : List ℕ) : Type 0 where
+  pub told : Laid (e .line) before at laid now
+  pub left : state ≡ e .next
+
+module _ {S : Type 0} where
+  -- an answer is told
+  abbrev pub tells : Said → S → Effect S
+  tells said next = record { line = answerLine said; next = next }
+
+  -- the same where what the call gives is laid over the places of what there is
+  abbrev pub lays : {M : Type 0} → (S → M → S) → S → Outcome M → Effect S
+  lays over old o = tells (says o) (after old (mapped (over old) o))
+
+  -- by what an answer says, the new one or the old one
+  abbrev pub chosen : Said → S → S → S
+  chosen said new old = cond (eqb (said .number) 0) new old
+
+  -- a call that makes a new one, laid over `blank`, which stands beside a refusal
+  abbrev pub makes : {M : Type 0} → (S → M → S) → S → S → Outcome M → Effect S
+  makes over blank old o = tells (says o) (chosen (says o) (after blank (mapped (over blank) o)) old)
+
+  -- the same where a line tells of what was made
+  abbrev pub reads : {M : Type 0} → (Said → S → List ℕ) → (S → M → S) → S → S → Outcome M → Effect S
+  reads lineOf over blank old o =
+      record { line = lineOf (says o) (after blank (mapped (over blank) o)); next = chosen (says o) (after blank (mapped (over blank) o)) old }
+
+  -- fields that are set: "check nothing (each prints `ok`)"
+  abbrev pub becomes : S → Effect S
+  becomes next = record { line = word "ok\n"; next = next }
+
+-- bytes are written to a lent output, which is then told whole
+pub record Lends (valid : Bool) (bytes lent lent′ before : List ℕ) (at laid : ℕ) (now : List ℕ) : Type 0 where
+  pub told : Laid (lentLine (saysWith (λ _. length bytes ∷ []) (checked valid (putInto lent bytes))) lent′) before at laid now
+  pub output : lent′ ≡ after lent (checked valid (putInto lent bytes))

@@ -1,0 +1,177 @@
+-- What the header of a block says, by each way out of its reader. Assumes nothing.
+use mathlib.Core.Path.{_≡_, refl, sym, _∙_}
+use mathlib.Core.Bool.{Bool, true, false, cond, not, _&&_}
+use mathlib.Core.List.{List, []}
+use Prim.Native.Nat.{ℕ, suc, _+_, _-_, _*_, _/_, _%_, _≤_, _<_, min}
+use native.Mathlib.Nat.{add-zero}
+use native.Mathlib.Numerals.{add-one}
+use native.Mathlib.Omega.{arith}
+use lib.Dec.{eqb, ltb}
+use lib.ListN.{length, take, drop, getD, set, replicate, length-replicate, length-take, length-drop, drop-of-length-le, length-set}
+use lib.Seq.{sets, getD-take, getD-drop, set-out}
+use borrow.Author.Tests.{eq-eqb, ne-eqb, lt-ltb, le-ltb, ltb-false}
+use Rattle.model.specs.Block.{Block, topNumber, blockSize, headerLength, numberIn, needed, isShort, writtenHeader, writtenBlock, blockLength}
+use Rattle.model.proofs.Cases.{by-cond}
+use Rattle.model.proofs.Blocks.{header-one, header-two, header-bare, header-written, written-length}
+use Rattle.model.proofs.Limits.{all-there}
+use Rattle.service_headers.specs.declared.Head.{Head}
+use Rattle.service_headers.specs.declared.Head.the-variants.{Whole, Short}
+use Rattle.service_headers.specs.Head.{headOf, HeadBy, lengthFor}
+use Rattle.service_headers.proofs.Runs.{sets-append}
+
+-- the header's own length
+pub two-bytes : (h : ℕ) → h / 32 % 8 ≡ 7 → (h % 32 ≡ 0 → ⊥) → 2 ≡ headerLength h
+two-bytes h t s = sym (header-two h t s)
+
+-- one byte where the number is not 7
+pub one-byte : (h : ℕ) → (h / 32 % 8 ≡ 7 → ⊥) → 1 ≡ headerLength h
+one-byte h t = sym (header-one h t)
+
+-- one byte where the size is 0
+pub bare-byte : (h : ℕ) → h % 32 ≡ 0 → 1 ≡ headerLength h
+bare-byte h s = sym (header-bare h s)
+
+-- there is always a byte
+pub header-least : (h : ℕ) → 1 ≤ headerLength h
+unfolding headerLength
+header-least h = by-cond (λ n. 1 ≤ n) (eqb (topNumber h) 7 && not (eqb (blockSize h) 0)) (λ _. omega arith) (λ _. omega arith)
+
+-- nor are there more than two
+pub header-most : (h : ℕ) → headerLength h ≤ 2
+unfolding headerLength
+header-most h = by-cond (λ n. n ≤ 2) (eqb (topNumber h) 7 && not (eqb (blockSize h) 0)) (λ _. omega arith) (λ _. omega arith)
+
+-- a header is written in one byte or in two
+pub written-most : (n start : ℕ) → start ≡ cond (ltb n 7) 1 2 → start ≤ 2
+written-most n start e = rw e (by-cond (λ k. k ≤ 2) (ltb n 7) (λ _. omega arith) (λ _. omega arith))
+
+-- bytes of this many that begin so
+module _ (d : List ℕ) (n h second start : ℕ) (is : length d ≡ n) (first : h ≡ getD d 0 0) (e : start ≡ headerLength h) where
+  -- the header is cut
+  pub head-cut : n < start → Short start ≡ headOf d
+  unfolding headOf isShort needed
+  head-cut k = rw (← first, ← e, is) (simp (lt-ltb _ _ k))
+
+  module _ (k : start ≤ n) where
+    -- the body is cut
+    pub body-cut : n < start + h % 32 → Short (start + h % 32) ≡ headOf d
+    unfolding headOf isShort needed
+    body-cut m = rw (← first, ← e, is) (simp (le-ltb _ _ k, lt-ltb _ _ m))
+
+    module _ (m : start + h % 32 ≤ n) where
+      -- two bytes: the second gives the number
+      pub head-two : (2 ≤ n → second ≡ getD d 1 0) → start ≡ 2 → Whole (second % 64) start (h % 32) ≡ headOf d
+      unfolding headOf isShort needed numberIn
+      head-two next t = rw (← first, ← e, is, ← next (omega arith)) (simp (le-ltb _ _ k, le-ltb _ _ m, eq-eqb _ _ t))
+
+      -- one byte: its top bits do
+      pub head-one : (start ≡ 2 → ⊥) → Whole (h / 32 % 8) start (h % 32) ≡ headOf d
+      unfolding headOf isShort needed numberIn
+      head-one t = rw (← first, ← e, is) (simp (le-ltb _ _ k, le-ltb _ _ m, ne-eqb _ _ t))
+
+-- bytes from a place on, of which the header is told by the first two
+module _ (d : List ℕ) (at : ℕ) (r : Head) where
+  -- nothing there
+  pub none-at : length d ≤ at → HeadBy 0 0 0 r → r ≡ headOf (drop at d)
+  none-at h by = rw (drop-of-length-le d h) (by [] refl refl (λ _. refl))
+
+  -- some
+  pub some-at : (h second n : ℕ) → length d - at ≡ n → h ≡ getD d at 0 → (2 ≤ n → second ≡ getD d (at + 1) 0) → HeadBy h second n r → r ≡ headOf (drop at d)
+  some-at h second n is first next by =
+      by (drop at d) (length-drop at d ∙ is) (first ∙ sym (getD-drop at d 0 0 ∙ rw add-zero)) (λ k. next k ∙ sym (getD-drop at d 1 0))
+
+  -- one
+  pub one-at : (h second n : ℕ) → length d - at ≡ n → n ≡ 1 → h ≡ getD d at 0 → HeadBy h second 1 r → r ≡ headOf (drop at d)
+  one-at h second n is one first by = some-at h second 1 (is ∙ one) first (λ k. absurd (omega arith)) by
+
+-- the first `end` bytes, from a place on
+module _ (b : List ℕ) (at end n : ℕ) (r : Head) (most : n ≡ min end (length b)) where
+  so-many : length (take end b) ≡ n
+  so-many = length-take end b ∙ sym most
+
+  -- nothing there
+  pub none-in : n ≤ at → HeadBy 0 0 0 r → r ≡ headOf (drop at (take end b))
+  none-in h by = none-at (take end b) at r (omega (arith, so-many)) by
+
+  -- some: where there is a second, it stands behind the first
+  pub some-in : length b ≡ 128 → at < n → HeadBy (getD b at 0) (getD b ((at + 1) % 128) 0) (n - at) r → r ≡ headOf (drop at (take end b))
+  some-in is h by =
+      some-at (take end b) at r (getD b at 0) (getD b ((at + 1) % 128) 0) (n - at) (rw so-many) (sym (getD-take end b at 0 (omega arith)))
+      (λ k. let e : (at + 1) % 128 ≡ at + 1 = omega arith in rw e (sym (getD-take end b (at + 1) 0 (omega arith)))) by
+
+-- a header laid into a list: of one byte, of two, and of two where there is room for one
+module _ (l : List ℕ) (at number size : ℕ) where
+  -- one byte
+  pub laid-one : number < 7 → set l at (number * 32 + size) ≡ sets l at (writtenHeader number size)
+  unfolding writtenHeader
+  laid-one h = simp (lt-ltb _ _ h)
+
+  -- two bytes
+  pub laid-two : 7 ≤ number → set (set l at (224 + size)) (at + 1) number ≡ sets l at (writtenHeader number size)
+  unfolding writtenHeader
+  laid-two h = simp (le-ltb _ _ h, add-one)
+
+  -- two bytes, of which one has room
+  pub laid-cut : 7 ≤ number → length l ≤ at + 1 → set l at (224 + size) ≡ sets l at (writtenHeader number size)
+  unfolding writtenHeader
+  laid-cut h k = simp (le-ltb _ _ h) (sym (set-out (set l at (224 + size)) (suc at) number (rw length-set (omega arith))))
+
+-- the length of a block, by its number and the size of its payload alone
+length-told : (b : Block) → blockLength b ≡ cond (eqb (length (b .payload)) 0) 0 (cond (ltb (b .number) 7) 1 2 + length (b .payload))
+unfolding blockLength
+length-told b = rw (written-length b)
+
+-- whatever bytes stand for it
+pub length-by : (n k : ℕ) → lengthFor n k ≡ cond (eqb k 0) 0 (cond (ltb n 7) 1 2 + k)
+length-by n k = length-told (record { number = n; payload = replicate k 0 }) ∙ rw (length-replicate {A = ℕ} k 0)
+
+-- so that it is the block's
+pub length-of : (b : Block) → blockLength b ≡ lengthFor (b .number) (length (b .payload))
+length-of b = length-told b ∙ sym (length-by (b .number) (length (b .payload)))
+
+-- a header and the payload behind it are the block as written
+pub laid-block : (b : Block) (l : List ℕ) (at start size : ℕ) → start ≡ cond (ltb (b .number) 7) 1 2 → size ≡ length (b .payload)
+    → sets (sets l at (writtenHeader (b .number) size)) (at + start) (b .payload) ≡ sets l at (writtenBlock b)
+unfolding writtenBlock
+laid-block b l at start size p q =
+    let n : length (writtenHeader (b .number) (length (b .payload))) ≡ start = header-written (b .number) (length (b .payload)) ∙ sym p in
+    rw q (sym (sets-append (writtenHeader (b .number) (length (b .payload))) (b .payload) l at ∙ rw n))
+
+-- what is known where a header was read
+pub record Headed (d : List ℕ) (n st sz : ℕ) : Type 0 where
+  pub whole : isShort d ≡ false
+  pub number : numberIn d ≡ n
+  pub start : headerLength (getD d 0 0) ≡ st
+  pub size : blockSize (getD d 0 0) ≡ sz
+  pub fits : st + sz ≤ length d
+  pub some : 1 ≤ st
+  pub small : sz ≤ 31
+
+-- no byte is missing
+not-short : (d : List ℕ) → isShort d ≡ false → needed d ≤ length d
+unfolding isShort
+not-short d e = ltb-false _ _ e
+
+-- an answer that is whole came by the second way, with these values
+whole-parts : (b : Bool) (k n st sz n′ st′ sz′ : ℕ) → cond b (Short k) (Whole n st sz) ≡ Whole n′ st′ sz′ → (b ≡ false) × (n ≡ n′) × (st ≡ st′) × (sz ≡ sz′)
+whole-parts false k n st sz n′ st′ sz′ e = (refl, cc, cc, cc)
+whole-parts true k n st sz n′ st′ sz′ e = let z : _≡_ {A = ℕ} 0 1 = cc in absurd (omega arith)
+
+-- one that is short came by the first
+short-parts : (b : Bool) (k n st sz k′ : ℕ) → cond b (Short k) (Whole n st sz) ≡ Short k′ → (b ≡ true) × (k ≡ k′)
+short-parts true k n st sz k′ e = (refl, cc)
+short-parts false k n st sz k′ e = let z : _≡_ {A = ℕ} 0 1 = cc in absurd (omega arith)
+
+module _ (d : List ℕ) where
+  -- a whole header is so
+  pub headed : (n st sz : ℕ) → headOf d ≡ Whole n st sz → Headed d n st sz
+  unfolding headOf
+  headed n st sz e =
+      let w = whole-parts (isShort d) _ _ _ _ n st sz e in
+      let m = all-there d (not-short d (w .0)) in
+      record { whole = w .0; number = w .1; start = w .2; size = w .3; fits = omega (arith, m, w .2, w .3); some = omega (arith, header-least (getD d 0 0), w .2); small = omega (arith, w .3) }
+
+  -- a short one misses bytes
+  pub head-short : (k : ℕ) → headOf d ≡ Short k → (isShort d ≡ true) × (needed d ≡ k)
+  unfolding headOf
+  head-short k e = short-parts (isShort d) _ _ _ _ k e

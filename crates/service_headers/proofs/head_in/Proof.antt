@@ -1,0 +1,46 @@
+-- `service_headers::head_in` meets its contract: no bytes are left, or the first and the one behind it tell the header. Assumes nothing.
+use Rattle.service_headers.proofs.Heads.{none-in, some-in}
+use borrow.Author.Needs.{needs}
+use Rattle.service_headers.proofs.head_in.Statement.{statement}
+use Rattle.service_headers.proofs.head_in.Tie as tie
+
+lesser-requires : tie.Need-lesser-requires
+lesser-requires c κs = search needs
+
+head-by-requires : tie.Need-head-by-requires
+head-by-requires c κs = search needs
+
+returns : tie.Need-returns
+returns c = search (needs, none-in)
+
+element-copy-out-head-by : tie.Need-element-copy-out-head-by
+element-copy-out-head-by c = search needs
+
+add-head-by : tie.Need-add-head-by
+add-head-by c = search needs
+
+element-copy-out-head-by-2 : tie.Need-element-copy-out-head-by-2
+element-copy-out-head-by-2 c = search needs
+
+sub-head-by : tie.Need-sub-head-by
+sub-head-by c = search needs
+
+head-by-requires-2 : tie.Need-head-by-requires-2
+head-by-requires-2 c κs = search needs
+
+returns-2 : tie.Need-returns-2
+returns-2 c = search (needs, some-in)
+
+pub head-in-spec : {M : Type 1} → statement M
+head-in-spec =
+    tie.close
+    (tie.spec
+    lesser-requires
+    head-by-requires
+    returns
+    element-copy-out-head-by
+    add-head-by
+    element-copy-out-head-by-2
+    sub-head-by
+    head-by-requires-2
+    returns-2)

@@ -1,0 +1,27 @@
+-- What the header of a block says, as an answer of the code. No public contract of `service` or `packet` reaches this file. Assumes nothing.
+use mathlib.Core.Path.{_≡_}
+use mathlib.Core.Bool.{cond}
+use mathlib.Core.List.{List}
+use Prim.Native.Nat.{ℕ, _≤_}
+use lib.ListN.{length, getD, replicate}
+use Rattle.model.specs.Said.{Said, badValue, lengthMismatch}
+use Rattle.model.specs.Block.{headerLength, blockSize, numberIn, needed, isShort, blockLength}
+use Rattle.service_headers.specs.declared.Head.{Head}
+use Rattle.service_headers.specs.declared.Head.the-variants.{Whole, Short}
+
+-- "On reading, bytes missing give 1 with the count needed"; else the number, where the payload starts and its size
+unfoldable pub headOf : List ℕ → Head
+headOf d = cond (isShort d) (Short (needed d)) (Whole (numberIn d) (headerLength (getD d 0 0)) (blockSize (getD d 0 0)))
+
+-- an answer is the header of all bytes that are so many and begin so; without a second byte any may stand for it
+abbrev pub HeadBy : ℕ → ℕ → ℕ → Head → Type 0
+HeadBy first second n r = (d : List ℕ) → length d ≡ n → first ≡ getD d 0 0 → (2 ≤ n → second ≡ getD d 1 0) → r ≡ headOf d
+
+-- the length of a block by its number and the size of its payload, for which any bytes may stand
+abbrev pub lengthFor : ℕ → ℕ → ℕ
+lengthFor number size = blockLength (record { number = number; payload = replicate size 0 })
+
+-- what a header that is short says, `present` bytes being there; one that is whole is none
+abbrev pub saidShort : Head → ℕ → Said
+saidShort (Whole number start size) present = badValue
+saidShort (Short k) present = lengthMismatch k present

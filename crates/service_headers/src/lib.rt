@@ -1,0 +1,176 @@
+// The header of a block, read and written, and bytes laid into a buffer.
+ghost use mathlib.Core.Path.{_≡_};
+ghost use Prim.Native.Nat.{_%_, min};
+ghost use lib.ListN.{take, drop};
+ghost use lib.Seq.{sets};
+ghost use mathlib.Core.Bool.{cond};
+ghost use lib.Dec.{ltb};
+ghost use Rattle.caption.specs.Answers.{saidRefusal};
+ghost use Rattle.model.specs.Block.{headerLength, writtenHeader};
+ghost use Rattle.service_headers.specs.Head.{headOf, HeadBy, lengthFor, saidShort};
+use caption::Refusal;
+
+// What the header of a block says: its number, where its payload starts and how long it is; or how many bytes are needed.
+pub enum Head {
+    Whole {
+        number: u8,
+        start: usize,
+        size: usize,
+    },
+    Short {
+        needed: usize,
+    },
+}
+
+// The lesser of two counts.
+pub fn lesser(a: usize, b: usize) -> usize
+    ensures { λ r. ⌜ r ≡ min a b ⌝ }
+{
+    if a < b {
+        return a;
+    }
+    b
+}
+
+// Lays `src` into `dst`, from `at` on, as far as there is room.
+pub fn put_bytes(dst: &mut [u8], at: usize, src: &[u8])
+    ensures { λ _. ⌜ now (dst .exit) ≡ sets (now (dst .entry)) at (now (src .entry)) ⌝ }
+{
+    let n = dst.len();
+    if n <= at {
+        return;
+    }
+    let count = lesser(n - at, src.len());
+    let mut i = 0;
+    while i < count {
+        dst[at + i] = src[i];
+        i += 1;
+    }
+}
+
+// How many bytes the header that begins with `h` has.
+fn header_length(h: u8) -> usize
+    ensures { λ r. ⌜ r ≡ headerLength h ⌝ }
+{
+    if h / 32 % 8 == 7 {
+        if h % 32 != 0 {
+            return 2;
+        }
+    }
+    1
+}
+
+// The header of `n` bytes, of which these are the first two; the first is 0 where there is none.
+fn head_by(h: u8, second: u8, n: usize) -> Head
+    ensures { λ r. ⌜ HeadBy h second n r ⌝ }
+{
+    let start = header_length(h);
+    let size = (h % 32) as usize;
+    if n < start {
+        return Head::Short { needed: start };
+    }
+    if n < start + size {
+        return Head::Short {
+            needed: start + size,
+        };
+    }
+    if start == 2 {
+        return Head::Whole {
+            number: second % 64,
+            start,
+            size,
+        };
+    }
+    Head::Whole {
+        number: h / 32 % 8,
+        start,
+        size,
+    }
+}
+
+// The header of the block that begins at `at`.
+pub fn read_head(data: &[u8], at: usize) -> Head
+    ensures { λ r. ⌜ r ≡ headOf (drop at (now («data» .entry))) ⌝ }
+{
+    let len = data.len();
+    if len <= at {
+        return head_by(0, 0, 0);
+    }
+    let n = len - at;
+    if n == 1 {
+        return head_by(data[at], 0, 1);
+    }
+    head_by(data[at], data[at + 1], n)
+}
+
+// The header of the block that begins at `at`, of the first `end` bytes.
+pub fn head_in(bytes: &[u8; 128], at: usize, end: usize) -> Head
+    ensures { λ r. ⌜ r ≡ headOf (drop at (take end (now (bytes .entry)))) ⌝ }
+{
+    let all = &bytes[..];
+    let n = lesser(end, all.len());
+    if n <= at {
+        return head_by(0, 0, 0);
+    }
+    // Behind the last byte any other may stand: a header of one byte has no second.
+    head_by(bytes[at], bytes[(at + 1) % 128], n - at)
+}
+
+// Why a block is refused whose header is short, `present` bytes being there.
+pub fn short_of(head: Head, present: usize) -> Refusal
+    ensures { λ r. ⌜ saidRefusal r ≡ saidShort head present ⌝ }
+{
+    match head {
+        Head::Whole {
+            number: _,
+            start: _,
+            size: _,
+        } => Refusal::BadValue,
+        Head::Short { needed } => Refusal::LengthMismatch {
+            expected: needed,
+            actual: present,
+        },
+    }
+}
+
+// The length of a block with a payload of `size` bytes, whichever they are.
+pub fn block_length(number: u8, size: u8) -> usize
+    ensures { λ r. ⌜ r ≡ lengthFor number size ⌝ }
+{
+    if size == 0 {
+        return 0;
+    }
+    if number < 7 {
+        return 1 + size as usize;
+    }
+    2 + size as usize
+}
+
+// Lays the header of a block into `out`, from `at` on, as far as there is room.
+pub fn put_header(out: &mut [u8], at: usize, number: u8, size: u8)
+    ensures { λ _. ⌜ now (out .exit) ≡ sets (now (out .entry)) at (writtenHeader number (size % 32)) ⌝ }
+{
+    let low = size % 32;
+    let n = out.len();
+    if n <= at {
+        return;
+    }
+    if number < 7 {
+        out[at] = number * 32 + low;
+        return;
+    }
+    out[at] = 224 + low;
+    if at + 1 < n {
+        out[at + 1] = number;
+    }
+}
+
+// How many bytes a header is written in.
+pub fn written_header_length(number: u8) -> usize
+    ensures { λ r. ⌜ r ≡ cond (ltb number 7) 1 2 ⌝ }
+{
+    if number < 7 {
+        return 1;
+    }
+    2
+}

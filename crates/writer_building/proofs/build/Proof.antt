@@ -1,0 +1,39 @@
+-- `writer_building::build` meets its contract: each call gives what it says, one after another. Assumes nothing.
+use Rattle.writer_building.proofs.Builds.{built-by}
+use borrow.Author.Needs.{needs}
+use Rattle.writer_building.proofs.build.Statement.{statement}
+use Rattle.writer_building.proofs.build.Tie as tie
+
+turns-of-requires : tie.Need-turns-of-requires
+turns-of-requires c κs = search needs
+
+count-of-requires : tie.Need-count-of-requires
+count-of-requires c κs = search needs
+
+start-requires : tie.Need-start-requires
+start-requires c κs = search needs
+
+take-requires : tie.Need-take-requires
+take-requires c κs = search needs
+
+fill-requires : tie.Need-fill-requires
+fill-requires c κs = search needs
+
+made-of-requires : tie.Need-made-of-requires
+made-of-requires c κs = search needs
+
+returns : tie.Need-returns
+returns c =
+    built-by _ _ _ _ _ _ _ _ _ _ _ _ _ _ _ _ (c .before .before .before .before .before .before .turns-of .ensures) (c .before .before .before .before .before .count-of .ensures) (c .before .before .before .before .start .ensures) (c .before .before .before .take .ensures) (c .before .fill .ensures) (c .made-of .ensures)
+
+pub build-spec : {M : Type 1} → statement M
+build-spec =
+    tie.close
+    (tie.spec
+    turns-of-requires
+    count-of-requires
+    start-requires
+    take-requires
+    fill-requires
+    made-of-requires
+    returns)

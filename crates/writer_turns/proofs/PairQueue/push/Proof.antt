@@ -1,0 +1,56 @@
+-- `writer_turns::PairQueue::push` meets its contract: one law of `Queues` for each way out. Assumes nothing.
+use mathlib.Core.Path.{refl}
+use native.Mathlib.Omega.{arith}
+use Rattle.writer_turns.proofs.Queues.{push-over, push-null, push-full, push-free}
+use borrow.Author.Needs.{needs}
+use Rattle.writer_turns.proofs.PairQueue.push.Statement.{statement}
+use Rattle.writer_turns.proofs.PairQueue.push.Tie as tie
+
+returns : tie.Need-returns
+returns c = push-over (c .before .args .t1) _ _ (omega arith)
+
+is-null-requires : tie.Need-is-null-requires
+is-null-requires c κs = search needs
+
+returns-2 : tie.Need-returns-2
+returns-2 c = push-null (c .before .before .before .args .t1) _ _ (record { few = omega arith; flat = search needs }) (c .before .is-null .ensures) (c .if2 .taken)
+
+returns-3 : tie.Need-returns-3
+returns-3 c = push-full (c .before .before .before .before .args .t1) _ _ (record { few = omega arith; flat = search needs }) (c .before .before .is-null .ensures) (c .before .if2 .left) (c .if3 .taken)
+
+mul-self : tie.Need-mul-self
+mul-self c = search needs
+
+element-write-self : tie.Need-element-write-self
+element-write-self c = search needs
+
+mul-self-2 : tie.Need-mul-self-2
+mul-self-2 c = search needs
+
+add-self : tie.Need-add-self
+add-self c = search needs
+
+element-write-self-2 : tie.Need-element-write-self-2
+element-write-self-2 c = search needs
+
+add-self-2 : tie.Need-add-self-2
+add-self-2 c = search needs
+
+returns-4 : tie.Need-returns-4
+returns-4 c = push-free (c .before .before .before .before .args .t1) _ _ (record { few = omega arith; flat = search needs }) (c .before .before .is-null .ensures) (c .before .if2 .left) (c .if3 .left) refl
+
+pub push-spec : {M : Type 1} → statement M
+push-spec =
+    tie.close
+    (tie.spec
+    returns
+    is-null-requires
+    returns-2
+    returns-3
+    mul-self
+    element-write-self
+    mul-self-2
+    add-self
+    element-write-self-2
+    add-self-2
+    returns-4)

@@ -1,0 +1,26 @@
+-- A field's queue as flat bytes: document 01, "Sizes" and "Writing frames". Assumes nothing.
+use mathlib.Core.List.{List, [], _∷_}
+use Prim.Native.Nat.{ℕ, _*_}
+use lib.ListN.{length, take}
+use lib.Seq.{sets}
+use Rattle.model.specs.Frame.{Pair, pair}
+use Rattle.writer_turns.specs.declared.PairQueue.{PairQueue}
+
+-- the pairs that flat bytes are
+unfoldable pub pairsOf : List ℕ → List Pair
+pairsOf [] = []
+pairsOf (a ∷ []) = []
+pairsOf (a ∷ b ∷ d) = pair a b ∷ pairsOf d
+
+-- the pairs queued, in the places from the first to the last that is taken: "Place 1 leaves next"
+unfoldable pub queueOf : PairQueue → List Pair
+queueOf q = pairsOf (take (2 * q .count) (q .bytes))
+
+-- the flat bytes of pairs
+unfoldable pub pairBytes : List Pair → List ℕ
+pairBytes [] = []
+pairBytes (pair a b ∷ ps) = a ∷ b ∷ pairBytes ps
+
+-- pairs in the places of a queue, from the first on; what stands behind them stays
+unfoldable pub queueOver : PairQueue → List Pair → PairQueue
+queueOver q ps = record { bytes = sets (q .bytes) 0 (pairBytes ps); count = length ps }
