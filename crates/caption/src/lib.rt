@@ -4,9 +4,7 @@ ghost use Prim.Native.Nat.{_<_};
 ghost use Rattle.model.specs.Said.{saysWith};
 ghost use Rattle.model.specs.Rate.{budgets, pairsThenTriples, rounded};
 ghost use Rattle.caption.specs.Rates.{rate, namedRates, saidBudgets};
-
-// The most triples of a frame: its count has five bits.
-const MOST_TRIPLES: usize = 31;
+use basics::MOST_TRIPLES;
 
 // Why a call was refused.
 pub enum Refusal {

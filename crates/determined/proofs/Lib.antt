@@ -1,4 +1,5 @@
 pub mod Ways
+pub mod Basics
 pub mod Caption
 pub mod ServiceHeaders
 pub mod Service

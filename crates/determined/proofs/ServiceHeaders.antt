@@ -2,8 +2,6 @@
 use contract.Lifetimes.{Lfts}
 use denote.Ref.{now}
 use Rattle.caption.proofs.Answers.{saidRefusal-injective}
-use Rattle.service_headers.proofs.lesser.Reads as Lesser
-use Rattle.service_headers.proofs.put_bytes.Reads as put_bytes
 use Rattle.service_headers.proofs.read_head.Reads as read_head
 use Rattle.service_headers.proofs.head_in.Reads as HeadIn
 use Rattle.service_headers.proofs.short_of.Reads as short_of
@@ -12,14 +10,6 @@ use Rattle.service_headers.proofs.put_header.Reads as put_header
 use Rattle.service_headers.proofs.written_header_length.Reads as written_header_length
 use Rattle.determined.specs.Determines.{Determines, DeterminesLent}
 use Rattle.determined.proofs.Ways.{equal, said, filled}
-
--- `lesser(a, b)`
-pub lesser : Determines (Lesser.Post (tt {0}))
-lesser = equal
-
--- `put_bytes(dst, at, src)`
-pub put-bytes : (κs : Lfts 2) → DeterminesLent (λ e. now (e .0)) (put_bytes.Post κs)
-put-bytes κs = filled
 
 -- `read_head(data, at)`
 pub read-head : (κs : Lfts 1) → Determines (read_head.Post κs)

@@ -13,6 +13,7 @@ ghost use Rattle.packet_blocks.specs.Reading.{readAs};
 ghost use Rattle.packet.specs.Packet.{Answers, packetOf, blank, validDTVCC};
 ghost use Rattle.packet.specs.Place.{Placed};
 ghost use Rattle.packet.specs.Replies.{unreadFor, answerFrom, answerTo, extentOf, countAfter, answerOf};
+use basics::MOST_PACKET;
 use caption::Answer;
 use caption::Counted;
 use caption::Refusal;
@@ -20,9 +21,6 @@ use caption::Truth;
 use packet_blocks::Filled;
 use packet_entries::Extent;
 use service::Service;
-
-// The most bytes of a packet.
-const MOST_PACKET: usize = 128;
 
 // A packet: block i has number `numbers[i]` and the next `sizes[i]` bytes of `payload`.
 pub struct DTVCCPacket {

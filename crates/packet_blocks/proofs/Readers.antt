@@ -19,7 +19,7 @@ use Rattle.model.specs.Block.{Block}
 use Rattle.model.specs.Packet.{Packet, packetSize, sequenceIn, plainMove, blocksFrom, readBy, readPacket, readTidy, reads}
 use Rattle.model.proofs.Cases.{by-test}
 use Rattle.model.proofs.Limits.{size-most}
-use Rattle.service_headers.proofs.Runs.{sets-front}
+use Rattle.basics.proofs.Runs.{sets-front}
 use Rattle.packet_entries.specs.Fields.{zeros, over}
 use Rattle.packet_blocks.specs.declared.Filled.{Filled}
 use Rattle.packet_blocks.specs.Reading.{moveBy, wrongLength, readAs, soFar, packetWith, Stored, Read, Room}

@@ -24,7 +24,7 @@ use Rattle.service_headers.specs.declared.Head.{Head}
 use Rattle.service_headers.specs.declared.Head.the-variants.{Whole, Short}
 use Rattle.service_headers.specs.Head.{headOf, saidShort}
 use Rattle.service_headers.proofs.Heads.{Headed, headed, head-short, header-least, header-most}
-use Rattle.service_headers.proofs.Runs.{sets-append, sets-more}
+use Rattle.basics.proofs.Runs.{sets-append, sets-more}
 use Rattle.packet_blocks.specs.declared.Kept.{Kept}
 use Rattle.packet_entries.specs.Fields.{numbersOf, sizesOf, payloadsOf, blockFrom}
 use Rattle.packet_blocks.specs.Reading.{moveBy, moveFor, keptFor, Laid, behind, Stored, Room, KeepRoom}

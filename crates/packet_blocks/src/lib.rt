@@ -9,13 +9,13 @@ ghost use Rattle.model.specs.Said.{refused, isGiven, mapped, lengthMismatch};
 ghost use Rattle.model.specs.Packet.{packetSize, plainMove, blocksFrom};
 ghost use Rattle.model.specs.Packet as model;
 ghost use Rattle.packet_blocks.specs.Reading.{moveBy, moveFor, wrongLength, readAs, keptFor, behind, soFar, packetWith, Laid, Stored, Read, Room, KeepRoom};
+use basics::MOST_PACKET;
+use basics::lesser;
+use basics::put_bytes;
 use caption::Answer;
 use caption::Counted;
 use caption::Refusal;
 use service_headers::Head;
-
-// The most bytes of a packet.
-const MOST_PACKET: usize = 128;
 
 // How far the plain reader moves past a null header, whatever its size.
 const NULL_MOVE: usize = 1;
@@ -85,7 +85,7 @@ fn held(bytes: &[u8; 128], len: usize) -> usize
     ensures { λ r. ⌜ r ≡ length (take len (now (bytes .entry))) ⌝ }
 {
     let all = &bytes[..];
-    service_headers::lesser(len, all.len())
+    lesser(len, all.len())
 }
 
 // Whether the first `len` bytes read as a packet; at most 128 are there.
@@ -136,7 +136,7 @@ fn put_payload(payload: &mut [u8; 127], at: usize, part: &[u8])
     ensures { λ _. ⌜ now (payload .exit) ≡ sets (now (payload .entry)) at (now (part .entry)) ⌝ }
 {
     let n = put_fours(payload, at, part);
-    service_headers::put_bytes(payload, at + n, &part[n..]);
+    put_bytes(payload, at + n, &part[n..]);
 }
 
 // Stores a block that has a payload, as block `count` with its payload from `used` on.
@@ -310,6 +310,6 @@ pub fn read(data: &[u8], tidy: bool) -> Filled
         return unread(mismatch(packet_size(data[0]), n));
     }
     let mut bytes = [0u8; 128];
-    service_headers::put_bytes(&mut bytes, 0, data);
+    put_bytes(&mut bytes, 0, data);
     read_in(&bytes, n, tidy)
 }

@@ -19,7 +19,7 @@ use Rattle.model.proofs.Blocks.{written-length}
 use Rattle.model.proofs.Packets.{blocks-length, fill-length}
 use Rattle.service.specs.Service.{Writes}
 use Rattle.service_headers.specs.Head.{lengthFor}
-use Rattle.service_headers.proofs.Runs.{sets-append, sets-front}
+use Rattle.basics.proofs.Runs.{sets-append, sets-front}
 use Rattle.service_headers.proofs.Heads.{laid-block}
 use Rattle.packet_entries.specs.Fields.{Fields, packetIn, validFields, blockFrom}
 use Rattle.packet_entries.specs.Entries.{Entry, Written, entries, entriesOf, cut, goodEntry, goodEntries, lengthsOf, usedBy, validEntries}

@@ -11,12 +11,12 @@ ghost use Rattle.service.specs.Service.{Writes};
 ghost use Rattle.packet_entries.specs.Fields.{fields, packetIn, validFields, blockFrom};
 ghost use Rattle.packet_entries.specs.Entries.{entries, cut, goodEntry, Written};
 ghost use Rattle.packet_entries.specs.Extent.{lengthWith, walked, extentAs, latestOf, sumTo, blockAt};
+use basics::MOST_BLOCKS;
+use basics::lesser;
+use basics::put_bytes;
 use caption::Counted;
 use caption::Refusal;
 use service::Service;
-
-// How many blocks there are places for, and how many bytes of payload.
-const MOST_BLOCKS: usize = 63;
 
 const MOST_BYTES: usize = 127;
 
@@ -166,10 +166,10 @@ pub fn block_at(numbers: &[u8; 63], sizes: &[u8; 63], payload: &[u8; 127], place
         };
     }
     let size = wide(sizes[place]);
-    let from = service_headers::lesser(sum_of(sizes, place), MOST_BYTES);
-    let end = service_headers::lesser(from + size, MOST_BYTES);
+    let from = lesser(sum_of(sizes, place), MOST_BYTES);
+    let end = lesser(from + size, MOST_BYTES);
     let all = &payload[..];
-    service_headers::put_bytes(&mut bytes, 0, &all[from..end]);
+    put_bytes(&mut bytes, 0, &all[from..end]);
     Service {
         number: numbers[place],
         len: size,
@@ -184,7 +184,7 @@ fn put_block(out: &mut [u8], at: usize, number: u8, size: u8, part: &[u8])
 {
     let start = service_headers::written_header_length(number);
     service_headers::put_header(out, at, number, size);
-    service_headers::put_bytes(out, at + start, part);
+    put_bytes(out, at + start, part);
 }
 
 // Lays the byte that fills an odd length `n` behind that many bytes, where there is room.

@@ -9,7 +9,7 @@ use lib.ListN.{length, take, drop, getD, set, length-append, length-set, take-ap
 use lib.Seq.{sets, length-take-le, drop-drop, getD-take, map-set-same, take-set-lt, drop-set-lt}
 use Rattle.model.specs.Block.{Block, withRun}
 use Rattle.model.specs.Packet.{noBlock, withBlocks, blockAt, extended}
-use Rattle.service_headers.proofs.Runs.{sets-front, sets-append, sets-own, sets-behind}
+use Rattle.basics.proofs.Runs.{sets-front, sets-append, sets-own, sets-behind}
 use Rattle.packet_entries.specs.Fields.{Fields, Places, fields, packetIn, over, numbersOf, sizesOf, payloadsOf, blockFrom}
 use Rattle.packet_entries.specs.Entries.{Entry, entriesOf, cut, usedBy}
 use Rattle.packet_entries.specs.Extent.{Sized, sumTo}

@@ -9,20 +9,16 @@ ghost use Rattle.packet_entries.specs.Fields.{fields, blockFrom};
 ghost use Rattle.packet_entries.specs.Extent.{Sized, sumTo};
 ghost use Rattle.packet_blocks.specs.Reading.{Laid};
 ghost use Rattle.packet_pushes.specs.Pushing.{Pushes, RoomAt, grownOver, pushedNew, pushedAt, pushedBlock, pushedRun};
+use basics::MOST_NUMBER;
+use basics::MOST_PACKET;
+use basics::MOST_PAYLOAD;
+use basics::put_bytes;
 use caption::Counted;
 use caption::Refusal;
 use packet_blocks::Kept;
 use packet_entries::Extent;
 use packet_entries::Found;
 use service::Service;
-
-// The most bytes of a packet.
-const MOST_PACKET: usize = 128;
-
-// The most bytes of a block's payload, and the largest number of a service.
-const MOST_PAYLOAD: usize = 31;
-
-const MOST_NUMBER: u8 = 63;
 
 // Stores a block as block `count`, with its payload from `used` on.
 fn put_entry(
@@ -40,7 +36,7 @@ fn put_entry(
     let used = at.used;
     numbers[count] = number;
     sizes[count] = run.len() as u8;
-    service_headers::put_bytes(payload, used, run);
+    put_bytes(payload, used, run);
 }
 
 // How many bytes more a block with `size` bytes of payload has room for.
@@ -73,8 +69,8 @@ fn extend(used: usize, place: usize, run: &[u8], sizes: &mut [u8; 63], payload: 
     let before = packet_entries::sum_of(sizes, place + 1);
     let size = sizes[place];
     sizes[place] = size + n as u8;
-    service_headers::put_bytes(payload, before, run);
-    service_headers::put_bytes(payload, before + n, &old[before..used]);
+    put_bytes(payload, before, run);
+    put_bytes(payload, before + n, &old[before..used]);
 }
 
 // Pushes a run as a new block, where the packet has room for it.

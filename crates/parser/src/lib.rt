@@ -19,6 +19,8 @@ ghost use Rattle.parser.specs.Tests.{frontOf, countsOf};
 ghost use Rattle.parser.specs.Push.{fed, refusedFor};
 ghost use Rattle.parser.specs.Take.{placeBehind, firstPair, slid, takenBy, takePair, takeHead, takeBehind, takeItem, noneTook, Takes};
 ghost use Rattle.parser.specs.Items.{Draws};
+use basics::MOST_PACKET;
+use basics::MOST_WAITING;
 use caption::Answer;
 use caption::Cea608;
 use caption::Counted;
@@ -26,12 +28,6 @@ use caption::Refusal;
 use packet::DTVCCPacket;
 use parser_rings::Front;
 use slots::Slot;
-
-// The most packets that wait.
-const MOST_WAITING: usize = 32;
-
-// The most bytes of a packet.
-const MOST_PACKET: usize = 128;
 
 // A demultiplexer. The first `pair_count` pairs of the last frame not yet drawn stand in `pairs`, three places each: the field (0 or 1) and
 // two bytes. The first `pending_len` bytes of `pending` are of a packet that is not complete. `waiting_count` slots from `waiting_first` on,

@@ -11,10 +11,9 @@ ghost use Rattle.model.specs.Demux.{gather, ended};
 ghost use Rattle.parser_triples.specs.Walk.{seenFrom};
 ghost use Rattle.parser_gather.specs.Tests.{pendingFine, readyFor};
 ghost use Rattle.parser_gather.specs.Gather.{Sized, heldBy, putTwo, Holds, put, closesBy, takenBy, leftOf, gatheredBy};
+use basics::MOST_WAITING;
+use basics::put_bytes;
 use slots::Slot;
-
-// The most slots.
-const MOST_WAITING: usize = 32;
 
 // The bytes that a packet still wants, and those gathered of it.
 pub struct Run {
@@ -76,7 +75,7 @@ fn run_of(pending: [u8; 128], len: usize, bytes: &mut [u8; 128]) -> Run
     if len == 0 {
         return Run { need: 0, len };
     }
-    service_headers::put_bytes(bytes, 0, &pending[0..len]);
+    put_bytes(bytes, 0, &pending[0..len]);
     Run {
         need: packet::packet_size(pending[0]) - len,
         len,
@@ -151,7 +150,7 @@ fn gather_frame(
         n += 1;
     }
     let left = left_of(s);
-    service_headers::put_bytes(pending, 0, &bytes[0..left]);
+    put_bytes(pending, 0, &bytes[0..left]);
     Gathered {
         pending: left,
         waiting: n,

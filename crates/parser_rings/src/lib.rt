@@ -2,12 +2,9 @@
 ghost use mathlib.Core.Path.{_≡_};
 ghost use Rattle.parser_rings.specs.Ring.{slotFine};
 ghost use Rattle.parser_rings.specs.Tests.{oldestOf};
+use basics::MOST_PACKET;
+use basics::MOST_WAITING;
 use slots::Slot;
-
-// The most bytes of a packet, and the most slots.
-const MOST_PACKET: usize = 128;
-
-const MOST_WAITING: usize = 32;
 
 // The slot at the head of the ring, and whether the ring behind it is within its limits.
 pub struct Front {

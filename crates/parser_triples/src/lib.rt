@@ -10,11 +10,9 @@ ghost use Rattle.parser_triples.specs.Scan.{found, scanTurn, scanned};
 ghost use Rattle.parser_triples.specs.Listing.{listing, listedBy, fieldsFine, listFine};
 ghost use mathlib.Core.Bool.{false, _&&_};
 ghost use Rattle.parser_triples.specs.Plan.{headOf, planWalked, planOf};
+use basics::MOST_FRAME;
 use caption::Answer;
 use caption::Refusal;
-
-// The most bytes of a frame, and the most pairs.
-const MOST_FRAME: usize = 95;
 
 const MOST_PAIRS: usize = 31;
 

@@ -9,7 +9,7 @@ use lib.ListN.{length, take, drop, getD, set, length-append, length-set, drop-of
 use lib.Seq.{sets, length-sets, sets-eq, drop-cons, length-take-le, take-at}
 use borrow.Author.Tests.{leb-true, leb-false}
 use Rattle.model.proofs.Cases.{by-test}
-use Rattle.service_headers.proofs.Runs.{sets-append, sets-past}
+use Rattle.basics.proofs.Runs.{sets-append, sets-past}
 use Rattle.program_records.specs.Laid.{Laid, Whole}
 use Rattle.program_records.specs.Text.{digit, hexByte, hex}
 

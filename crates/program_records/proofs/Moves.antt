@@ -10,7 +10,7 @@ use lib.ListN.{length, take, drop, getD, set, length-take, length-drop, drop-of-
 use lib.Seq.{sets, drop-cons, drop-set-lt, take-all, take-nil}
 use borrow.Author.Tests.{leb-true, leb-false}
 use Rattle.model.proofs.Cases.{by-test}
-use Rattle.service_headers.proofs.Runs.{sets-front}
+use Rattle.basics.proofs.Runs.{sets-front}
 use Rattle.program_records.specs.Laid.{Moved, between}
 
 -- a part that begins past the end, one that goes past it, and one that is there

@@ -8,6 +8,8 @@ ghost use lib.ListN.{length, getD, take, drop};
 ghost use Rattle.program_records.specs.Reading.{canBe, foundIn, missing, highestFirst};
 ghost use Rattle.program_records.specs.Laid.{Laid, Moved, between};
 ghost use Rattle.program_records.specs.Text.{word, digit, hexByte, hex, decimal};
+use basics::lesser;
+use basics::put_bytes;
 
 // What stands in a buffer from a place on.
 pub enum Found {
@@ -128,7 +130,7 @@ pub fn number_at(bytes: &[u8], at: usize) -> u32
 pub fn move_to_front(bytes: &mut [u8], from: usize, to: usize) -> usize
     ensures { λ r. ⌜ Moved (between from to (now (bytes .entry))) (now (bytes .entry)) r (now (bytes .exit)) ⌝ }
 {
-    let end = service_headers::lesser(to, bytes.len());
+    let end = lesser(to, bytes.len());
     let mut i = from;
     let mut o = 0;
     while i < end {
@@ -162,12 +164,12 @@ pub fn put_newline(out: &mut [u8], at: usize) -> usize
 pub fn put_word(out: &mut [u8], at: usize, word: &[u8]) -> usize
     ensures { λ r. ⌜ Laid (now (word .entry)) (now (out .entry)) at r (now (out .exit)) ⌝ }
 {
-    service_headers::put_bytes(out, at, word);
+    put_bytes(out, at, word);
     let n = out.len();
     if n <= at {
         return n;
     }
-    at + service_headers::lesser(n - at, word.len())
+    at + lesser(n - at, word.len())
 }
 
 // The digit of a number below 16.
@@ -194,7 +196,7 @@ pub fn put_hex(out: &mut [u8], at: usize, bytes: &[u8]) -> usize
     if n <= at {
         return n;
     }
-    let whole = service_headers::lesser((n - at) / 2, bytes.len());
+    let whole = lesser((n - at) / 2, bytes.len());
     let mut i = 0;
     let mut o = at;
     while i < whole {

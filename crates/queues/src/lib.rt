@@ -1,4 +1,6 @@
 // The slots of a multiplexer, and the test whether they are written packets: the one being sent, and those that wait.
+use basics::MOST_PACKET;
+use basics::MOST_PACKETS;
 use slots::Slot;
 ghost use mathlib.Core.Path.{_≡_};
 ghost use mathlib.Core.Bool.{_&&_};
@@ -9,12 +11,6 @@ ghost use Rattle.model.specs.Lists.{every};
 ghost use Rattle.slots.specs.Slot.{writtenSlot};
 ghost use Rattle.queues.specs.Written.{validSlots};
 ghost use Rattle.queues.specs.Steps.{writtenIf, sendsWhole};
-
-// The packets that wait, beside the one being sent.
-const MOST_PACKETS: usize = 16;
-
-// The bytes of the longest packet.
-const MOST_PACKET: usize = 128;
 
 // Whether the slots are within their limits: `sending`, of which `sent` bytes have left, and the first `count` of the queue.
 pub fn slots_written(sending: Slot, sent: usize, packets: [Slot; 16], count: usize) -> bool

@@ -4,6 +4,8 @@
 ghost use mathlib.Core.Path.{_≡_};
 ghost use Prim.Native.Nat.{_≤_};
 ghost use lib.ListN.{length};
+use basics::MOST_PACKET;
+use basics::wide;
 use libc::STDIN_FILENO;
 use libc::STDOUT_FILENO;
 use packet::DTVCCPacket;
@@ -13,9 +15,6 @@ use parser::Item;
 // How many readings there are.
 const READINGS: usize = 1000000;
 
-// The most bytes of a packet: more are frames.
-const MOST_PACKET: usize = 128;
-
 // No frame leaves more to draw than 31 pairs and 32 packets, and once nothing is drawn.
 const MOST_DRAWS: usize = 64000001;
 
@@ -24,13 +23,6 @@ struct Totals {
     items: u64,
     sum: u64,
     parser: CCDataParser,
-}
-
-// A byte as a number.
-fn wide(b: u8) -> usize
-    ensures { λ r. ⌜ r ≤ 255 ⌝ }
-{
-    b as usize
 }
 
 // 31 times the sum and x, without the carry.

@@ -11,6 +11,7 @@ ghost use Rattle.program_records.specs.Text.{word};
 ghost use Rattle.service.specs.Service.{blockOf};
 ghost use Rattle.program_lines.specs.Lines.{answerText, blockText};
 ghost use Rattle.script_answers.specs.Script.{answerLine, lentLine, runLine, blockMeasures, packetMeasures, durations, countOf, together, readBlockLine, blocksText, blocksIn, heldText, readPacketLine, itemLine};
+use basics::MOST_BLOCKS;
 use caption::Answer;
 use caption::Counted;
 use caption::Refusal;
@@ -23,9 +24,6 @@ use program_records::put_word;
 use service::Service;
 use writer::CCDataWriter;
 use writer::Micros;
-
-// No packet holds more blocks.
-const MOST_BLOCKS: usize = 63;
 
 // An operation that there is not, or one with too few or too many argument bytes.
 pub fn put_bad_line(out: &mut [u8], at: usize) -> usize

@@ -20,7 +20,7 @@ use Rattle.service.specs.declared.ServiceAnswer.{ServiceAnswer}
 use Rattle.service_headers.specs.declared.Head.the-variants.{Whole, Short}
 use Rattle.service_headers.specs.Head.{headOf, lengthFor}
 use Rattle.service.specs.Service.{Answers, Writes, blockOf, over, blank, validService}
-use Rattle.service_headers.proofs.Runs.{sets-front, sets-behind}
+use Rattle.basics.proofs.Runs.{sets-front, sets-behind}
 use Rattle.service_headers.proofs.Heads.{headed, head-short, length-of, laid-block}
 
 -- a block and the places that it is laid in

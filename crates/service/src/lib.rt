@@ -7,16 +7,14 @@ ghost use Rattle.caption.specs.Answers.{saidRefusal, saidAnswer, saidCounted, s
 ghost use Rattle.model.specs.Said.{checked, measured};
 ghost use Rattle.model.specs.Block.{partIn, writtenBlock, newBlock, readBlock, blockLength, blockRoom, pushToBlock};
 ghost use Rattle.service.specs.Service.{Answers, Writes, blockOf, blank, validService};
+use basics::MOST_NUMBER;
+use basics::MOST_PAYLOAD;
+use basics::put_bytes;
 use caption::Answer;
 use caption::Counted;
 use caption::Refusal;
 use caption::Truth;
 use service_headers::Head;
-
-// The most bytes of a payload, and the largest number.
-const MOST_PAYLOAD: usize = 31;
-
-const MOST_NUMBER: u8 = 63;
 
 // A block: the first `len` bytes of `payload` are its payload.
 pub struct Service {
@@ -153,7 +151,7 @@ impl Service {
         if MOST_PAYLOAD - len < n {
             return refused(Refusal::WouldOverflow(n - (MOST_PAYLOAD - len)), self);
         }
-        service_headers::put_bytes(&mut payload, len, code);
+        put_bytes(&mut payload, len, code);
         ServiceAnswer {
             answer: Answer::Accepted,
             service: Service {
@@ -196,7 +194,7 @@ impl Service {
             };
         }
         let end = start + size;
-        service_headers::put_bytes(&mut payload, 0, &data[start..end]);
+        put_bytes(&mut payload, 0, &data[start..end]);
         ServiceAnswer {
             answer: Answer::Accepted,
             service: Service {
@@ -223,7 +221,7 @@ impl Service {
             return Counted::Refused(Refusal::OutShort { needed: total });
         }
         service_headers::put_header(out, 0, number, len as u8);
-        service_headers::put_bytes(out, start, &payload[0..len]);
+        put_bytes(out, start, &payload[0..len]);
         Counted::Count(total)
     }
 }

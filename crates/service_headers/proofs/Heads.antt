@@ -17,7 +17,7 @@ use Rattle.model.proofs.Limits.{all-there}
 use Rattle.service_headers.specs.declared.Head.{Head}
 use Rattle.service_headers.specs.declared.Head.the-variants.{Whole, Short}
 use Rattle.service_headers.specs.Head.{headOf, HeadBy, lengthFor}
-use Rattle.service_headers.proofs.Runs.{sets-append}
+use Rattle.basics.proofs.Runs.{sets-append}
 
 -- the header's own length
 pub two-bytes : (h : ℕ) → h / 32 % 8 ≡ 7 → (h % 32 ≡ 0 → ⊥) → 2 ≡ headerLength h

@@ -1,4 +1,4 @@
-// The header of a block, read and written, and bytes laid into a buffer.
+// The header of a block, read and written.
 ghost use mathlib.Core.Path.{_≡_};
 ghost use Prim.Native.Nat.{_%_, min};
 ghost use lib.ListN.{take, drop};
@@ -8,6 +8,7 @@ ghost use lib.Dec.{ltb};
 ghost use Rattle.caption.specs.Answers.{saidRefusal};
 ghost use Rattle.model.specs.Block.{headerLength, writtenHeader};
 ghost use Rattle.service_headers.specs.Head.{headOf, HeadBy, lengthFor, saidShort};
+use basics::lesser;
 use caption::Refusal;
 
 // What the header of a block says: its number, where its payload starts and how long it is; or how many bytes are needed.
@@ -20,32 +21,6 @@ pub enum Head {
     Short {
         needed: usize,
     },
-}
-
-// The lesser of two counts.
-pub fn lesser(a: usize, b: usize) -> usize
-    ensures { λ r. ⌜ r ≡ min a b ⌝ }
-{
-    if a < b {
-        return a;
-    }
-    b
-}
-
-// Lays `src` into `dst`, from `at` on, as far as there is room.
-pub fn put_bytes(dst: &mut [u8], at: usize, src: &[u8])
-    ensures { λ _. ⌜ now (dst .exit) ≡ sets (now (dst .entry)) at (now (src .entry)) ⌝ }
-{
-    let n = dst.len();
-    if n <= at {
-        return;
-    }
-    let count = lesser(n - at, src.len());
-    let mut i = 0;
-    while i < count {
-        dst[at + i] = src[i];
-        i += 1;
-    }
 }
 
 // How many bytes the header that begins with `h` has.

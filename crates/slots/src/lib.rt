@@ -4,12 +4,11 @@ ghost use Prim.Native.Nat.{_+_, _≤_};
 ghost use lib.ListN.{length, getD, take, drop};
 ghost use Rattle.slots.specs.Slot.{writtenSlot};
 ghost use Rattle.slots.specs.Walk.{blockSpan, wholeBlocks};
+use basics::MOST_PACKET;
+use basics::wide;
 
 // The fewest bytes of a packet that is not empty.
 const LEAST_PACKET: usize = 3;
-
-// The most bytes of a packet.
-const MOST_PACKET: usize = 128;
 
 // An encoded packet in a queue: its length, and from place 0 the bytes that it is written in. In the multiplexer's queue
 // 0x00 follows them if the length is odd.
@@ -41,13 +40,6 @@ impl Slot {
         }
         blocks_whole(&bytes, len)
     }
-}
-
-// A byte as a number.
-fn wide(b: u8) -> usize
-    ensures { λ r. ⌜ (r ≡ b) × (r ≤ 255) ⌝ }
-{
-    b as usize
 }
 
 // Whether the bytes from the second to the last of `len` are written blocks, one after another.

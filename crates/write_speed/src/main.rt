@@ -1,6 +1,7 @@
 // Writes a thousand frames for each byte of its input at 30000/1001 with both paddings on, to set the time beside the crate's (`oracle/src/bin/write_speed.rs`). A pair of
 // each field goes in before each frame, and a packet of 40 bytes before nine frames of ten: as much as the frames carry away. The line written
 // is how many bytes the frames have and a sum over each of them, so that no writing can be left out, and both programs write the same.
+use basics::MOST_FRAME;
 use caption::Cea608;
 use caption::Counted;
 use caption::Framerate;
@@ -12,9 +13,6 @@ use writer::CCDataWriter;
 
 // The pairs of a thousand frames.
 const PAIRS: usize = 2000;
-
-// The bytes of the longest frame.
-const MOST_FRAME: usize = 95;
 
 // The bytes of every frame so far, and the sum over them.
 struct Totals {

@@ -21,7 +21,7 @@ use Rattle.caption.specs.declared.Answer.the-variants as answer
 use Rattle.caption.specs.declared.Refusal.{Refusal}
 use Rattle.caption.specs.declared.Refusal.the-variants.{BadValue, Full}
 use Rattle.service.specs.Service.{Writes}
-use Rattle.service_headers.proofs.Runs.{sets-front}
+use Rattle.basics.proofs.Runs.{sets-front}
 use Rattle.packet.specs.Packet.{packetOf, validDTVCC}
 use Rattle.packet.proofs.Holds.{within-facts, held-valid}
 use Rattle.packet.specs.declared.DTVCCPacket.{DTVCCPacket}

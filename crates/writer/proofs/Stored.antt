@@ -20,7 +20,7 @@ use Rattle.model.proofs.MuxStates.{MuxLimits, mux-facts, pads-valid, push608-va
 use Rattle.writer_turns.specs.Queue.{pairsOf, queueOf, pairBytes, queueOver}
 use Rattle.writer_turns.proofs.Queues.{over-same, over-queue, over-sized}
 use Rattle.writer_turns.proofs.Steps.{not-not}
-use Rattle.service_headers.proofs.Runs.{sets-front}
+use Rattle.basics.proofs.Runs.{sets-front}
 use Rattle.slots.specs.Slot.{slotWith, writtenBytes, slotPacket, writtenSlot}
 use Rattle.slots.proofs.Written.{slot-reads, facts-written}
 use Rattle.slots.specs.declared.Slot.{Slot}

@@ -1,4 +1,6 @@
 // The multiplexer: packets and CEA-608 pairs in, frames of `cc_data` out.
+use basics::MOST_PACKETS;
+use basics::MOST_QUEUED;
 use caption::Answer;
 use caption::Budgets;
 use caption::Cea608;
@@ -26,12 +28,6 @@ ghost use Rattle.packet.specs.Packet.{packetOf, validDTVCC};
 ghost use Rattle.writer.specs.Writer.{means, validWriter, fresh, stored, emptied};
 ghost use Rattle.writer.specs.Calls.{saidMicros, Answers, Writes};
 ghost use Rattle.writer.specs.Making.{refusedOf, builtFrom, unmadeOf, withFields, pairOutcome, Stores, Makes};
-
-// The packets that wait, beside the one being sent.
-const MOST_PACKETS: usize = 16;
-
-// The pairs that wait, of each field.
-const MOST_QUEUED: usize = 64;
 
 // The multiplexer: the two switches, the queue of packets, the packet being sent and how many of its bytes have left, each field's queue,
 // and whether field 2 has the next turn.

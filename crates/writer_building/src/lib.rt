@@ -1,4 +1,6 @@
 // A frame put together: the turns of the two fields, the packet triples and the padding, and what they leave.
+use basics::MOST_QUEUED;
+use basics::lesser;
 use caption::Counted;
 use slots::Slot;
 use writer_frames::Frame;
@@ -11,9 +13,6 @@ ghost use mathlib.Core.Path.{_≡_};
 ghost use Prim.Native.Nat.{max};
 ghost use lib.ListN.{take};
 ghost use Rattle.writer_building.specs.Building.{turnsOf, madeOf, built};
-
-// The pairs that wait, of each field.
-const MOST_QUEUED: usize = 64;
 
 // What writing a frame answers, the frame, and what it leaves of the state: each field's queue, whose turn is next, the packet being sent and
 // how many of its bytes have left; `next` packets of the queue were begun.
@@ -42,10 +41,7 @@ fn turns_of(pad: bool, pairs: usize, n1: usize, n2: usize) -> usize
     if pad {
         return pairs;
     }
-    service_headers::lesser(
-        pairs,
-        greater(n1, 2 * service_headers::lesser(n2, MOST_QUEUED)),
-    )
+    lesser(pairs, greater(n1, 2 * lesser(n2, MOST_QUEUED)))
 }
 
 // The frame after its turns and its packet triples, and what they leave.

@@ -8,15 +8,9 @@ ghost use lib.ListN.{getD};
 ghost use lib.Seq.{sets};
 ghost use Rattle.model.specs.Frame.{flat, mostFrame};
 ghost use Rattle.writer_frames.specs.Frame.{headed, appended, mark, triplesAt, fillers, fits, carries, emitted};
-
-// The bytes of the longest frame.
-const MOST_FRAME: usize = 95;
-
-// The most triples of a frame.
-const MOST_TRIPLES: usize = 31;
-
-// The bytes of the longest packet.
-const MOST_PACKET: usize = 128;
+use basics::MOST_FRAME;
+use basics::MOST_PACKET;
+use basics::MOST_TRIPLES;
 
 // A frame: its first `len` bytes are there.
 pub struct Frame {

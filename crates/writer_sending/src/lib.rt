@@ -1,4 +1,7 @@
 // The packet triples of a frame, slot by slot: how many are due, and those that leave. Slots are taken as they are: what they hold is not looked at.
+use basics::MOST_PACKET;
+use basics::MOST_PACKETS;
+use basics::lesser;
 use slots::Slot;
 use writer_frames::Frame;
 ghost use mathlib.Core.Path.{_≡_};
@@ -6,12 +9,6 @@ ghost use Prim.Native.Nat.{_+_, _-_, _*_, _/_, _≤_, min, max};
 ghost use lib.ListN.{take, drop};
 ghost use lib.Seq.{sets};
 ghost use Rattle.writer_sending.specs.Slots.{triplesLeft, triplesOf, lengthsIn, countOf, finished, sentOver, rested, filled};
-
-// The packets that wait, beside the one being sent.
-const MOST_PACKETS: usize = 16;
-
-// The bytes of the longest packet.
-const MOST_PACKET: usize = 128;
 
 // Where sending stands: the packet being sent and how many of its bytes have left, how many packets of the queue were begun, and the frame.
 pub struct Sending {
@@ -41,7 +38,7 @@ fn finish(s: Sending, left: usize) -> Sending
 {
     let slot = s.slot;
     let sent = s.sent;
-    let n = service_headers::lesser(left, triples_left(slot.len, sent));
+    let n = lesser(left, triples_left(slot.len, sent));
     let f = s.frame;
     let bytes = slot.bytes;
     let frame = f.carry(bytes, sent, n);
@@ -58,7 +55,7 @@ fn send(packets: [Slot; 16], count: usize, start: Sending, left: usize) -> Sendi
     requires { ⌜ start .next ≡ 0 ⌝ }
     ensures { λ r. ⌜ r ≡ sentOver (take count packets) left start ⌝ }
 {
-    let queued = service_headers::lesser(count, MOST_PACKETS);
+    let queued = lesser(count, MOST_PACKETS);
     let mut s = start;
     let mut m = left;
     let mut i: usize = 0;
@@ -89,7 +86,7 @@ fn send(packets: [Slot; 16], count: usize, start: Sending, left: usize) -> Sendi
 fn unsent(packets: [Slot; 16], count: usize, slot: Slot, sent: usize) -> usize
     ensures { λ r. ⌜ r ≡ triplesLeft (slot .len) sent + triplesOf (take count packets) ⌝ }
 {
-    let queued = service_headers::lesser(count, MOST_PACKETS);
+    let queued = lesser(count, MOST_PACKETS);
     let mut sum = triples_left(slot.len, sent);
     let mut i: usize = 0;
     while i < queued {
@@ -118,7 +115,7 @@ pub fn count_of(
     if triples <= turns {
         return triples;
     }
-    turns + service_headers::lesser(triples - turns, unsent(packets, count, slot, sent))
+    turns + lesser(triples - turns, unsent(packets, count, slot, sent))
 }
 
 // The triples that a frame of `len` bytes lacks up to a count.
@@ -202,7 +199,7 @@ fn length_in(held: Slot) -> usize
 pub fn bytes_left(packets: [Slot; 16], count: usize, slot: Slot, sent: usize) -> usize
     ensures { λ r. ⌜ (r ≡ lengthsIn (take count packets) + 3 * triplesLeft (slot .len) sent) × (r ≤ 4096) ⌝ }
 {
-    let queued = service_headers::lesser(count, MOST_PACKETS);
+    let queued = lesser(count, MOST_PACKETS);
     let mut sum = 3 * triples_left(slot.len, sent);
     let mut i: usize = 0;
     while i < queued {
@@ -217,7 +214,7 @@ pub fn bytes_left(packets: [Slot; 16], count: usize, slot: Slot, sent: usize) ->
 pub fn move_down(packets: [Slot; 16], count: usize, begun: usize) -> [Slot; 16]
     ensures { λ r. ⌜ r ≡ sets packets 0 (drop begun (take count packets)) ⌝ }
 {
-    let end = service_headers::lesser(count, MOST_PACKETS);
+    let end = lesser(count, MOST_PACKETS);
     let mut left = packets;
     let mut i = if begun == 0 { end } else { begun };
     while i < end {

@@ -13,7 +13,7 @@ use lib.Seq.{length-take-le, take-at, take-all, sets, length-sets}
 use Rattle.model.specs.Said.{Said, Outcome, after, says, mapped, checked, badValue, full, accepted}
 use Rattle.model.specs.Frame.{Pair, pair}
 use Rattle.model.specs.Mux.{isNull, pushPair, queued, mostQueued}
-use Rattle.service_headers.proofs.Runs.{sets-append, sets-front}
+use Rattle.basics.proofs.Runs.{sets-append, sets-front}
 use Rattle.writer_turns.specs.Queue.{pairsOf, queueOf, pairBytes, queueOver}
 use Rattle.writer_turns.specs.Step.{pushed}
 use Rattle.writer_turns.specs.declared.PairQueue.{PairQueue}

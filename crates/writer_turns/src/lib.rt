@@ -1,7 +1,8 @@
 // The 608 part of a frame: the queue of a field, and the turns that the two fields take.
+use basics::MOST_QUEUED;
+use basics::put_bytes;
 use caption::Answer;
 use caption::Refusal;
-use service_headers::put_bytes;
 use writer_frames::Frame;
 use writer_frames::put;
 ghost use mathlib.Core.Path.{_≡_};
@@ -16,9 +17,6 @@ ghost use Rattle.caption.specs.Answers.{saidAnswer};
 ghost use Rattle.writer_turns.specs.Queue.{pairsOf, queueOf, queueOver};
 ghost use Rattle.writer_turns.specs.Turn.{fits, takenFrom};
 ghost use Rattle.writer_turns.specs.Step.{Done};
-
-// The places of a field's queue.
-const MOST_QUEUED: usize = 64;
 
 // A field's queue: 64 places of two bytes, of which `count` are taken. The first leaves next.
 pub struct PairQueue {

@@ -1,6 +1,6 @@
 -- `service_headers::put_header` meets its contract: one law of `Heads` for each way in which a header is laid, and nothing is laid past the end. Assumes nothing.
 use borrow.Author.Needs.{needs}
-use Rattle.service_headers.proofs.Runs.{sets-past}
+use Rattle.basics.proofs.Runs.{sets-past}
 use Rattle.service_headers.proofs.Heads.{laid-one, laid-two, laid-cut}
 use Rattle.service_headers.proofs.put_header.Statement.{statement}
 use Rattle.service_headers.proofs.put_header.Tie as tie

@@ -1,4 +1,4 @@
--- `service_headers::put_bytes` meets its contract. The invariant: the first `i` bytes of the run are laid, and as many bytes are due as there is room for or
+-- `basics::put_bytes` meets its contract. The invariant: the first `i` bytes of the run are laid, and as many bytes are due as there is room for or
 -- the run has. The measure is the bytes still due. Assumes nothing.
 use mathlib.Core.Path.{_≡_, refl}
 use Prim.Native.Nat.{_≤_, _<_, _-_, min}
@@ -6,9 +6,9 @@ use native.Mathlib.Omega.{arith}
 use lib.ListN.{length, take, length-set}
 use lib.Seq.{sets}
 use borrow.Author.Needs.{needs}
-use Rattle.service_headers.proofs.Runs.{sets-past, sets-more, sets-all}
-use Rattle.service_headers.proofs.put_bytes.Statement.{statement}
-use Rattle.service_headers.proofs.put_bytes.Tie as tie
+use Rattle.basics.proofs.Runs.{sets-past, sets-more, sets-all}
+use Rattle.basics.proofs.put_bytes.Statement.{statement}
+use Rattle.basics.proofs.put_bytes.Tie as tie
 
 -- `i` bytes of those that are due are laid, and nothing else has changed
 abbrev Inv-loop : tie.InvT-loop

@@ -1,0 +1,64 @@
+// What every part shares: the sizes of the rule book, the lesser of two counts, a byte as a number, and bytes laid into a buffer.
+ghost use mathlib.Core.Path.{_≡_};
+ghost use Prim.Native.Nat.{_≤_, min};
+ghost use lib.Seq.{sets};
+
+// The most bytes of a packet.
+pub const MOST_PACKET: usize = 128;
+
+// The most blocks of a packet.
+pub const MOST_BLOCKS: usize = 63;
+
+// The most payload bytes of a block.
+pub const MOST_PAYLOAD: usize = 31;
+
+// The highest number of a service.
+pub const MOST_NUMBER: u8 = 63;
+
+// The most bytes of a frame.
+pub const MOST_FRAME: usize = 95;
+
+// The most triples of a frame.
+pub const MOST_TRIPLES: usize = 31;
+
+// The most packets that wait to be drawn.
+pub const MOST_WAITING: usize = 32;
+
+// The most packets that wait to be sent, beside the one being sent.
+pub const MOST_PACKETS: usize = 16;
+
+// The most pairs of a field that wait to be sent.
+pub const MOST_QUEUED: usize = 64;
+
+// The lesser of two counts.
+pub fn lesser(a: usize, b: usize) -> usize
+    ensures { λ r. ⌜ r ≡ min a b ⌝ }
+{
+    if a < b {
+        return a;
+    }
+    b
+}
+
+// A byte as a number.
+pub fn wide(b: u8) -> usize
+    ensures { λ r. ⌜ (r ≡ b) × (r ≤ 255) ⌝ }
+{
+    b as usize
+}
+
+// Lays `src` into `dst`, from `at` on, as far as there is room.
+pub fn put_bytes(dst: &mut [u8], at: usize, src: &[u8])
+    ensures { λ _. ⌜ now (dst .exit) ≡ sets (now (dst .entry)) at (now (src .entry)) ⌝ }
+{
+    let n = dst.len();
+    if n <= at {
+        return;
+    }
+    let count = lesser(n - at, src.len());
+    let mut i = 0;
+    while i < count {
+        dst[at + i] = src[i];
+        i += 1;
+    }
+}
