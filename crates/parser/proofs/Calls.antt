@@ -12,7 +12,7 @@ use Rattle.caption.specs.Answers.{saidCounted}
 use Rattle.model.specs.Said.{measured}
 use Rattle.model.specs.Demux.{Demux, Taken, quiet}
 use Rattle.parser_triples.specs.Pairs.{placedAll}
-use Rattle.parser_rings.specs.Ring.{setRound}
+use Rattle.parser_rings.specs.Ring.{withRuns}
 use Rattle.parser.specs.Means.{means}
 use Rattle.parser.specs.Valid.{valid}
 use Rattle.parser.specs.Calls.{laidIn, laidAfter, Answers}
@@ -53,7 +53,7 @@ pub turned-is : (p : CCDataParser) → Sound p
       waiting = p .waiting;
     }
     ≡ turnedOn p
-unfolding laidAfter laidIn setRound means placedAll
+unfolding laidAfter laidIn withRuns means placedAll
 turned-is p s =
     let v = sound-fine p s in
     rw (pending-many p v (s .shaped), pending-same p v (s .shaped), head-stays (p .«waiting_first») (p .«waiting_count») (length (means p .waiting)) (omega (arith, waiting-count p v)), waiting-count p v)

@@ -2,10 +2,12 @@
 use mathlib.Core.Path.{_≡_, refl, sym, ap, _∙_}
 use mathlib.Core.List.{List, [], _∷_, _++_, map, append-nil}
 use mathlib.Core.Option.{Option, none, some}
-use Prim.Native.Nat.{ℕ, _+_, _*_, _≤_}
+use Prim.Native.Nat.{ℕ, zero, suc, _+_, _*_, _≤_}
 use native.Mathlib.Omega.{arith}
 use lib.ListN.{length, getD, drop, length-append}
 use lib.Dec.{eqb, ltb}
+use borrow.Author.Tests.{ne-eqb}
+use Rattle.model.specs.Lists.{every}
 use Rattle.model.specs.Packet.{Packet}
 use Rattle.model.specs.Frame.{Cea608, Seen, seenAll, triplesIn, countIn}
 use Rattle.model.specs.Demux.{Demux, Gathered, Taken, packetsOf, pairsIn, lateFrom, gathered, takeGathered, takeTriples, unread, takeFrame}
@@ -14,7 +16,7 @@ use Rattle.model.proofs.Lists.{every-append}
 use Rattle.model.proofs.Frames.{Read, packets-append, packets-many, gathered-read}
 use Rattle.model.proofs.Frames as frames
 use Rattle.slots.specs.declared.Slot.{Slot}
-use Rattle.parser_rings.specs.Ring.{ringFrom, slotRun, slotFine, setRound}
+use Rattle.parser_rings.specs.Ring.{ringFrom, slotRun, slotFine, setRound, clearedFor, withRuns}
 use Rattle.parser_rings.proofs.Rings.{slotOfRun, round-length, ring-laid, runs-again, runs-fine}
 use Rattle.parser.proofs.Laid.{Stands}
 
@@ -69,7 +71,7 @@ module _ (f n : ℕ) (l : List Slot) (ps : List Packet) (gs : List (List ℕ)) (
   laid-ring = rw many (ring-laid n f l gs (omega (arith, many)) (old .places))
 
   -- it stands
-  pub delivered-stands : Stands f (setRound (f + n) l gs) (ps ++ packetsOf gs)
+  delivered-stands : Stands f (setRound (f + n) l gs) (ps ++ packetsOf gs)
   delivered-stands =
       record {
         first = old .first;
@@ -79,3 +81,17 @@ module _ (f n : ℕ) (l : List Slot) (ps : List Packet) (gs : List (List ℕ)) (
             rw (laid-ring, runs-append (ringFrom f n l) (map slotOfRun gs), runs-again r, packets-append (map slotRun (ringFrom f n l)) gs)
             (ap (λ (x : List Packet). x ++ packetsOf gs) (rw counted at (old .packets)));
       }
+
+-- the slots that runs come to stand as those that wait do
+cleared-stands : (f n : ℕ) (l : List Slot) (ps : List Packet) → length ps ≡ n → Stands f l ps → Stands f (clearedFor n l) ps
+unfolding clearedFor ringFrom packetsOf every
+cleared-stands f zero l [] e s = record { first = s .first; places = refl; reading = refl; packets = refl }
+cleared-stands f zero l (p ∷ ps) e s = absurd (omega arith)
+cleared-stands f (suc n) l ps e s = rw (ne-eqb (suc n) 0 (λ z. omega arith)) s
+
+-- runs behind the slots that wait, cleared ones where none does
+pub runs-stand : (f n : ℕ) (l : List Slot) (ps : List Packet) (gs : List (List ℕ)) → Read gs → length ps ≡ n → Stands f l ps → length (ps ++ packetsOf gs) ≤ 32
+    → Stands f (withRuns f n l gs) (ps ++ packetsOf gs)
+unfolding withRuns packetsOf
+runs-stand f n l ps [] r c s room = rw (append-nil ps) s
+runs-stand f n l ps (g ∷ gs) r c s room = delivered-stands f n (clearedFor n l) ps (g ∷ gs) r c (cleared-stands f n l ps c s) room

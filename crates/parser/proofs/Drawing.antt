@@ -16,7 +16,7 @@ use Rattle.packet.specs.Packet.{laid}
 use Rattle.slots.specs.Slot.{noSlot}
 use Rattle.slots.specs.declared.Slot.{Slot}
 use Rattle.parser_triples.specs.Pairs.{placedAll, pairsOf}
-use Rattle.parser_rings.specs.Ring.{ringFrom, slotRun, slotFine, setRound}
+use Rattle.parser_rings.specs.Ring.{ringFrom, slotRun, slotFine, withRuns}
 use Rattle.parser_rings.specs.Tests.{headFine, behindFine}
 use Rattle.parser_gather.specs.Tests.{pendingFine}
 use Rattle.parser_rings.specs.declared.Front.{Front}
@@ -49,7 +49,7 @@ record Tells (p : CCDataParser) (x : Drawn) (d : model.Drawn) : Type 0 where
 module _ (p : CCDataParser) (v : Fine p) (s : Shaped p) where
   -- a pair
   told-pair : (p .«pair_count» ≡ 0 → ⊥) → Tells p (drawnBy p (takePair (countsOf p) (p .pairs))) (model.draw (means p))
-  unfolding drawnBy takePair model.draw means laidAfter laidIn setRound
+  unfolding drawnBy takePair model.draw means laidAfter laidIn withRuns
   told-pair n =
       let room : 3 * p .«pair_count» ≤ length (p .pairs) = omega (arith, v .few, s .pairs) in
       rw (pairs-drawn (p .pairs) (p .«pair_count») n)
@@ -84,7 +84,7 @@ module _ (p : CCDataParser) (v : Fine p) (s : Shaped p) where
 
     -- a packet
     told-packet : p .«pair_count» ≡ 0 → Tells p (drawnBy p (takePacket (countsOf p) (p .pairs) slot)) (model.draw (means p))
-    unfolding drawnBy takePacket model.draw means laidAfter laidIn setRound packetsOf closed packetAt pairsOf placedAll
+    unfolding drawnBy takePacket model.draw means laidAfter laidIn withRuns packetsOf closed packetAt pairsOf placedAll
     told-packet z =
         let q = slot-read slot (reading .0) in
         rw (ring-is, z, q .1)
@@ -96,7 +96,7 @@ module _ (p : CCDataParser) (v : Fine p) (s : Shaped p) where
 
   -- nothing is left
   told-nothing : p .«pair_count» ≡ 0 → p .«waiting_count» ≡ 0 → Tells p (drawnBy p (takeNone Nothing (countsOf p) (p .pairs))) (model.draw (means p))
-  unfolding drawnBy model.draw means laidAfter laidIn setRound packetsOf pairsOf ringFrom placedAll
+  unfolding drawnBy model.draw means laidAfter laidIn withRuns packetsOf pairsOf ringFrom placedAll
   told-nothing z y = rw (z, y) (record { said = refl; packet = refl; places = rw (pending-many p v s, pending-same p v s, head-stays (p .«waiting_first») 0 0 (omega arith)) })
 
   -- whichever comes

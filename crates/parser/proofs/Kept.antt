@@ -20,7 +20,7 @@ use Rattle.model.proofs.DemuxStates.{demux-facts, on-valid, take-valid, draw-va
 use Rattle.parser_triples.specs.Walk.{seenFrom}
 use Rattle.parser_triples.specs.Pairs.{placedAll, pairsOf}
 use Rattle.parser_triples.proofs.Found.{few-triples}
-use Rattle.parser_rings.specs.Ring.{ringFrom, setRound}
+use Rattle.parser_rings.specs.Ring.{ringFrom, withRuns}
 use Rattle.parser.specs.Means.{means}
 use Rattle.parser.specs.Valid.{inOrder, valid}
 use Rattle.parser.specs.Calls.{laidIn, fresh, headAfter, laidAfter}
@@ -28,7 +28,7 @@ use Rattle.parser.specs.After.{saidOf, turnedOn, pushed, drawn}
 use Rattle.parser.specs.declared.CCDataParser.{CCDataParser}
 use Rattle.parser.proofs.Valids.{Fine, valid-fine, fine-demux, waiting-count}
 use Rattle.parser.proofs.Laid.{Sound, Stands, own-stands, laid-means, laid-same, laid-sound}
-use Rattle.parser.proofs.Delivered.{frame-delivers, delivered-stands}
+use Rattle.parser.proofs.Delivered.{frame-delivers, runs-stand}
 use Rattle.parser.proofs.Firsts.{head-stays, drawn-stands}
 
 -- a fresh state
@@ -57,7 +57,7 @@ module _ (p : CCDataParser) (s : Sound p) where
 
   -- what a call leaves, by what the model's leaves and by its slots
   module _ (t : Taken) (v : validDemux (t .next) ≡ true)
-      (w : Stands (headAfter (p .«waiting_first») (p .«waiting_count») (length (t .next .waiting))) (setRound (p .«waiting_first» + p .«waiting_count») (p .waiting) (t .runs)) (t .next .waiting)) where
+      (w : Stands (headAfter (p .«waiting_first») (p .«waiting_count») (length (t .next .waiting))) (withRuns (p .«waiting_first») (p .«waiting_count») (p .waiting) (t .runs)) (t .next .waiting)) where
     -- it is within the limits,
     after-sound : Sound (laidAfter p t)
     unfolding laidAfter
@@ -70,14 +70,14 @@ module _ (p : CCDataParser) (s : Sound p) where
 
   -- a call that leaves what was there leaves all as it is
   pub laid-still : laidAfter p (quiet (means p)) ≡ p
-  unfolding laidAfter setRound
+  unfolding laidAfter withRuns
   laid-still =
       rw (head-stays (p .«waiting_first») (p .«waiting_count») (length (means p .waiting)) (omega (arith, waiting-count p sound-fine)))
       (laid-same p sound-fine (s .shaped))
 
   -- 608 turned on
-  on-stands : Stands (headAfter (p .«waiting_first») (p .«waiting_count») (length (means p .waiting))) (setRound (p .«waiting_first» + p .«waiting_count») (p .waiting) []) (means p .waiting)
-  unfolding setRound
+  on-stands : Stands (headAfter (p .«waiting_first») (p .«waiting_count») (length (means p .waiting))) (withRuns (p .«waiting_first») (p .«waiting_count») (p .waiting) []) (means p .waiting)
+  unfolding withRuns
   on-stands = rw (head-stays (p .«waiting_first») (p .«waiting_count») (length (means p .waiting)) (omega (arith, waiting-count p sound-fine))) stands
 
   pub turned-sound : Sound (turnedOn p)
@@ -88,11 +88,11 @@ module _ (p : CCDataParser) (s : Sound p) where
 
   -- an item drawn
   pub drawn-sound : Sound (drawn p)
-  unfolding setRound
+  unfolding withRuns
   drawn-sound = rw (s .valid) (after-sound (quiet (model.draw (means p) .next)) (draw-valid (means p) sound-demux) (drawn-stands p sound-fine (s .shaped)))
 
   pub means-drawn : means (drawn p) ≡ model.draw (means p) .next
-  unfolding setRound
+  unfolding withRuns
   means-drawn = rw (s .valid) (after-means (quiet (model.draw (means p) .next)) (draw-valid (means p) sound-demux) (drawn-stands p sound-fine (s .shaped)))
 
 -- a frame
@@ -110,11 +110,11 @@ module _ (p : CCDataParser) (f : List ℕ) (s : Sound p) where
       (rw (frame-delivers (means p) f .waiting) (omega (arith, length-append (means p .waiting) (packetsOf (taken .runs)), waiting-count p (sound-fine p s))))
 
   -- the slots stand with those that it delivers
-  taken-stands : Stands (headAfter (p .«waiting_first») (p .«waiting_count») (length (taken .next .waiting))) (setRound (p .«waiting_first» + p .«waiting_count») (p .waiting) (taken .runs)) (taken .next .waiting)
+  taken-stands : Stands (headAfter (p .«waiting_first») (p .«waiting_count») (length (taken .next .waiting))) (withRuns (p .«waiting_first») (p .«waiting_count») (p .waiting) (taken .runs)) (taken .next .waiting)
   taken-stands =
       let k = frame-delivers (means p) f in
       rw (frame-head, k .waiting)
-      (delivered-stands (p .«waiting_first») (p .«waiting_count») (p .waiting) (means p .waiting) (taken .runs) (k .read) (waiting-count p (sound-fine p s)) (stands p s)
+      (runs-stand (p .«waiting_first») (p .«waiting_count») (p .waiting) (means p .waiting) (taken .runs) (k .read) (waiting-count p (sound-fine p s)) (stands p s)
       (rw (k .waiting) at (demux-facts (taken .next) taken-valid .waiting)))
 
   -- it keeps the limits,

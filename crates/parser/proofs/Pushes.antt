@@ -4,7 +4,7 @@ use mathlib.Core.List.{List}
 use mathlib.Core.Bool.{Bool, true, false, _&&_}
 use Prim.Native.Nat.{ℕ, _≤_, _<_}
 use lib.Dec.{ltb}
-use borrow.Author.Tests.{ltb-true, ltb-false}
+use borrow.Author.Tests.{eq-eqb, ne-eqb, ltb-true, ltb-false}
 use Rattle.caption.specs.declared.Answer.{Answer}
 use Rattle.caption.specs.declared.Answer.the-variants.{Refused}
 use Rattle.caption.specs.declared.Refusal.the-variants.{Full, BadValue}
@@ -21,7 +21,7 @@ use Rattle.parser.specs.Valid.{valid}
 use Rattle.parser.specs.Calls.{laidAfter, Answers}
 use Rattle.parser.specs.After.{pushed}
 use Rattle.parser.specs.Tests.{countsOf, fine}
-use Rattle.parser.specs.Push.{fed, refusedFor, joined}
+use Rattle.parser.specs.Push.{fed, refusedFor, joined, chosen}
 use Rattle.parser.specs.declared.Counts.{Counts}
 use Rattle.parser.specs.declared.CCDataParser.{CCDataParser}
 use Rattle.parser.specs.declared.ParserAnswer.{ParserAnswer}
@@ -82,8 +82,40 @@ module _ (p : CCDataParser) (f : List ℕ) (shaped : Shaped p) (c : Counts) (cou
       pub push-full : (r : ParserAnswer) → 32 < g .waiting → r ≡ fed (refusedFor Full) p → Pushed p f r
       push-full r h e = let t = here .none (rw counted-here at h) in rw e (pushed-by p f _ shaped within (t .0) (t .1 ∙ laid))
 
-      -- a place is left
-      pub push-done : g .waiting ≤ 32
+      -- a place is left: the state with the ring that is kept
+      kept : g .waiting ≤ 32 → Pushed p f (record { answer = q .answer; parser = joined p (record { count = n; places = k }) (chosen p (takenBy g l)) })
+      kept h =
+          let t = here .room (rw counted-here at h) in
+          let e : joined p (record { count = n; places = k }) (chosen p (takenBy g l)) ≡ pushed p f =
+          ap (λ (x : Listing). joined p x (chosen p (takenBy g l))) lists-here
+          ∙ ap (λ (x : Left). joined p (listedBy (q .lists && p .«cea608_on») (p .pairs) f) (chosen p x)) gathers-here ∙ t .1 ∙ laid in
+          pushed-by p f _ shaped within (t .0) e
+
+      -- no packet came,
+      pub push-none : g .waiting ≤ 32 → g .waiting ≡ c .waiting
+          → Pushed p f
+          (record {
+            answer = q .answer;
+            parser = record {
+              «cea608_on» = c .on;
+              «pair_count» = n;
+              pairs = k;
+              «pending_len» = g .pending;
+              pending = l;
+              «waiting_first» = c .first;
+              «waiting_count» = c .waiting;
+              waiting = p .waiting;
+            };
+          })
+      push-none h e =
+          let same : g .waiting ≡ p .«waiting_count» = rw counted at e in
+          let ours : Left = record { pending = g .pending; bytes = l; count = p .«waiting_count»; slots = p .waiting } in
+          let alike : joined p (record { count = n; places = k }) (chosen p (takenBy g l)) ≡ joined p (record { count = n; places = k }) ours =
+          rw (eq-eqb (g .waiting) (p .«waiting_count») same, same) in
+          rw counted (subst (λ (x : CCDataParser). Pushed p f (record { answer = q .answer; parser = x })) alike (kept h))
+
+      -- or some did
+      pub push-done : g .waiting ≤ 32 → (g .waiting ≡ c .waiting → ⊥)
           → Pushed p f
           (record {
             answer = q .answer;
@@ -98,8 +130,4 @@ module _ (p : CCDataParser) (f : List ℕ) (shaped : Shaped p) (c : Counts) (cou
               waiting = g .slots;
             };
           })
-      push-done h =
-          let t = here .room (rw counted-here at h) in
-          let e : joined p (record { count = n; places = k }) (takenBy g l) ≡ pushed p f =
-          ap (λ (x : Listing). joined p x (takenBy g l)) lists-here ∙ ap (λ (x : Left). joined p (listedBy (q .lists && p .«cea608_on») (p .pairs) f) x) gathers-here ∙ t .1 ∙ laid in
-          rw counted (pushed-by p f (record { answer = q .answer; parser = joined p (record { count = n; places = k }) (takenBy g l) }) shaped within (t .0) e)
+      push-done h e = let other : (g .waiting ≡ p .«waiting_count» → ⊥) = rw counted at e in rw counted (rw (ne-eqb (g .waiting) (p .«waiting_count») other) at (kept h))

@@ -1,13 +1,14 @@
 -- A frame does to a state what it does to the model's demultiplexer: what the code puts together is what is laid over the places. Assumes nothing.
 use mathlib.Core.Path.{_≡_, refl, sym, ap, _∙_}
-use mathlib.Core.List.{List, [], _++_, append-nil}
+use mathlib.Core.List.{List, [], _∷_, _++_, append-nil}
 use mathlib.Core.Bool.{Bool, true, false, cond, _&&_}
 use mathlib.Core.Option.{Option, none, some}
 use Prim.Native.Nat.{ℕ, _+_, _*_, _≤_, _<_}
 use native.Mathlib.Omega.{arith}
 use lib.ListN.{length, getD, length-append}
 use lib.Dec.{eqb}
-use borrow.Author.Tests.{le-leb, eqb-true}
+use lib.Seq.{sets}
+use borrow.Author.Tests.{le-leb, eq-eqb, ne-eqb, eqb-true}
 use Rattle.caption.specs.declared.Answer.{Answer}
 use Rattle.caption.specs.declared.Answer.the-variants.{Accepted, Refused}
 use Rattle.caption.specs.declared.Refusal.the-variants as refusal
@@ -22,13 +23,13 @@ use Rattle.parser_triples.specs.Walk.{seenFrom}
 use Rattle.parser_triples.specs.Listing.{Listing, listedBy}
 use Rattle.parser_triples.specs.Plan.{plan, planFound, planOf}
 use Rattle.parser_triples.specs.declared.Plan.{Plan}
-use Rattle.parser_rings.specs.Ring.{setRound}
+use Rattle.parser_rings.specs.Ring.{clearedFor, withRuns}
 use Rattle.parser_gather.specs.Tests.{readyFor}
 use Rattle.parser_gather.specs.Gather.{Left, leftOf, gatheredBy}
 use Rattle.parser_gather.proofs.Pending.{fine-pending}
 use Rattle.parser.specs.Means.{means, Shaped}
 use Rattle.parser.specs.Calls.{laidIn}
-use Rattle.parser.specs.Push.{joined}
+use Rattle.parser.specs.Push.{joined, chosen}
 use Rattle.parser.specs.declared.CCDataParser.{CCDataParser}
 use Rattle.parser.proofs.Valids.{Fine, waiting-count}
 use Rattle.parser.proofs.Laid.{pending-many, pending-same, laid-same}
@@ -41,11 +42,11 @@ cond-same false x = refl
 
 -- what is laid after a frame
 abbrev pub after : CCDataParser → Taken → CCDataParser
-after p t = laidIn (p .pairs) (p .pending) (p .«waiting_first») (setRound (p .«waiting_first» + p .«waiting_count») (p .waiting) (t .runs)) (t .next)
+after p t = laidIn (p .pairs) (p .pending) (p .«waiting_first») (withRuns (p .«waiting_first») (p .«waiting_count») (p .waiting) (t .runs)) (t .next)
 
 -- what is told of a frame where there is a place, and where there is none: the answer, and what is laid after it
 pub record Tells (p : CCDataParser) (a : Answer) (l : Listing) (g : Left) (t : Taken) : Type 0 where
-  pub room : g .count ≤ 32 → (saidAnswer a ≡ t .answer) × (joined p l g ≡ after p t)
+  pub room : g .count ≤ 32 → (saidAnswer a ≡ t .answer) × (joined p l (chosen p g) ≡ after p t)
   pub none : 32 < g .count → (full ≡ t .answer) × (p ≡ after p t)
 
 -- the frame by its plan
@@ -55,29 +56,50 @@ Told p q f t =
     (gatheredBy (q .gathers) (p .«waiting_first») (p .«waiting_count») (p .waiting) (p .«pending_len») (p .pending) f) t
 
 module _ (p : CCDataParser) (v : Fine p) (s : Shaped p) where
-  -- what is gathered, in the places of the state
+  -- what is gathered, in the places of the state: what the code leaves,
   abbrev leaves : model.Gathered → Left
-  leaves o = leftOf (p .«waiting_first») (p .«waiting_count») (p .waiting) (p .pending) o
+  leaves o = leftOf (p .«waiting_first») (p .«waiting_count») (clearedFor (p .«waiting_count») (p .waiting)) (p .pending) o
+
+  -- and what is kept of it
+  abbrev keeps : model.Gathered → Left
+  keeps o =
+      record {
+        pending = length (o .bytes);
+        bytes = sets (p .pending) 0 (o .bytes);
+        count = p .«waiting_count» + length (o .runs);
+        slots = withRuns (p .«waiting_first») (p .«waiting_count») (p .waiting) (o .runs);
+      }
+
+  -- the ring stays its own exactly where no packet came
+  chosen-keeps : (gs : List (List ℕ)) (b : List ℕ) → chosen p (leaves (record { runs = gs; bytes = b })) ≡ keeps (record { runs = gs; bytes = b })
+  unfolding withRuns
+  chosen-keeps [] b = rw (eq-eqb (p .«waiting_count» + 0) (p .«waiting_count») (omega arith))
+  chosen-keeps (g ∷ gs) b = rw (ne-eqb (p .«waiting_count» + length (g ∷ gs)) (p .«waiting_count») (λ z. omega arith))
+
+  chosen-left : (o : model.Gathered) → chosen p (leaves o) ≡ keeps o
+  chosen-left o = chosen-keeps (o .runs) (o .bytes)
 
   -- all stays but the list
   abbrev stays : model.Gathered
   stays = record { runs = []; bytes = means p .pending }
 
-  stays-left : record { pending = p .«pending_len»; bytes = p .pending; count = p .«waiting_count»; slots = p .waiting } ≡ leaves stays
-  unfolding means setRound
-  stays-left = let z : p .«waiting_count» + 0 ≡ p .«waiting_count» = omega arith in rw (z, pending-many p v s, pending-same p v s)
+  stays-left : chosen p (record { pending = p .«pending_len»; bytes = p .pending; count = p .«waiting_count»; slots = p .waiting }) ≡ keeps stays
+  unfolding means withRuns
+  stays-left =
+      let z : p .«waiting_count» + 0 ≡ p .«waiting_count» = omega arith in
+      rw (eq-eqb (p .«waiting_count») (p .«waiting_count») refl, z, pending-many p v s, pending-same p v s)
 
   -- the state with pairs qs and what is gathered is that
-  join : (l : Listing) (qs : List Cea608) (g : Left) (o : model.Gathered) (d : Demux) → l ≡ listed (p .pairs) qs → g ≡ leaves o → Read (o .runs)
+  join : (l : Listing) (qs : List Cea608) (g : Left) (o : model.Gathered) (d : Demux) → l ≡ listed (p .pairs) qs → chosen p g ≡ keeps o → Read (o .runs)
       → d ≡ record { on608 = p .«cea608_on»; pairs = qs; pending = o .bytes; waiting = means p .waiting ++ packetsOf (o .runs) }
-      → joined p l g ≡ laidIn (p .pairs) (p .pending) (p .«waiting_first») (setRound (p .«waiting_first» + p .«waiting_count») (p .waiting) (o .runs)) d
+      → joined p l (chosen p g) ≡ laidIn (p .pairs) (p .pending) (p .«waiting_first») (withRuns (p .«waiting_first») (p .«waiting_count») (p .waiting) (o .runs)) d
   unfolding laidIn
   join l qs g o d e q r w =
       let many : length (means p .waiting ++ packetsOf (o .runs)) ≡ p .«waiting_count» + length (o .runs) = omega (arith, length-append (means p .waiting) (packetsOf (o .runs)), packets-many r, waiting-count p v) in
-      rw (e, q, w, many)
+      ap (λ (x : Left). joined p l x) q ∙ rw (e, w, many)
 
   -- an answer that leaves all as it is but the list
-  told-kept : (a : Answer) (l : Listing) (qs : List Cea608) (g : Left) (t : Taken) → l ≡ listed (p .pairs) qs → g ≡ leaves stays → saidAnswer a ≡ t .answer → t .runs ≡ []
+  told-kept : (a : Answer) (l : Listing) (qs : List Cea608) (g : Left) (t : Taken) → l ≡ listed (p .pairs) qs → chosen p g ≡ keeps stays → saidAnswer a ≡ t .answer → t .runs ≡ []
       → t .next ≡ record { on608 = p .«cea608_on»; pairs = qs; pending = means p .pending; waiting = means p .waiting } → Tells p a l g t
   unfolding packetsOf
   told-kept a l qs g t e q y n w =
@@ -88,9 +110,9 @@ module _ (p : CCDataParser) (v : Fine p) (s : Shaped p) where
       }
 
   -- a frame that is accepted or for which no place is left
-  told-gathered : (l : Listing) (qs : List Cea608) (g : Left) (o : model.Gathered) → l ≡ listed (p .pairs) (cond (p .«cea608_on») qs []) → g ≡ leaves o → Read (o .runs)
+  told-gathered : (l : Listing) (qs : List Cea608) (g : Left) (o : model.Gathered) → l ≡ listed (p .pairs) (cond (p .«cea608_on») qs []) → chosen p g ≡ keeps o → Read (o .runs)
       → Tells p Accepted l g (takeGathered qs o (means p))
-  unfolding means setRound
+  unfolding means withRuns
   told-gathered l qs g o e q r =
       let count : g .count ≡ p .«waiting_count» + length (o .runs) = ap (λ (x : Left). x .count) q in
       let many : length (means p .waiting) + length (packetsOf (o .runs)) ≡ g .count = omega (arith, waiting-count p v, packets-many r) in
@@ -115,10 +137,10 @@ module _ (p : CCDataParser) (v : Fine p) (s : Shaped p) where
     told-bytes : (b : Bool) → carries708 (seenFrom 0 f) ≡ b → Told p (plan Accepted true b) f (takeGathered (pairsIn (seenFrom 0 f)) (model.gathered (means p .pending) (seenFrom 0 f)) (means p))
     unfolding gatheredBy means
     told-bytes true e =
-        told-gathered _ (pairsIn (seenFrom 0 f)) _ (model.gathered (means p .pending) (seenFrom 0 f)) (listed-by (p .«cea608_on») (p .pairs) f short) (rw ready-here (ap leaves (sym (all-of (means p .pending) e))))
+        told-gathered _ (pairsIn (seenFrom 0 f)) _ (model.gathered (means p .pending) (seenFrom 0 f)) (listed-by (p .«cea608_on») (p .pairs) f short) (rw ready-here (chosen-left (ended (model.gather (means p .pending) (seenFrom 0 f))) ∙ ap keeps (sym (all-of (means p .pending) e))))
         (gathered-read (means p .pending) (seenFrom 0 f))
     told-bytes false e =
-        told-gathered _ (pairsIn (seenFrom 0 f)) _ (model.gathered (means p .pending) (seenFrom 0 f)) (listed-by (p .«cea608_on») (p .pairs) f short) (stays-left ∙ ap leaves (sym (kept-pending (means p .pending) (seenFrom 0 f) e)))
+        told-gathered _ (pairsIn (seenFrom 0 f)) _ (model.gathered (means p .pending) (seenFrom 0 f)) (listed-by (p .«cea608_on») (p .pairs) f short) (stays-left ∙ ap keeps (sym (kept-pending (means p .pending) (seenFrom 0 f) e)))
         (gathered-read (means p .pending) (seenFrom 0 f))
 
     -- a late triple

@@ -12,7 +12,7 @@ use Rattle.model.specs.Demux.{Demux, Taken, freshDemux}
 use Rattle.slots.specs.Slot.{slotWith}
 use Rattle.slots.specs.declared.Slot.{Slot}
 use Rattle.parser_triples.specs.Pairs.{placedAll}
-use Rattle.parser_rings.specs.Ring.{setRound}
+use Rattle.parser_rings.specs.Ring.{withRuns}
 use Rattle.parser.specs.Means.{means}
 use Rattle.parser.specs.Valid.{valid}
 use Rattle.parser.specs.declared.CCDataParser.{CCDataParser}
@@ -44,7 +44,7 @@ headAfter first waited n = cond (ltb n waited) (cond (eqb n 0) 0 ((first + 1) % 
 unfoldable pub laidAfter : CCDataParser → Taken → CCDataParser
 laidAfter p t =
     laidIn (p .pairs) (p .pending) (headAfter (p .«waiting_first») (p .«waiting_count») (length (t .next .waiting)))
-    (setRound (p .«waiting_first» + p .«waiting_count») (p .waiting) (t .runs)) (t .next)
+    (withRuns (p .«waiting_first») (p .«waiting_count») (p .waiting) (t .runs)) (t .next)
 
 -- a call answers what the model's answers and leaves what that leaves, in the places that it is given; "11 comes first", and then all stays
 pub record Answers (t : Taken) (placed : Taken → CCDataParser) (p : CCDataParser) (r : ParserAnswer) : Type 0 where

@@ -1,4 +1,6 @@
 -- The steps of reading a frame. No public contract reaches this file. Assumes nothing.
+use mathlib.Core.Bool.{cond}
+use lib.Dec.{eqb}
 use Rattle.caption.specs.declared.Answer.{Answer}
 use Rattle.caption.specs.declared.Answer.the-variants.{Refused}
 use Rattle.caption.specs.declared.Refusal.{Refusal}
@@ -20,6 +22,10 @@ joined p l g =
       «waiting_count» = g .count;
       waiting = g .slots;
     }
+
+-- what the code keeps of a ring: its own, if no packet came
+abbrev pub chosen : CCDataParser → Left → Left
+chosen p g = record { pending = g .pending; bytes = g .bytes; count = g .count; slots = cond (eqb (g .count) (p .«waiting_count»)) (p .waiting) (g .slots) }
 
 -- an answer and a state
 abbrev pub fed : Answer → CCDataParser → ParserAnswer

@@ -427,8 +427,24 @@ impl CCDataParser {
             if MOST_WAITING < g.waiting {
                 return self.refused(Refusal::Full);
             }
-            let waiting = g.slots;
             let answer = plan.answer;
+            // Where no packet came the ring is not touched, and so not copied.
+            if g.waiting == c.waiting {
+                return ParserAnswer {
+                    answer,
+                    parser: CCDataParser {
+                        cea608_on: c.on,
+                        pair_count: n,
+                        pairs,
+                        pending_len: g.pending,
+                        pending,
+                        waiting_first: c.first,
+                        waiting_count: c.waiting,
+                        waiting: slots,
+                    },
+                };
+            }
+            let waiting = g.slots;
             return ParserAnswer {
                 answer,
                 parser: CCDataParser {

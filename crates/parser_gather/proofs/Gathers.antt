@@ -18,7 +18,7 @@ use Rattle.slots.specs.Slot.{slotWith}
 use Rattle.slots.specs.declared.Slot.{Slot}
 use Rattle.parser_triples.specs.Walk.{seenFrom}
 use Rattle.parser_triples.proofs.Walks.{seen-next, seen-none, sees-void, sees-608, sees-more, sees-start}
-use Rattle.parser_rings.specs.Ring.{setRound}
+use Rattle.parser_rings.specs.Ring.{setRound, clearedFor}
 use Rattle.parser_gather.specs.Tests.{pendingFine}
 use Rattle.parser_gather.specs.Gather.{Left, leftOf, Held, heldBy, putTwo, Holds, Sized, put, closesBy}
 use Rattle.parser_gather.specs.declared.Run.{Run}
@@ -349,3 +349,17 @@ module _ (f : ℕ) (l : List ℕ) (a : Left) (n : ℕ) (t : List Slot) where
               rw (none-left z .0, none-left z .1, q, v) (sym (rw (r, w) at (whole z))))
               (λ o. let z : wants g ≡ 0 → ⊥ = eqb-false _ _ o in
               rw (all-left z .0, all-left z .1, q, v) (sym (rw w at (part z))))
+
+-- the slots that packets come to, by whether any waits
+module _ (n : ℕ) (t l : List Slot) where
+  pub cleared-none : t ≡ replicate 32 (slotWith 0 []) → n ≡ 0 → t ≡ clearedFor n l
+  unfolding clearedFor
+  cleared-none e z = rw z e
+
+  pub cleared-some : t ≡ l → (n ≡ 0 → ⊥) → t ≡ clearedFor n l
+  unfolding clearedFor
+  cleared-some e z = rw (ne-eqb n 0 z) e
+
+-- what is left over one ring is left over the same
+pub left-over : (f n : ℕ) (t u : List Slot) (l : List ℕ) (o : Gathered) (a : Left) → t ≡ u → a ≡ leftOf f n t l o → a ≡ leftOf f n u l o
+left-over f n t u l o a e q = rw (← e) q

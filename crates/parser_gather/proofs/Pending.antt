@@ -15,6 +15,7 @@ use Rattle.model.proofs.Limits.{size-most}
 use Rattle.slots.specs.declared.Slot.{Slot}
 use Rattle.parser_triples.specs.Walk.{seenFrom}
 use Rattle.parser_gather.specs.Tests.{pendingFine, readyFor}
+use Rattle.parser_rings.specs.Ring.{clearedFor}
 use Rattle.parser_gather.specs.Gather.{Left, leftOf, gatheredBy}
 
 module _ (n : ℕ) (l : List ℕ) where
@@ -97,6 +98,6 @@ module _ (gathers : Bool) (f count : ℕ) (slots : List Slot) (n : ℕ) (l frame
     gather-unready e = rw (asked, ← tested, e)
 
     -- packets are gathered
-    pub gather-asked : (g : Left) → b ≡ true → g ≡ leftOf f count slots l (ended (gather (take n l) (seenFrom 0 frame))) → g ≡ gatheredBy gathers f count slots n l frame
+    pub gather-asked : (g : Left) → b ≡ true → g ≡ leftOf f count (clearedFor count slots) l (ended (gather (take n l) (seenFrom 0 frame))) → g ≡ gatheredBy gathers f count slots n l frame
     unfolding gatheredBy
     gather-asked g e q = rw (asked, ← tested, e) q

@@ -13,7 +13,7 @@ use Rattle.slots.specs.declared.Slot.{Slot}
 use Rattle.parser_triples.specs.Walk.{seenFrom}
 use Rattle.parser_gather.specs.declared.Run.{Run}
 use Rattle.parser_gather.specs.declared.Gathered as code
-use Rattle.parser_rings.specs.Ring.{setRound}
+use Rattle.parser_rings.specs.Ring.{setRound, clearedFor}
 use Rattle.parser_gather.specs.Tests.{readyFor}
 
 -- what a frame leaves: pending bytes in their places, and the waiting slots
@@ -35,7 +35,7 @@ leftOf f n slots l o =
 -- the frame is gathered where that is asked and the places are within their limits; else all stays
 unfoldable pub gatheredBy : Bool → ℕ → ℕ → List Slot → ℕ → List ℕ → List ℕ → Left
 gatheredBy gathers f count slots n l frame =
-    cond (gathers && readyFor f count n l) (leftOf f count slots l (ended (gather (take n l) (seenFrom 0 frame))))
+    cond (gathers && readyFor f count n l) (leftOf f count (clearedFor count slots) l (ended (gather (take n l) (seenFrom 0 frame))))
     (record { pending = n; bytes = l; count = count; slots = slots })
 
 -- the bytes still wanted, the bytes gathered, and the places that they stand in

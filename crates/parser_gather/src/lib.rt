@@ -9,6 +9,7 @@ ghost use Rattle.model.specs.Frame.{seen, tri};
 ghost use Rattle.model.specs.Packet.{reads};
 ghost use Rattle.model.specs.Demux.{gather, ended};
 ghost use Rattle.parser_triples.specs.Walk.{seenFrom};
+ghost use Rattle.parser_rings.specs.Ring.{clearedFor};
 ghost use Rattle.parser_gather.specs.Tests.{pendingFine, readyFor};
 ghost use Rattle.parser_gather.specs.Gather.{Sized, heldBy, putTwo, Holds, put, closesBy, takenBy, leftOf, gatheredBy};
 use basics::MOST_WAITING;
@@ -115,8 +116,8 @@ fn left_of(s: Run) -> usize
     s.len
 }
 
-// Gathers packets from a frame: bytes that are closed and read as a packet go into the slot behind the last waiting one, and those that are
-// left over the pending ones.
+// Gathers packets from a frame: bytes that are closed and read as a packet go into the slot behind the last waiting one, or into cleared
+// slots where none waits, so that those are not copied; and bytes that are left over the pending ones.
 fn gather_frame(
     first: usize,
     count: usize,
@@ -128,9 +129,17 @@ fn gather_frame(
     requires { ⌜ first < 32 ⌝ }
     requires { ⌜ count ≤ 32 ⌝ }
     requires { ⌜ pendingFine len (now pending) ≡ true ⌝ }
-    ensures { λ r. ⌜ takenBy r (now (pending .exit)) ≡ leftOf first count slots (now (pending .entry)) (ended (gather (take len (now (pending .entry))) (seenFrom 0 (now (frame .entry))))) ⌝ }
+    ensures { λ r. ⌜ takenBy r (now (pending .exit)) ≡ leftOf first count (clearedFor count slots) (now (pending .entry)) (ended (gather (take len (now (pending .entry))) (seenFrom 0 (now (frame .entry))))) ⌝ }
 {
-    let mut t = slots;
+    let none = [0u8; 128];
+    let slot = Slot {
+        len: 0,
+        bytes: none,
+    };
+    let mut t = [slot; 32];
+    if count != 0 {
+        t = slots;
+    }
     let mut n = count;
     let mut bytes = [0u8; 128];
     let old = *pending;

@@ -1,9 +1,9 @@
 -- The ring of waiting slots: 32 places, going round. Assumes nothing.
 use mathlib.Core.List.{List, [], _∷_}
-use mathlib.Core.Bool.{Bool, _&&_}
+use mathlib.Core.Bool.{Bool, cond, _&&_}
 use Prim.Native.Nat.{ℕ, zero, suc, _+_, _%_}
-use lib.ListN.{length, getD, set, take}
-use lib.Dec.{leb}
+use lib.ListN.{length, getD, set, take, replicate}
+use lib.Dec.{eqb, leb}
 use Rattle.model.specs.Packet.{reads}
 use Rattle.slots.specs.Slot.{noSlot, slotWith}
 use Rattle.slots.specs.declared.Slot.{Slot}
@@ -25,3 +25,12 @@ slotFine s = leb (s .len) 128 && reads (slotRun s)
 unfoldable pub setRound : ℕ → List Slot → List (List ℕ) → List Slot
 setRound at l [] = l
 setRound at l (g ∷ gs) = setRound (at + 1) (set l (at % 32) (slotWith (length g) g)) gs
+
+-- the slots that runs come to where n slots wait: cleared ones where none does
+unfoldable pub clearedFor : ℕ → List Slot → List Slot
+clearedFor n l = cond (eqb n 0) (replicate 32 (slotWith 0 [])) l
+
+-- runs laid behind the n slots that wait from f on; without a run all stays
+unfoldable pub withRuns : ℕ → ℕ → List Slot → List (List ℕ) → List Slot
+withRuns f n l [] = l
+withRuns f n l (g ∷ gs) = setRound (f + n) (clearedFor n l) (g ∷ gs)

@@ -1,15 +1,17 @@
 -- `parser_gather::gather_frame` meets its contract: what the whole frame leaves stays what is left of it leaves behind the slots that are there, by
 -- whether a triple delivers; then the frame's end. Assumes nothing.
-use mathlib.Core.Path.{refl}
+use mathlib.Core.Path.{_≡_, refl}
 use mathlib.Core.Logic.{⊎-elim}
 use Prim.Native.Nat.{_+_, _*_, _-_, _≤_}
 use native.Mathlib.Omega.{arith}
 use lib.ListN.{length, take}
 use borrow.Author.Needs.{needs}
+use denote.Ref.{now}
 use Rattle.model.specs.Demux.{gather, ended}
 use Rattle.parser_triples.specs.Walk.{seenFrom}
+use Rattle.parser_rings.specs.Ring.{clearedFor}
 use Rattle.parser_gather.specs.Gather.{Sized, leftOf}
-use Rattle.parser_gather.proofs.Gathers.{Going, held-places, left-most, turn-delivers, turn-keeps, end-delivers, end-keeps}
+use Rattle.parser_gather.proofs.Gathers.{cleared-none, cleared-some, left-over, Going, held-places, left-most, turn-delivers, turn-keeps, end-delivers, end-keeps}
 use Rattle.parser_gather.proofs.gather_frame.Statement.{statement}
 use Rattle.parser_gather.proofs.gather_frame.Tie as tie
 
@@ -88,7 +90,7 @@ loop-less c = search needs
 
 loop-again : tie.Need-loop-again Inv-loop μ-loop
 loop-again c =
-    let came = c .before .before .before .before .if1 .came in
+    let came = c .before .before .before .before .if2 .came in
     let v = c .before .before .before .before .before .before .before .before .before .loop .inv .3 in
     let more = c .before .before .before .before .before .before .before .before .loop-test .taken in
     let asked = c .before .before .before .before .before .closes .ensures in (
@@ -138,13 +140,18 @@ put-bytes-requires c κs = search needs
 
 returns : tie.Need-returns Inv-loop μ-loop
 returns c =
-    let came = c .before .before .before .before .before .if2 .came in
+    let came = c .before .before .before .before .before .if3 .came in
     let v = c .before .before .before .before .before .before .before .before .before .loop .inv .3 in
     let done = c .before .before .before .before .before .before .before .before .loop-test .left in
     let asked = c .before .before .before .before .before .before .completes .ensures in
     let left = c .before .before .before .before .left-of .ensures in
-    ⊎-elim (λ w. end-delivers _ _ _ _ _ (v .held) _ _ (v .holds) _ _ done (v .rest) _ asked _ left _ (c .put-bytes .ensures) _ _ (search needs) (search needs) (search needs))
-    (λ w. end-keeps _ _ _ _ _ (v .held) _ _ (v .holds) _ _ done (v .rest) _ asked _ left _ (c .put-bytes .ensures) _ _ (search needs) (search needs) (search needs)) came
+    let begun = c .before .before .before .before .before .before .before .before .before .before .before .before .before in
+    let a = begun .before .before .args in
+    let base : begun .if1 .t ≡ clearedFor (a .count) (a .slots) = ⊎-elim (λ w. cleared-some _ _ _ (w .1) (w .0 .taken)) (λ w. cleared-none _ _ _ (w .1) (w .0 .left)) (begun .if1 .came) in
+    let whole = ended (gather (take (a .len) (now (a .pending))) (seenFrom 0 (now (a .frame)))) in
+    left-over (a .first) (a .count) (begun .if1 .t) _ (now (a .pending)) whole _ base
+    (⊎-elim (λ w. end-delivers _ _ _ _ _ (v .held) _ _ (v .holds) _ _ done (v .rest) _ asked _ left _ (c .put-bytes .ensures) _ _ (search needs) (search needs) (search needs))
+    (λ w. end-keeps _ _ _ _ _ (v .held) _ _ (v .holds) _ _ done (v .rest) _ asked _ left _ (c .put-bytes .ensures) _ _ (search needs) (search needs) (search needs)) came)
 
 pub gather-frame-spec : {M : Type 1} → statement M
 gather-frame-spec =

@@ -1,6 +1,6 @@
 -- `parser::CCDataParser::push` meets its contract: one law of `Pushes` for each way out gives the exact result, and `Told` says what it means. Assumes nothing.
 use Rattle.parser.proofs.Valids.{tested-fine}
-use Rattle.parser.proofs.Pushes.{push-bad, push-full, push-done}
+use Rattle.parser.proofs.Pushes.{push-bad, push-full, push-none, push-done}
 use borrow.Author.Needs.{needs}
 use Rattle.parser.proofs.CCDataParser.push.Statement.{statement}
 use Rattle.parser.proofs.CCDataParser.push.Tie as tie
@@ -39,17 +39,27 @@ returns c =
 
 returns-2 : tie.Need-returns-2
 returns-2 c =
-    let g = c .before .before .before in
+    let full = c .before .before .before in
+    let g = full .before .before in
     let q = g .before .before .before .before in
     let t = q .before .before in
     let o = t .before .before .before .before in
-    push-done _ _ (o .before .counts .ensures .1) _ (o .before .counts .ensures .0) _ (tested-fine _ _ _ _ _ (o .oldest .ensures) _ _ (t .before .before .before .ring-good .ensures) (t .good2 .ensures)) (q .before .if1 .taken) _ (q .plan-of .ensures) _ _ (g .before .before .list-by .ensures) _ _ (g .gather-by .ensures) (c .before .if2 .left)
+    push-none _ _ (o .before .counts .ensures .1) _ (o .before .counts .ensures .0) _ (tested-fine _ _ _ _ _ (o .oldest .ensures) _ _ (t .before .before .before .ring-good .ensures) (t .good2 .ensures)) (q .before .if1 .taken) _ (q .plan-of .ensures) _ _ (g .before .before .list-by .ensures) _ _ (g .gather-by .ensures) (full .if2 .left) (c .if3 .taken)
+
+returns-3 : tie.Need-returns-3
+returns-3 c =
+    let full = c .before .before .before .before in
+    let g = full .before .before in
+    let q = g .before .before .before .before in
+    let t = q .before .before in
+    let o = t .before .before .before .before in
+    push-done _ _ (o .before .counts .ensures .1) _ (o .before .counts .ensures .0) _ (tested-fine _ _ _ _ _ (o .oldest .ensures) _ _ (t .before .before .before .ring-good .ensures) (t .good2 .ensures)) (q .before .if1 .taken) _ (q .plan-of .ensures) _ _ (g .before .before .list-by .ensures) _ _ (g .gather-by .ensures) (full .if2 .left) (c .before .if3 .left)
 
 refused-requires-2 : tie.Need-refused-requires-2
 refused-requires-2 c κs = search needs
 
-returns-3 : tie.Need-returns-3
-returns-3 c =
+returns-4 : tie.Need-returns-4
+returns-4 c =
     let t = c .before .before in
     let o = t .before .before .before .before in
     push-bad _ _ (o .before .counts .ensures .1) _ (o .before .counts .ensures .0) _ (tested-fine _ _ _ _ _ (o .oldest .ensures) _ _ (t .before .before .before .ring-good .ensures) (t .good2 .ensures)) _ (c .before .if1 .left) (c .refused2 .ensures)
@@ -68,5 +78,6 @@ push-spec =
     refused-requires
     returns
     returns-2
+    returns-3
     refused-requires-2
-    returns-3)
+    returns-4)
