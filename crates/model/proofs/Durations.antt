@@ -12,7 +12,7 @@ pub record Upward (a b m : ℕ) : Type 0 where
   pub enough : a ≤ m * b
   pub least : m * b < a + b
 
--- "ceil" is that number
+-- `ceil` is that number
 pub ceil-upward : (a b : ℕ) → 0 < b → Upward a b (ceil a b)
 unfolding ceil
 ceil-upward a b h =
@@ -38,7 +38,7 @@ bytes-time bytes =
     let u = ceil-upward ((bytes + 1) / 2 * (2002 * 10 ^ 6)) 1200000 (omega arith) in
     record { enough = omega (arith, u .enough); close = omega (arith, u .least) }
 
--- "the sum of packet lengths" is over the packets one by one
+-- the sum of lengths [D3] is over the packets one by one
 pub lengths-append : (ps qs : List Packet) → lengthsOf (ps ++ qs) ≡ lengthsOf ps + lengthsOf qs
 unfolding lengthsOf
 lengths-append [] qs = omega arith

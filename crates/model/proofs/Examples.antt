@@ -65,7 +65,7 @@ pub record Row : Type 0 where
 abbrev row : Input → Result → Row
 row i r = record { input = i; result = r }
 
--- "field 1 94 2C twice"
+-- the pair 94 2C of field 1 twice
 abbrev twice942C : List Call
 twice942C = pushes608 (field1 (pair 0x94 0x2C)) ∷ pushes608 (field1 (pair 0x94 0x2C)) ∷ []
 

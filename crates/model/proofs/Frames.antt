@@ -14,12 +14,12 @@ use Rattle.model.specs.Frame.{Triple, tri, Cea608, Seen, first, second, 
 use Rattle.model.specs.Demux.{Demux, Gathered, withPairs, pairsIn, lateFrom, carries708, givenIn, closed, packetsOf, kept, wants, gather, ended, gathered, takeGathered, takeTriples, unread, takeFrame}
 use Rattle.model.proofs.Cases.{by-test, by-cond}
 
--- "accepted with nothing further done"
+-- accepted, with nothing more done [F2]
 pub take-unread : (f : List ℕ) (d : Demux) → unread f ≡ true → takeFrame f d ≡ record { answer = accepted []; runs = []; next = withPairs [] d }
 unfolding takeFrame
 take-unread f d e = simp e
 
--- "under 5 bytes"
+-- fewer than 5 bytes [F2]
 pub unread-short : (f : List ℕ) → length f < 5 → unread f ≡ true
 unfolding unread
 unread-short f h = simp (lt-ltb _ _ h)
@@ -31,7 +31,7 @@ pub record Announces (n : ℕ) (f : List ℕ) : Type 0 where
   pub count : countIn (getD f 0 0) ≡ n
   pub some : 1 ≤ n
 
--- "A frame is at most 95 bytes.": one whose triples are read has no more
+-- a frame [S5] whose triples are read has no more
 pub read-most : (n : ℕ) (f : List ℕ) → Announces n f → length f ≡ 3 * n + 2 → length f ≤ mostFrame
 read-most n f a e = omega (arith, a .count)
 
@@ -41,7 +41,7 @@ module _ (n : ℕ) (f : List ℕ) (d : Demux) (a : Announces n f) where
   unfolding unread
   read-it = simp (le-ltb _ _ (a .bytes), a .flag, a .count, ne-eqb n 0 (λ e. omega (arith, a .some)))
 
-  -- "length other than 3n+2 is refused with 1, *expected 3n+1*"
+  -- a wrong length is 1, with 3n+1 expected [F3]
   pub take-mismatch : (length f ≡ 3 * n + 2 → ⊥) → takeFrame f d ≡ record { answer = lengthMismatch (3 * n + 1) (length f); runs = []; next = withPairs [] d }
   unfolding takeFrame
   take-mismatch ne = simp (read-it, a .count, ne-eqb _ _ ne)
@@ -51,12 +51,12 @@ module _ (n : ℕ) (f : List ℕ) (d : Demux) (a : Announces n f) where
   unfolding takeFrame
   take-whole e = simp (read-it, a .count, eq-eqb _ _ e)
 
--- "With no valid type 2 or 3 triple, pending bytes are kept": no packet is closed, and none is delivered
+-- without a valid triple of type 2 or 3 the pending bytes stay [F8]: no packet is closed, and none is delivered
 pub kept-pending : (pending : List ℕ) (ts : List Seen) → carries708 ts ≡ false → gathered pending ts ≡ record { runs = []; bytes = pending }
 unfolding gathered
 kept-pending pending ts e = simp e
 
--- "Full exactly if waiting packets plus those this frame would deliver exceed 32"
+-- 10 exactly where more than 32 packets would wait [F13]
 module _ (ps : List Cea608) (o : Gathered) (d : Demux) where
   -- it is full
   pub take-full : 32 < length (d .waiting) + length (packetsOf (o .runs)) → takeGathered ps o d ≡ record { answer = full; runs = []; next = d }

@@ -223,6 +223,6 @@ module _ (b : Budgets) (s : Mux) (f : MuxLimits s) where
 pub write-valid : (b : Budgets) (s : Mux) → validMux s ≡ true → validMux (writeFrame b s .next) ≡ true
 write-valid b s e = facts-mux (writeFrame b s .next) (written-within b s (mux-facts s e))
 
--- "A frame is at most 95 bytes."
+-- a frame has at most 95 bytes [S5]
 pub frame-most : (b : Budgets) (s : Mux) → Accepted b → validMux s ≡ true → length (frameBytes (writeFrame b s .frame)) ≤ mostFrame
 frame-most b s a e = rw (frame-length (writeFrame b s .frame)) (omega (arith, a .apart, a .most, triples-most b s (mux-facts s e) (omega (arith, a .apart))))

@@ -38,7 +38,7 @@ pub send-all : (m : ℕ) → send m [] [] ≡ record { out = []; sending = []; p
 unfolding send
 send-all m = simp (take-nil {A = Triple} m, drop-nil {A = Triple} m)
 
--- "an odd last one filled with 0x00": the triples of bytes are those of the bytes filled to an even length
+-- an odd last byte is filled with 0x00 [W7]: the triples of bytes are those of the bytes filled to an even length
 continued-filled : (n : ℕ) (d : List ℕ) → length d % 2 ≡ n % 2 → continued d ≡ continued (d ++ fill n)
 unfolding continued fill
 continued-filled n [] e = simp (ne-eqb (n % 2) 1 (λ z. omega arith))

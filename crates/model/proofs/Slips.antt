@@ -37,7 +37,7 @@ pub void-ends-608 : given ((0xC3 ∷ 0xFF ∷ 0xFC ∷ 0x15 ∷ 0x2C ∷ 0xFA �
 unfolding seen seenAll triplesIn flagged pairsIn lateAfter lateFrom carries708 gather ended gathered takeGathered takeTriples unread takeFrame readFrames
 void-ends-608 = refl
 
--- "one pair; two 3-byte packets": the sum is of lengths as they are, and is rounded once
+-- one pair; two packets of 3 bytes: the sum is of lengths as they are, and is rounded once
 pub durations : pairsDuration 1 ∷ packetDuration (withPackets (one 0 1 (0x41 ∷ []) ∷ one 0 1 (0x41 ∷ []) ∷ []) freshMux) ∷ [] ≡ 16684 ∷ 5005 ∷ []
 unfolding ceil pairsDuration lengthsOf bytesLeft bytesDuration writtenHeader writtenBlock blockLength blocksLength packetLength
 durations = refl
@@ -54,7 +54,7 @@ bare = record { sequence = 0; blocks = [] }
 abbrev run : ℕ → List ℕ
 run n = replicate n 0x41
 
--- a packet whose block of service 1 is full, and another run for that service: "a new block is made"; the single-service form refuses
+-- a packet whose block of service 1 is full, and another run for that service: a new block is made [P12]; the single-service form refuses
 pub full-block : said.isGiven (pushRun 1 (run 1) (one 0 1 (run 31))) ∷ said.isGiven (pushRunSingle 1 (run 1) (one 0 1 (run 31))) ∷ [] ≡ true ∷ false ∷ []
 unfolding latestOf pushNew pushAt pushRunAt pushRunBy writtenHeader writtenBlock blockLength blocksLength packetLength
 full-block = refl

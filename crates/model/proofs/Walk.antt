@@ -36,7 +36,7 @@ module _ (move : List ℕ → ℕ) where
   blocks-after zero (x ∷ d) = refl
   blocks-after (suc k) (x ∷ d) = blocks-after k d
 
-  -- "Blocks are read until no bytes are left"
+  -- blocks are read until no byte is left [P4]
   pub blocks-none : blocksFrom move 0 [] ≡ gave []
   unfolding blocksFrom
   blocks-none = refl

@@ -1,4 +1,4 @@
--- A service block: document 01, "Blocks and packets". Assumes nothing.
+-- A service block: rules B of docs/RULES.md. Assumes nothing.
 use mathlib.Core.Bool.{Bool, cond, not, _&&_, _||_}
 use mathlib.Core.List.{List, [], _∷_, _++_}
 use Prim.Native.Nat.{ℕ, _+_, _-_, _*_, _/_, _%_}
@@ -6,75 +6,74 @@ use lib.Dec.{eqb, leb, ltb}
 use lib.ListN.{length, getD, take, drop}
 use Rattle.model.specs.Said.{Outcome, gave, refused, lengthMismatch, wouldOverflow, readOnly, badNumber, badRun}
 
--- "a block: number, payload"
+-- a block: its number and its payload [B1]
 pub record Block : Type 0 where
   pub number : ℕ
   pub payload : List ℕ
 
--- "Size 31 is the most."
+-- the most bytes of a payload [B1]
 abbrev pub mostPayload : ℕ
 mostPayload = 31
 
--- A block that breaks no limit: "service above 63", a payload above 31 and "a block 0 with payload" do.
+-- A block that breaks no limit: number, payload, and none in block 0 [B1].
 unfoldable pub validBlock : Block → Bool
 validBlock b = leb (b .number) 63 && leb (length (b .payload)) mostPayload && (not (eqb (b .number) 0) || eqb (length (b .payload)) 0)
 
--- A block made of a number alone: "service above 63" is 6.
+-- A block made of a number alone; above 63 is 6 [B11].
 unfoldable pub newBlock : ℕ → Outcome Block
 newBlock n = cond (ltb 63 n) (refused badNumber) (gave (record { number = n; payload = [] }))
 
--- "Block header: top three bits number"
+-- the number in the upper three bits of a header [B2]
 abbrev pub topNumber : ℕ → ℕ
 topNumber h = h / 32 % 8
 
--- "low five bits size"
+-- the size in the lower five [B2]
 abbrev pub blockSize : ℕ → ℕ
 blockSize h = h % 32
 
--- "Number 7 with nonzero size takes a second byte,"
+-- a header that says 7 and has a size takes a second byte [B3],
 unfoldable pub headerLength : ℕ → ℕ
 headerLength h = cond (eqb (topNumber h) 7 && not (eqb (blockSize h) 0)) 2 1
 
--- "whose low six bits are the number."
+-- whose lower six bits are the number [B3]
 unfoldable pub numberIn : List ℕ → ℕ
 numberIn d = cond (eqb (headerLength (getD d 0 0)) 2) (getD d 1 0 % 64) (topNumber (getD d 0 0))
 
--- "the count needed": the header's bytes, and once they are there its body's too
+-- how many bytes are wanted: the header's, and once they are there its payload's too [B4]
 unfoldable pub needed : List ℕ → ℕ
 needed d = let h = getD d 0 0 in cond (ltb (length d) (headerLength h)) (headerLength h) (headerLength h + blockSize h)
 
--- whether there are "bytes missing"
+-- whether any of them are missing [B4]
 unfoldable pub isShort : List ℕ → Bool
 isShort d = ltb (length d) (needed d)
 
--- The block at the head of bytes that are not short; one of number 0 has no payload, "whatever its size".
+-- The block at the head of bytes that are not short; number 0 has no payload, whatever its size [B5].
 unfoldable pub blockIn : List ℕ → Block
 blockIn d =
     let h = getD d 0 0 in
     record { number = numberIn d; payload = cond (eqb (numberIn d) 0) [] (take (blockSize h) (drop (headerLength h) d)) }
 
--- "On reading, bytes missing give 1 with the count needed and the count present."
+-- A block read: where bytes are missing, 1 with those wanted and those there [B4].
 unfoldable pub readBlock : List ℕ → Outcome Block
 readBlock d = cond (isShort d) (refused (lengthMismatch (needed d) (length d))) (gave (blockIn d))
 
--- "A call beside the block reader hands the payload back as a part of the caller's own bytes; the part is empty where the block is refused,
--- has no payload or has number 0."
+-- The payload as a part of the caller's bytes: empty where the block is refused, has no payload or has number 0 [B6].
 unfoldable pub partIn : List ℕ → List ℕ
 partIn d = cond (isShort d) [] (blockIn d .payload)
 
--- "Written: numbers 0 to 6 one header byte, 7 to 63 two (0xE0 + size, then the number)."
+-- a header as it is written: one byte for numbers 0 to 6, two for 7 to 63 [B7]
 unfoldable pub writtenHeader : ℕ → ℕ → List ℕ
 writtenHeader number size = cond (ltb number 7) ((number * 32 + size) ∷ []) ((0xE0 + size) ∷ number ∷ [])
 
--- a block as it is written: its header, then its payload
+-- a block as it is written: its header, then its payload [B7]
 unfoldable pub writtenBlock : Block → List ℕ
 writtenBlock b = writtenHeader (b .number) (length (b .payload)) ++ b .payload
 
--- "A block without payload has length 0, yet writes its header."
+-- the length of a block: what it is written in, but 0 without payload [B8]
 unfoldable pub blockLength : Block → ℕ
 blockLength b = cond (eqb (length (b .payload)) 0) 0 (length (writtenBlock b))
 
--- "room (31 minus payload)"
+-- the room of a block [B9]
 abbrev pub blockRoom : Block → ℕ
 blockRoom b = mostPayload - length (b .payload)
 
@@ -82,7 +81,7 @@ blockRoom b = mostPayload - length (b .payload)
 abbrev pub withRun : List ℕ → Block → Block
 withRun run b = record { number = b .number; payload = b .payload ++ run }
 
--- A run pushed to a block: "a run of 0 bytes", "a run for service 0", "a run or block does not fit".
+-- A run pushed to a block: 7, then 4, then 3 [B10].
 unfoldable pub pushToBlock : List ℕ → Block → Outcome Block
 pushToBlock run b =
     cond (eqb (length run) 0) (refused badRun)

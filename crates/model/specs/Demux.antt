@@ -1,4 +1,4 @@
--- The demultiplexer: document 01, "Reading frames". Assumes nothing.
+-- The demultiplexer: rules F of docs/RULES.md. Assumes nothing.
 use mathlib.Core.Bool.{Bool, true, false, cond, not, _&&_, _||_}
 use mathlib.Core.List.{List, [], _∷_, _++_}
 use mathlib.Core.Option.{Option, none, some}
@@ -17,20 +17,19 @@ pub record Demux : Type 0 where
   pub pending : List ℕ
   pub waiting : List Packet
 
--- "32 waiting packets"
+-- the most packets that wait [S4]
 abbrev pub mostWaiting : ℕ
 mostWaiting = 32
 
--- "31 pairs from the last frame"
+-- the most pairs of a frame [S4]
 abbrev pub mostPairs : ℕ
 mostPairs = 31
 
--- Pending bytes: none, or an even number from 2 to below the size that the first of them gives.
+-- bytes of a packet that is not complete: none, or an even number below its size [F17]
 unfoldable pub validPending : List ℕ → Bool
 validPending g = eqb (length g) 0 || (eqb (length g % 2) 0 && ltb (length g) (packetSize (getD g 0 0)))
 
--- A demultiplexer that breaks no limit: "32 waiting packets, 31 pairs from the last frame" and none where 608 is off, each packet within its own
--- limits, and pending bytes of a packet that is not complete.
+-- A demultiplexer that breaks no limit: pairs, and none with 608 off; packets; pending bytes [F17].
 unfoldable pub validDemux : Demux → Bool
 validDemux d =
     leb (length (d .pairs)) mostPairs
@@ -39,19 +38,19 @@ validDemux d =
     && (every validPacket (d .waiting)
     && validPending (d .pending))))
 
--- a fresh demultiplexer: it holds nothing, and 608 is off
+-- a fresh demultiplexer: it holds nothing, and 608 is off [F16]
 abbrev pub freshDemux : Demux
 freshDemux = record { on608 = false; pairs = []; pending = []; waiting = [] }
 
--- "Turning 608 on empties the list."
+-- 608 turned on: the list is emptied [F15]
 abbrev pub turn608On : Demux → Demux
 turn608On d = record { on608 = true; pairs = []; pending = d .pending; waiting = d .waiting }
 
--- "Flush returns to fresh, with 608 off."
+-- a flush: fresh again [F16]
 abbrev pub flushDemux : Demux → Demux
 flushDemux d = freshDemux
 
--- "A type 2 or 3 triple, valid or not, ends the 608 part"; "Valid earlier ones are pairs of field 1 (type 0) and 2 (type 1)."
+-- the pairs of a frame: valid triples of type 0 and 1 [F7], up to the first of type 2 or 3, valid or not [F6]
 unfoldable pub pairsIn : List Seen → List Cea608
 pairsIn [] = []
 pairsIn (first a b ∷ ts) = field1 (pair a b) ∷ pairsIn ts
@@ -61,7 +60,7 @@ pairsIn (start a b ∷ ts) = []
 pairsIn (more a b ∷ ts) = []
 pairsIn (void708 ∷ ts) = []
 
--- "a valid type 0 or 1 after it is refused with 2 at 3 times its index": the first in what follows the 608 part, i triples into the frame
+-- the first valid triple of type 0 or 1 in what follows the part with pairs, i triples into the frame: three times its place [F6]
 unfoldable pub lateAfter : ℕ → List Seen → Option ℕ
 lateAfter i [] = none
 lateAfter i (first a b ∷ ts) = some (3 * i)
@@ -71,7 +70,7 @@ lateAfter i (start a b ∷ ts) = lateAfter (suc i) ts
 lateAfter i (more a b ∷ ts) = lateAfter (suc i) ts
 lateAfter i (void708 ∷ ts) = lateAfter (suc i) ts
 
--- the first late triple of a frame whose 608 part still lasts: "A type 2 or 3 triple, valid or not, ends the 608 part"
+-- the first such triple of a frame whose part with pairs still lasts: any of type 2 or 3 ends it [F6]
 unfoldable pub lateFrom : ℕ → List Seen → Option ℕ
 lateFrom i [] = none
 lateFrom i (first a b ∷ ts) = lateFrom (suc i) ts
@@ -81,7 +80,7 @@ lateFrom i (start a b ∷ ts) = lateAfter (suc i) ts
 lateFrom i (more a b ∷ ts) = lateAfter (suc i) ts
 lateFrom i (void708 ∷ ts) = lateAfter (suc i) ts
 
--- whether there is a "valid type 2 or 3 triple"
+-- whether a triple of type 2 or 3 is valid [F8]
 unfoldable pub carries708 : List Seen → Bool
 carries708 [] = false
 carries708 (first a b ∷ ts) = carries708 ts
@@ -101,7 +100,7 @@ abbrev pub givenIn : Outcome Packet → List Packet
 givenIn (gave p) = p ∷ []
 givenIn (refused why) = []
 
--- the packet of a run of bytes, "if they read as one"
+-- the packet of closed bytes, if they read as one [F10]
 unfoldable pub closed : List ℕ → List Packet
 closed g = givenIn (readPacket g)
 
@@ -110,11 +109,11 @@ unfoldable pub packetsOf : List (List ℕ) → List Packet
 packetsOf [] = []
 packetsOf (g ∷ gs) = closed g ++ packetsOf gs
 
--- the bytes gathered, "which become a packet if they read as one and vanish otherwise"
+-- closed bytes that read as a packet; others are dropped [F10]
 unfoldable pub kept : List ℕ → List (List ℕ)
 kept g = cond (reads g) (g ∷ []) []
 
--- how many bytes are still wanted where g is gathered: up to the size that the first byte gives, and none before any start
+-- how many bytes are still wanted where g is gathered: up to the size of its first byte, and none before any start [F11]
 unfoldable pub wants : List ℕ → ℕ
 wants g = cond (eqb (length g) 0) 0 (packetSize (getD g 0 0) - length g)
 
@@ -122,8 +121,7 @@ wants g = cond (eqb (length g) 0) 0 (packetSize (getD g 0 0) - length g)
 abbrev pub delivered : List (List ℕ) → Gathered → Gathered
 delivered gs o = record { runs = gs ++ o .runs; bytes = o .bytes }
 
--- "A valid type 3 triple closes the bytes gathered so far .. and starts a new packet of its header's size; bytes beyond that size, or before any
--- start, are ignored."
+-- What triples gather: a start closes what there is and begins anew [F9]; more is added up to the size [F11].
 unfoldable pub gather : List ℕ → List Seen → Gathered
 gather g [] = record { runs = []; bytes = g }
 gather g (start a b ∷ ts) = delivered (kept g) (gather (take (packetSize a) (a ∷ b ∷ [])) ts)
@@ -133,11 +131,11 @@ gather g (second a b ∷ ts) = gather g ts
 gather g (void608 ∷ ts) = gather g ts
 gather g (void708 ∷ ts) = gather g ts
 
--- "At the frame's end a complete packet is read likewise; an incomplete one waits."
+-- at the end of the frame a packet that has its size is closed, and one that has not waits [F12]
 unfoldable pub ended : Gathered → Gathered
 ended o = cond (eqb (wants (o .bytes)) 0) (record { runs = o .runs ++ kept (o .bytes); bytes = [] }) o
 
--- "With no valid type 2 or 3 triple, pending bytes are kept."
+-- without a valid triple of type 2 or 3 the pending bytes stay [F8]
 unfoldable pub gathered : List ℕ → List Seen → Gathered
 gathered pending ts = cond (carries708 ts) (ended (gather pending ts)) (record { runs = []; bytes = pending })
 
@@ -151,11 +149,11 @@ pub record Taken : Type 0 where
 abbrev pub quiet : Demux → Taken
 quiet d = record { answer = accepted []; runs = []; next = d }
 
--- the demultiplexer with another list of pairs; without 608 there is none
+-- the demultiplexer with another list of pairs; without 608 there is none [F7]
 abbrev pub withPairs : List Cea608 → Demux → Demux
 withPairs ps d = record { on608 = d .on608; pairs = cond (d .on608) ps []; pending = d .pending; waiting = d .waiting }
 
--- "Full exactly if waiting packets plus those this frame would deliver exceed 32": it "changes nothing, the list included".
+-- 10 exactly if too many packets would wait [F13], and then all stays, the list too [A3].
 unfoldable pub takeGathered : List Cea608 → Gathered → Demux → Taken
 takeGathered ps o d =
     cond (ltb mostWaiting (length (d .waiting) + length (packetsOf (o .runs)))) (record { answer = full; runs = []; next = d })
@@ -165,17 +163,16 @@ takeGathered ps o d =
       next = record { on608 = d .on608; pairs = cond (d .on608) ps []; pending = o .bytes; waiting = d .waiting ++ packetsOf (o .runs) };
     })
 
--- "one refused with 2 leaves in it the pairs before the offending triple (when 608 is on)"
+-- a late triple is 2, and the pairs before it are listed [A3]
 unfoldable pub takeTriples : List Seen → Option ℕ → Demux → Taken
 takeTriples ts (some at) d = record { answer = cea608AfterCea708 at; runs = []; next = withPairs (pairsIn ts) d }
 takeTriples ts none d = takeGathered (pairsIn ts) (gathered (d .pending) ts) d
 
--- "under 5 bytes, flag 0x40 clear, or count (low five bits) 0 is accepted with nothing further done"
+-- a frame that is accepted with nothing more done [F2]
 unfoldable pub unread : List ℕ → Bool
 unread f = ltb (length f) 5 || (not (flagged (getD f 0 0)) || eqb (countIn (getD f 0 0)) 0)
 
--- "In this order: the pair list is emptied; .. length other than 3n+2 is refused with 1, *expected 3n+1*. Triples start at byte 2"; "a frame
--- refused with 1 empties the pair list".
+-- A frame: the list is emptied first [F1]; a wrong length is 1, with 3n+1 expected [F3]; triples begin at the third byte [F4].
 unfoldable pub takeFrame : List ℕ → Demux → Taken
 takeFrame f d =
     let n = countIn (getD f 0 0) in
@@ -184,13 +181,13 @@ takeFrame f d =
     (cond (eqb (length f) (3 * n + 2)) (takeTriples ts (lateFrom 0 ts) d)
     (record { answer = lengthMismatch (3 * n + 1) (length f); runs = []; next = withPairs [] d }))
 
--- "An item drawn out is a packet or a pair"; "with none left it says so"
+-- what is drawn: a pair, a packet, or nothing [F14]
 pub data Item : Type 0 where
   aPair : Cea608 → Item
   aPacket : Packet → Item
   noItem : Item
 
--- "a pair says which field": 1 or 2, and its two bytes
+-- what a pair says: its field, 1 or 2, and its two bytes [F14]
 abbrev pub pairValues : Cea608 → List ℕ
 pairValues (field1 (pair a b)) = 1 ∷ a ∷ b ∷ []
 pairValues (field2 (pair a b)) = 2 ∷ a ∷ b ∷ []
@@ -218,6 +215,6 @@ drawBy on pending (x ∷ pairs) waiting = record { item = aPair x; next = record
 drawBy on pending [] (p ∷ waiting) = record { item = aPacket p; next = record { on608 = on; pairs = []; pending = pending; waiting = waiting } }
 drawBy on pending [] [] = record { item = noItem; next = record { on608 = on; pairs = []; pending = pending; waiting = [] } }
 
--- "first the list's pairs in order, then packets, oldest first, each removed; with none left it says so"
+-- A draw: the listed pairs in order, then the packets, the oldest first [F14].
 unfoldable pub draw : Demux → Drawn
 draw d = drawBy (d .on608) (d .pending) (d .pairs) (d .waiting)

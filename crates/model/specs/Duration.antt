@@ -1,28 +1,28 @@
--- How long what is queued takes to leave: document 01, "Writing frames". Microseconds. Assumes nothing.
+-- How long what is queued takes to leave: rules D of docs/RULES.md. Assumes nothing.
 use mathlib.Core.List.{List, [], _∷_}
 use Prim.Native.Nat.{ℕ, _+_, _-_, _*_, _/_, _^_}
 use lib.ListN.{length}
 use Rattle.model.specs.Packet.{Packet, packetLength}
 use Rattle.model.specs.Mux.{Mux}
 
--- "\"ceil\" is upward": a / b
+-- a / b, rounded up [D1]
 unfoldable pub ceil : ℕ → ℕ → ℕ
 ceil a b = (a + (b - 1)) / b
 
--- "queue length · 1001·10^6 / 60000, ceil"
+-- of so many pairs [D1]
 unfoldable pub pairsDuration : ℕ → ℕ
 pairsDuration n = ceil (n * (1001 * 10 ^ 6)) 60000
 
--- "the sum of packet lengths"
+-- the lengths of packets, summed [D3]
 unfoldable pub lengthsOf : List Packet → ℕ
 lengthsOf [] = 0
 lengthsOf (p ∷ ps) = packetLength p + lengthsOf ps
 
--- "bytes is the sum of packet lengths plus, for the packet being sent, three per triple left"
+-- and three for each triple left of the packet being sent [D3]
 unfoldable pub bytesLeft : Mux → ℕ
 bytesLeft s = lengthsOf (s .packets) + 3 * length (s .sending)
 
--- "Packets: floor((bytes + 1) / 2) · 2002·10^6 / 1200000, ceil"
+-- of so many bytes [D2]
 unfoldable pub bytesDuration : ℕ → ℕ
 bytesDuration bytes = ceil ((bytes + 1) / 2 * (2002 * 10 ^ 6)) 1200000
 

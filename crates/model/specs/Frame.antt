@@ -1,4 +1,4 @@
--- A frame of `cc_data`: its triples, and what a reader sees in one. Document 01, "Reading frames". Assumes nothing.
+-- A frame of `cc_data`: its triples, and what a reader sees in one [F4] [F5]. Assumes nothing.
 use mathlib.Core.Bool.{Bool, true, false}
 use mathlib.Core.List.{List, [], _∷_}
 use Prim.Native.Nat.{ℕ, zero, suc, _+_, _/_, _%_}
@@ -17,7 +17,7 @@ pub record Frame : Type 0 where
 pub data Pair : Type 0 where
   pair : ℕ → ℕ → Pair
 
--- "a pair says which field"
+-- a pair and its field [F14]
 pub data Cea608 : Type 0 where
   field1 field2 : Pair → Cea608
 
@@ -26,7 +26,7 @@ pub data Seen : Type 0 where
   first second start more : ℕ → ℕ → Seen
   void608 void708 : Seen
 
--- by whether the triple is valid and by its type: 0 and 1 are pairs, 2 is more of a packet, 3 a packet's start
+-- by whether the triple is valid and by its type: 0 and 1 are pairs, 2 is more of a packet, 3 a packet's start [F5]
 abbrev seenBy : Bool → ℕ → ℕ → ℕ → Seen
 seenBy true zero a b = first a b
 seenBy true (suc zero) a b = second a b
@@ -36,7 +36,7 @@ seenBy false zero a b = void608
 seenBy false (suc zero) a b = void608
 seenBy false (suc (suc n)) a b = void708
 
--- "bit 0x04 valid, low two bits type"
+-- a triple's valid bit and type [F4]
 unfoldable pub seen : Triple → Seen
 seen (tri h a b) = seenBy (leb 4 (h % 8)) (h % 4) a b
 
@@ -57,18 +57,18 @@ triplesIn (h ∷ []) = []
 triplesIn (h ∷ a ∷ []) = []
 triplesIn (h ∷ a ∷ b ∷ d) = tri h a b ∷ triplesIn d
 
--- whether "flag 0x40" is set
+-- whether 0x40 of the first byte is set [F2]
 unfoldable pub flagged : ℕ → Bool
 flagged h = eqb (h / 64 % 2) 1
 
--- "count (low five bits)"
+-- the count in its lower five bits [F2]
 abbrev pub countIn : ℕ → ℕ
 countIn h = h % 32
 
--- "A frame is at most 95 bytes."
+-- the most bytes of a frame [S5]
 abbrev pub mostFrame : ℕ
 mostFrame = 95
 
--- "Frame: 0xC0 + count, 0xFF, then triples."
+-- a frame as it is written [W3]
 unfoldable pub frameBytes : Frame → List ℕ
 frameBytes f = (0xC0 + f .count) ∷ 0xFF ∷ flat (f .triples)

@@ -1,4 +1,4 @@
--- The multiplexer: document 01, "Writing frames". Assumes nothing.
+-- The multiplexer: rules W of docs/RULES.md. Assumes nothing.
 use mathlib.Core.Bool.{Bool, true, false, cond, _&&_}
 use mathlib.Core.List.{List, [], _∷_, _++_}
 use Prim.Native.Nat.{ℕ, zero, suc, _+_, _-_, _*_, min, max}
@@ -20,32 +20,32 @@ pub record Mux : Type 0 where
   pub queue2 : List Pair
   pub next1 : Bool
 
--- "field 1 when fresh"
+-- a fresh multiplexer: it holds nothing, the paddings are off [W12] and the first turn is field 1's [W4]
 abbrev pub freshMux : Mux
 freshMux = record { pad608 = false; padOut = false; packets = []; sending = []; queue1 = []; queue2 = []; next1 = true }
 
--- the multiplexer with its padding switches set
+-- the multiplexer with its padding switches set [W12]
 abbrev pub withPads : Bool → Bool → Mux → Mux
 withPads a b s = record { pad608 = a; padOut = b; packets = s .packets; sending = s .sending; queue1 = s .queue1; queue2 = s .queue2; next1 = s .next1 }
 
--- "Flush drops the queues and the packet being sent; the padding switches stay." Whose turn is next is remembered, "flush included".
+-- A flush drops what is queued and being sent; the switches and the next turn stay [W13].
 abbrev pub flushMux : Mux → Mux
 flushMux s = record { pad608 = s .pad608; padOut = s .padOut; packets = []; sending = []; queue1 = []; queue2 = []; next1 = s .next1 }
 
--- "16 packets beside the one being sent"
+-- the most packets that wait [S1]
 abbrev pub mostPackets : ℕ
 mostPackets = 16
 
--- "each field's queue is 64 places of two bytes each"
+-- the most pairs that wait of a field [S2]
 abbrev pub mostQueued : ℕ
 mostQueued = 64
 
--- a packet that may be queued: it breaks no limit, and is not "An empty packet"
+-- a packet that may wait: within its limits, and with a block [W14]
 unfoldable pub storable : Packet → Bool
 storable p = validPacket p && leb 1 (length (p .blocks))
 
--- A multiplexer that breaks no limit: "16 packets beside the one being sent; each field's queue is 64 places". Of the triples left of the packet
--- being sent only the number is bounded, two bytes each within the most of a packet; that they are the last of some packet's is not asked.
+-- A multiplexer that breaks no limit [W14]. Of the triples left of the packet being sent only the number is bounded, two bytes each within the most
+-- of a packet; that they are the last of some packet's is not asked.
 unfoldable pub validMux : Mux → Bool
 validMux s =
     leb (length (s .packets)) mostPackets
@@ -62,11 +62,11 @@ withPackets ps s = record { pad608 = s .pad608; padOut = s .padOut; packets = ps
 abbrev pub withQueues : List Pair → List Pair → Mux → Mux
 withQueues q1 q2 s = record { pad608 = s .pad608; padOut = s .padOut; packets = s .packets; sending = s .sending; queue1 = q1; queue2 = q2; next1 = s .next1 }
 
--- a queue with one more at its end, or 10: "no place left"
+-- a queue with one more at its end, or 10 where it has no place [R10]
 unfoldable pub queued : {A : Type 0} → ℕ → A → List A → Outcome (List A)
 queued most x q = cond (leb most (length q)) (refused full) (gave (q ++ (x ∷ [])))
 
--- "An empty packet is accepted, even when full, and not stored (the Rust stores it; no frame differs)."
+-- A packet pushed: one without blocks is accepted and not kept [W10]. The Rust keeps it; no frame differs.
 unfoldable pub pushPacket : Packet → Mux → Outcome Mux
 pushPacket p s = cond (eqb (length (p .blocks)) 0) (gave s) (mapped (λ ps. withPackets ps s) (queued mostPackets p (s .packets)))
 
@@ -74,7 +74,7 @@ pushPacket p s = cond (eqb (length (p .blocks)) 0) (gave s) (mapped (λ ps. with
 unfoldable pub isNull : Pair → Bool
 isNull (pair a b) = eqb a 0x80 && eqb b 0x80
 
--- "Pushing pair 0x80,0x80 is accepted and dropped, even on a full queue."
+-- A pair pushed: 80 80 is accepted and not kept [W11].
 unfoldable pub pushPair : Pair → List Pair → Outcome (List Pair)
 pushPair x q = cond (isNull x) (gave q) (queued mostQueued x q)
 
@@ -83,7 +83,7 @@ unfoldable pub pushCea608 : Cea608 → Mux → Outcome Mux
 pushCea608 (field1 x) s = mapped (λ q. withQueues q (s .queue2) s) (pushPair x (s .queue1))
 pushCea608 (field2 x) s = mapped (λ q. withQueues (s .queue1) q s) (pushPair x (s .queue2))
 
--- "Turns this frame: pairs if 608 padding is on, else the lesser of pairs and max(queue 1, 2·queue 2)."
+-- the turns of a frame [W1]
 unfoldable pub turnsDue : ℕ → Mux → ℕ
 turnsDue pairs s = cond (s .pad608) pairs (min pairs (max (length (s .queue1)) (2 * length (s .queue2))))
 
@@ -98,9 +98,9 @@ pub record Turned : Type 0 where
 abbrev pub sentBefore : Triple → Turned → Turned
 sentBefore t r = record { out = t ∷ r .out; queue1 = r .queue1; queue2 = r .queue2; next1 = r .next1 }
 
--- "A field 1 turn is followed by a field 2 turn, and that by a field 1 turn, until no turns are left"
+-- turns of field 1 and of field 2 follow each other until none is left [W4]
 unfoldable mutual
-  -- "Field 1: its pair under 0xFC; else, queue 2 not empty, FC 80 80; else, 608 padding on, F8 80 80; else nothing."
+  -- field 1: its pair; else 80 80 for the sake of field 2, or as padding; else nothing, and it counts all the same [W5] [W9]
   pub turn1 : ℕ → Bool → List Pair → List Pair → Turned
   turn1 zero pad q1 q2 = record { out = []; queue1 = q1; queue2 = q2; next1 = true }
   turn1 (suc n) pad (pair a b ∷ q1) q2 = sentBefore (tri 0xFC a b) (turn2 n pad q1 q2)
@@ -108,30 +108,30 @@ unfoldable mutual
   turn1 (suc n) true [] [] = sentBefore (tri 0xF8 0x80 0x80) (turn2 n true [] [])
   turn1 (suc n) false [] [] = turn2 n false [] []
 
-  -- "Field 2: its pair under 0xFD; else, 608 padding on, F9 80 80; else nothing."
+  -- field 2: its pair; else padding; else nothing [W6] [W9]
   pub turn2 : ℕ → Bool → List Pair → List Pair → Turned
   turn2 zero pad q1 q2 = record { out = []; queue1 = q1; queue2 = q2; next1 = false }
   turn2 (suc n) pad q1 (pair a b ∷ q2) = sentBefore (tri 0xFD a b) (turn1 n pad q1 q2)
   turn2 (suc n) true q1 [] = sentBefore (tri 0xF9 0x80 0x80) (turn1 n true q1 [])
   turn2 (suc n) false q1 [] = turn1 n false q1 []
 
--- "whose turn is next is remembered across frames"
+-- whose turn is next is kept from frame to frame [W4]
 unfoldable pub turned : ℕ → Mux → Turned
 turned n s = cond (s .next1) (turn1 n (s .pad608) (s .queue1) (s .queue2)) (turn2 n (s .pad608) (s .queue1) (s .queue2))
 
--- of what follows a packet's first two bytes: "0xFE after, an odd last one filled with 0x00"
+-- what follows a packet's first two bytes: under 0xFE, an odd last byte filled with 0x00 [W7]
 unfoldable pub continued : List ℕ → List Triple
 continued [] = []
 continued (a ∷ []) = tri 0xFE a 0x00 ∷ []
 continued (a ∷ b ∷ d) = tri 0xFE a b ∷ continued d
 
--- of a packet's bytes: "0xFF first, 0xFE after, an odd last one filled with 0x00"
+-- a packet's bytes: the first two under 0xFF [W7]
 unfoldable pub started : List ℕ → List Triple
 started [] = []
 started (a ∷ []) = tri 0xFF a 0x00 ∷ []
 started (a ∷ b ∷ d) = tri 0xFF a b ∷ continued d
 
--- the "packet triples" of a packet: of its header and its blocks
+-- the triples of a packet: of its header and its blocks [W7]
 unfoldable pub packetTriples : Packet → List Triple
 packetTriples p = started (packetHeader p ∷ writtenBlocks (p .blocks))
 
@@ -140,11 +140,11 @@ unfoldable pub triplesQueued : List Packet → ℕ
 triplesQueued [] = 0
 triplesQueued (p ∷ ps) = length (packetTriples p) + triplesQueued ps
 
--- "packet triples not yet sent, the packet being sent included"
+-- the packet triples not yet sent, those of the packet being sent among them [W2]
 abbrev pub unsent : Mux → ℕ
 unsent s = length (s .sending) + triplesQueued (s .packets)
 
--- "Count: triples if output padding is on, else the lesser of triples and turns + packet triples not yet sent"
+-- the count of a frame [W2]
 unfoldable pub countDue : Budgets → Mux → ℕ
 countDue b s = cond (s .padOut) (b .triples) (min (b .triples) (turnsDue (b .pairs) s + unsent s))
 
@@ -158,14 +158,14 @@ pub record Sent : Type 0 where
 abbrev pub behind : List Triple → Sent → Sent
 behind ts r = record { out = ts ++ r .out; sending = r .sending; packets = r .packets }
 
--- "Then packet triples up to the count": m of them, of the packet being sent first; "Place 1 leaves next; places come free as items leave."
+-- Packet triples, m of them: those of the packet being sent first [W7], then of the packets in order [S3].
 unfoldable pub send : ℕ → List Triple → List Packet → Sent
 send m ts [] = record { out = take m ts; sending = drop m ts; packets = [] }
 send m ts (p ∷ ps) =
     cond (leb m (length ts)) (record { out = take m ts; sending = drop m ts; packets = p ∷ ps })
     (behind ts (send (m - length ts) (packetTriples p) ps))
 
--- "With output padding, FA 00 00 to the end."
+-- FA 00 00 up to the count, with output padding [W8]
 unfoldable pub padding : Bool → ℕ → List Triple
 padding on n = cond on (replicate n (tri 0xFA 0x00 0x00)) []
 
@@ -174,7 +174,7 @@ pub record Framed : Type 0 where
   pub frame : Frame
   pub next : Mux
 
--- the frame of n, with the triples of the turns, the packet triples and the padding; and what these leave of the multiplexer
+-- the frame of n, with the triples of the turns, the packet triples and the padding; and what these leave of the multiplexer [W3]
 unfoldable pub framed : ℕ → Turned → Sent → Mux → Framed
 framed n t o s =
     record {
@@ -195,7 +195,7 @@ pub record Written : Type 0 where
   pub out : List ℕ
   pub next : Mux
 
--- A frame written to a lent output at a rate: 8, then 9.
+-- A frame written to a lent output at a rate: 8, then 9 [A4].
 unfoldable pub writeAt : ℕ → ℕ → List ℕ → Mux → Outcome Written
 writeAt numer denom out s =
     andThen (budgets numer denom)

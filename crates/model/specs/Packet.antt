@@ -1,4 +1,4 @@
--- A DTVCC packet: document 01, "Blocks and packets" and "Tidy packet reading". Assumes nothing.
+-- A DTVCC packet: rules P and T of docs/RULES.md. Assumes nothing.
 use mathlib.Core.Bool.{Bool, true, false, cond, not, _&&_}
 use mathlib.Core.List.{List, [], _∷_, _++_}
 use mathlib.Core.Option.{Option, none, some}
@@ -9,7 +9,7 @@ use Rattle.model.specs.Lists.{every}
 use Rattle.model.specs.Said.{Outcome, gave, refused, isGiven, andThen, mapped, lengthMismatch, wouldOverflow, readOnly, emptyService, badNumber, badRun}
 use Rattle.model.specs.Block.{Block, mostPayload, headerLength, blockSize, blockIn, readBlock, writtenBlock, blockLength, blockRoom, withRun}
 
--- a packet: "sequence number, blocks"
+-- a packet: its sequence number and its blocks [P1]
 pub record Packet : Type 0 where
   pub sequence : ℕ
   pub blocks : List Block
@@ -18,39 +18,38 @@ pub record Packet : Type 0 where
 abbrev pub noPacket : Packet
 noPacket = record { sequence = 0; blocks = [] }
 
--- A packet made of a sequence number alone: "sequence above 3" is 6.
+-- A packet made of a sequence number alone; above 3 is 6 [P14].
 unfoldable pub newPacket : ℕ → Outcome Packet
 newPacket q = cond (ltb 3 q) (refused badNumber) (gave (record { sequence = q; blocks = [] }))
 
--- "Packet header: top two bits sequence"
+-- the sequence number in the upper two bits of a header [P2]
 abbrev pub sequenceIn : ℕ → ℕ
 sequenceIn h = h / 64 % 4
 
--- "low six bits n. n = 0 means 128 bytes in all, otherwise 2n, header included."
+-- the bytes in all that the lower six bits say [P2]
 unfoldable pub packetSize : ℕ → ℕ
 packetSize h = cond (eqb (h % 64) 0) 128 (2 * (h % 64))
 
--- "A block read without payload, or of number 0 whatever its size, moves on by one byte; its advertised size must still be present.
--- Any other moves on by its written length. So a two-byte header carrying 1 to 6 moves one byte too few."
+-- how far the plain reader goes on from a block: one byte without payload, else what the block is written in [P5]
 unfoldable pub plainMove : List ℕ → ℕ
 plainMove d = cond (eqb (length (blockIn d .payload)) 0) 1 (blockLength (blockIn d))
 
--- Tidy: "a two-byte header moves on by two plus its size; a number 0 header is skipped with its advertised body. All else as above."
+-- how far the tidy reader goes on: the header and all that it announces [T2]
 unfoldable pub tidyMove : List ℕ → ℕ
 tidyMove d = headerLength (getD d 0 0) + blockSize (getD d 0 0)
 
--- A block without payload is no block of the packet.
+-- a block without payload is no block of the packet [P6]
 abbrev pub kept : Block → List Block → List Block
 kept b bs = cond (eqb (length (b .payload)) 0) bs (b ∷ bs)
 
--- "Blocks are read until no bytes are left; a refusal of any block is the refusal of the packet." The first `passed` bytes are behind the
--- place that the block before moved on to; `move` says how far the block at the head of the bytes moves on.
+-- Blocks are read until no byte is left, and the refusal of one is the refusal of all [P4]. The first `passed` bytes are before the place that the
+-- block before went on to; `move` says how far the block at the head of the bytes goes on.
 unfoldable pub blocksFrom : (List ℕ → ℕ) → ℕ → List ℕ → Outcome (List Block)
 blocksFrom move passed [] = gave []
 blocksFrom move (suc passed) (x ∷ d) = blocksFrom move passed d
 blocksFrom move zero (x ∷ d) = andThen (readBlock (x ∷ d)) (λ b. mapped (kept b) (blocksFrom move (move (x ∷ d) - 1) d))
 
--- A packet reader, by how far a block moves on and by which length is wrong where the header says `size`; it "refuses 1 for no data (1, 0)".
+-- A packet reader, by how far a block goes on and by which length is wrong where the header says `size`; no bytes are 1 (1, 0) [P3].
 unfoldable pub readBy : (List ℕ → ℕ) → (ℕ → ℕ → Bool) → List ℕ → Outcome Packet
 readBy move wrong d =
     let size = packetSize (getD d 0 0) in
@@ -58,15 +57,15 @@ readBy move wrong d =
     (cond (wrong size (length d)) (refused (lengthMismatch size (length d)))
     (mapped (λ bs. record { sequence = sequenceIn (getD d 0 0); blocks = bs }) (blocksFrom move 0 (drop 1 d))))
 
--- "Packet reading refuses 1 for no data (1, 0) and for data *longer* than the header says. Shorter data is read as it is."
+-- The plain reader: more bytes than the header says are refused, fewer are read [P3].
 unfoldable pub readPacket : List ℕ → Outcome Packet
 readPacket d = readBy plainMove ltb d
 
--- Tidy: "data length must equal the header's size (else 1)"
+-- The tidy reader: exactly as many bytes as the header says [T1].
 unfoldable pub readTidy : List ℕ → Outcome Packet
 readTidy d = readBy tidyMove (λ size actual. not (eqb size actual)) d
 
--- whether bytes "become a packet if they read as one"
+-- whether bytes become a packet [F10]
 unfoldable pub reads : List ℕ → Bool
 reads d = isGiven (readPacket d)
 
@@ -75,7 +74,7 @@ unfoldable pub blocksLength : List Block → ℕ
 blocksLength [] = 0
 blocksLength (b ∷ bs) = blockLength b + blocksLength bs
 
--- "An empty packet has length 0"; any other has the header's byte and its blocks' lengths.
+-- the length of a packet: 0 without blocks, else the header's byte and its blocks' lengths [P7]
 unfoldable pub packetLength : Packet → ℕ
 packetLength p = cond (eqb (length (p .blocks)) 0) 0 (1 + blocksLength (p .blocks))
 
@@ -84,32 +83,31 @@ unfoldable pub writtenBlocks : List Block → List ℕ
 writtenBlocks [] = []
 writtenBlocks (b ∷ bs) = writtenBlock b ++ writtenBlocks bs
 
--- "header with n = (length + 1) / 2 kept to six bits"
+-- the header as it is written [P8]
 unfoldable pub packetHeader : Packet → ℕ
 packetHeader p = p .sequence * 64 + (packetLength p + 1) / 2 % 64
 
--- "one 0x00 if the length is odd"
+-- one 0x00 behind an odd length [P8]
 unfoldable pub fill : ℕ → List ℕ
 fill n = cond (eqb (n % 2) 1) (0x00 ∷ []) []
 
--- "Writing a packet: header with n = (length + 1) / 2 kept to six bits, the blocks, one 0x00 if the length is odd. An empty packet has length 0
--- and writes one byte."
+-- A packet as it is written: header, blocks, fill; one byte without blocks [P8].
 unfoldable pub writtenPacket : Packet → List ℕ
 writtenPacket p = packetHeader p ∷ (writtenBlocks (p .blocks) ++ fill (packetLength p))
 
--- the most bytes of a packet: "n = 0 means 128 bytes in all", and no header says more
+-- the most bytes of a packet [P1]; no header says more [P2]
 abbrev pub mostPacket : ℕ
 mostPacket = 128
 
--- "Room of a packet is 128 minus its length."
+-- the room of a packet [P9]
 abbrev pub packetRoom : Packet → ℕ
 packetRoom p = mostPacket - packetLength p
 
--- A block that may stand in a packet: neither "a block 0" nor "a block without payload", and within the limits of a block.
+-- a block that may stand in a packet: a number from 1, and a payload [P1]
 unfoldable pub carriable : Block → Bool
 carriable b = (leb 1 (b .number) && leb (b .number) 63) && (leb 1 (length (b .payload)) && leb (length (b .payload)) mostPayload)
 
--- A packet that breaks no limit: "sequence above 3", "a packet holding a block 0 or a block without payload" and a length above 128 do.
+-- A packet that breaks no limit: sequence number, blocks and length [P1].
 unfoldable pub validPacket : Packet → Bool
 validPacket p = leb (p .sequence) 3 && every carriable (p .blocks) && leb (packetLength p) mostPacket
 
@@ -117,14 +115,14 @@ validPacket p = leb (p .sequence) 3 && every carriable (p .blocks) && leb (packe
 abbrev pub withBlocks : List Block → Packet → Packet
 withBlocks bs p = record { sequence = p .sequence; blocks = bs }
 
--- "Pushing a block tests room, then EmptyService." "Bytes over is the length tested, run or block, minus the room it was tested against"
+-- A block pushed: 3 where it is longer than the room, then 5 without payload [P10].
 unfoldable pub pushBlock : Block → Packet → Outcome Packet
 pushBlock b p =
     cond (ltb (packetRoom p) (blockLength b)) (refused (wouldOverflow (blockLength b - packetRoom p)))
     (cond (eqb (length (b .payload)) 0) (refused emptyService)
     (gave (withBlocks (p .blocks ++ (b ∷ [])) p)))
 
--- "a new block is made, where service 0, a run over 31, and the packet's room are tested in that order"; room is "31 for a new block"
+-- A run as a new block: 4, then 3 for more than 31 bytes, then 3 for want of room [P12].
 unfoldable pub pushNew : ℕ → List ℕ → Packet → Outcome Packet
 pushNew n run p =
     let b : Block = record { number = n; payload = run } in
@@ -146,7 +144,7 @@ unfoldable pub latestOf : ℕ → ℕ → List Block → Option ℕ
 latestOf n zero bs = none
 latestOf n (suc k) bs = cond (eqb (getD bs k noBlock .number) n) (some k) (latestOf n k bs)
 
--- where "the latest block of that number" stands
+-- where the latest block of a number stands [P11]
 abbrev pub latest : ℕ → Packet → Option ℕ
 latest n p = latestOf n (length (p .blocks)) (p .blocks)
 
@@ -154,8 +152,8 @@ latest n p = latestOf n (length (p .blocks)) (p .blocks)
 abbrev pub extended : ℕ → List ℕ → Packet → Packet
 extended i run p = withBlocks (set (p .blocks) i (withRun run (blockAt p i))) p
 
--- A run pushed to the block at place i: it "tests the packet first and then the block". Where the block has room, only "a lack of room in the
--- packet then refuses".
+-- A run pushed to the block at place i: the packet's room is tested, then the block's [P13]. A block that has room for it makes only the first of
+-- them refuse [P11].
 unfoldable pub pushAt : ℕ → List ℕ → Packet → Outcome Packet
 pushAt i run p =
     cond (ltb (packetRoom p) (length run)) (refused (wouldOverflow (length run - packetRoom p)))
@@ -167,18 +165,17 @@ unfoldable pub pushRunAt : Bool → ℕ → List ℕ → Packet → Option ℕ �
 pushRunAt needsRoom n run p none = pushNew n run p
 pushRunAt needsRoom n run p (some i) = cond (needsRoom && ltb (blockRoom (blockAt p i)) (length run)) (pushNew n run p) (pushAt i run p)
 
--- "an argument: .. service above 63", then "a run of 0 bytes"
+-- 6 for a number above 63, then 7 for no bytes [P11]
 unfoldable pub pushRunBy : Bool → ℕ → List ℕ → Packet → Outcome Packet
 pushRunBy needsRoom n run p =
     cond (ltb 63 n) (refused badNumber)
     (cond (eqb (length run) 0) (refused badRun)
     (pushRunAt needsRoom n run p (latest n p)))
 
--- "Pushing a run to a packet: the latest block of that number is taken if it has room (31 minus payload)"; "if it has none, or there is no
--- such block, a new block is made"
+-- A run pushed: to the latest block of its number if that has room, else as a new block [P11] [P12].
 abbrev pub pushRun : ℕ → List ℕ → Packet → Outcome Packet
 pushRun n run p = pushRunBy true n run p
 
--- "The single-service form takes the latest block whether or not it has room, tests the packet first and then the block."
+-- The single-service form: to the latest block, whether or not it has room [P13].
 abbrev pub pushRunSingle : ℕ → List ℕ → Packet → Outcome Packet
 pushRunSingle n run p = pushRunBy false n run p

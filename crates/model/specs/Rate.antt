@@ -1,11 +1,11 @@
--- The two budgets of a frame rate: document 01, "Writing frames". Assumes nothing.
+-- The two budgets of a frame rate: rules G of docs/RULES.md. Assumes nothing.
 use mathlib.Core.Bool.{cond, _||_}
 use mathlib.Core.List.{List, [], _∷_}
 use Prim.Native.Nat.{ℕ, _+_, _*_, _/_}
 use lib.Dec.{eqb, ltb}
 use Rattle.model.specs.Said.{Outcome, gave, refused, badRate}
 
--- "rate numer/denom": numer frames in denom seconds
+-- numer frames in denom seconds [G1]
 pub record Rate : Type 0 where
   pub numer : ℕ
   pub denom : ℕ
@@ -14,32 +14,32 @@ pub record Rate : Type 0 where
 abbrev pub rate : ℕ → ℕ → Rate
 rate numer denom = record { numer = numer; denom = denom }
 
--- "Five rates have names: 24, 25, 30000/1001, 50, 60000/1001."
+-- the rates that have names [G3]
 abbrev pub namedRates : List Rate
 namedRates = rate 24 1 ∷ rate 25 1 ∷ rate 30000 1001 ∷ rate 50 1 ∷ rate 60000 1001 ∷ []
 
--- "Budgets for rate numer/denom": the most pairs and the most triples of a frame
+-- the most pairs and the most triples of a frame [G1]
 pub record Budgets : Type 0 where
   pub pairs : ℕ
   pub triples : ℕ
 
--- "Rounding here is floor(x + 1/2)": k · denom / numer, rounded
+-- k · denom / numer to the nearest whole number, halves up [G1]
 unfoldable pub rounded : ℕ → ℕ → ℕ → ℕ
 rounded k numer denom = (2 * (k * denom) + numer) / (2 * numer)
 
--- "pairs = round(60·denom/numer)"
+-- the pairs of a rate [G1]
 abbrev pub pairsAt : ℕ → ℕ → ℕ
 pairsAt numer denom = rounded 60 numer denom
 
--- "triples = round(600·denom/numer)"
+-- its triples [G1]
 abbrev pub triplesAt : ℕ → ℕ → ℕ
 triplesAt numer denom = rounded 600 numer denom
 
--- the most triples of any frame; 8 where "triples exceeds 31"
+-- the most triples of any frame [S5]
 abbrev pub mostTriples : ℕ
 mostTriples = 31
 
--- "BadRate exactly if numer is 0, pairs is 0, or triples exceeds 31."
+-- 8 if numer is 0, no pair is due or too many triples are; else the budgets [G2].
 unfoldable pub budgets : ℕ → ℕ → Outcome Budgets
 budgets numer denom =
     cond (eqb numer 0 || (eqb (pairsAt numer denom) 0 || ltb mostTriples (triplesAt numer denom))) (refused badRate)

@@ -1,5 +1,4 @@
--- Sequences of calls on a multiplexer, and on a demultiplexer that is emptied after each frame. The quotations in this file are of demand 3, of
--- which document 01 says that it "is read over demand 2's layouts". Assumes nothing.
+-- Sequences of calls on a multiplexer, and on a demultiplexer that is emptied after each frame: rules J of docs/RULES.md. Assumes nothing.
 use mathlib.Core.Path.{_≡_}
 use mathlib.Core.Bool.{Bool, true, cond, not, _&&_, _||_}
 use mathlib.Core.List.{List, [], _∷_, _++_}
@@ -13,7 +12,7 @@ use Rattle.model.specs.Demux.{Demux, Item, draw, takeFrame}
 use Rattle.model.specs.Rate.{Budgets, mostTriples}
 use Rattle.model.specs.Mux.{Mux, Framed, withPads, pushPacket, pushPair, pushCea608, isNull, writeFrame}
 
--- what is done to a multiplexer: "push and write in any order, never flush"; a write is at its budgets
+-- what is done to a multiplexer, in any order; no flush [J1]. A write is at its budgets
 pub data Call : Type 0 where
   pushes : Packet → Call
   pushes608 : Cea608 → Call
@@ -59,13 +58,13 @@ run (c ∷ cs) s =
     let r = run cs (k .last) in
     record { frames = k .frames ++ r .frames; packets = k .packets ++ r .packets; pairs1 = k .pairs1 ++ r .pairs1; pairs2 = k .pairs2 ++ r .pairs2; last = r .last }
 
--- What the budgets of "an accepted rate" are bounded by. Budgets that no rate has are within these bounds too.
+-- What the budgets of an accepted rate are bounded by [G2]. Budgets that no rate has are within these bounds too.
 pub record Accepted (b : Budgets) : Type 0 where
   pub some-pair : 1 ≤ b .pairs
   pub apart : b .pairs + 4 ≤ b .triples
   pub most : b .triples ≤ mostTriples
 
--- "an accepted rate and at least one padding on at each write"; a packet is one that breaks no limit
+-- a write is at an accepted rate with at least one padding on [J1]; a packet is one that breaks no limit
 abbrev pub AllowedCall : Call → Mux → Type 0
 AllowedCall (pushes p) s = validPacket p ≡ true
 AllowedCall (pushes608 x) s = Unit {0}
@@ -77,7 +76,7 @@ abbrev pub Allowed : List Call → Mux → Type 0
 Allowed [] s = Unit {0}
 Allowed (c ∷ cs) s = AllowedCall c s × Allowed cs (call c s .last)
 
--- "Once drained": nothing is queued and nothing is being sent
+-- nothing is queued and nothing is being sent [J1]
 pub record Drained (s : Mux) : Type 0 where
   pub no-packet : s .packets ≡ []
   pub no-triple : s .sending ≡ []
@@ -105,7 +104,7 @@ pub record Read : Type 0 where
   pub packets : List Packet
   pub last : Demux
 
--- "fed every frame and emptied after each"
+-- every frame is given to the demultiplexer, and all is drawn after each [J1]
 unfoldable pub readFrames : List (List ℕ) → Demux → Read
 readFrames [] d = record { answers = []; pairs = []; packets = []; last = d }
 readFrames (f ∷ fs) d =
@@ -125,7 +124,7 @@ ofField2 [] = []
 ofField2 (field1 x ∷ xs) = ofField2 xs
 ofField2 (field2 x ∷ xs) = x ∷ ofField2 xs
 
--- "pairs other than 0x80,0x80"
+-- pairs other than 80 80, which are never queued [J1]
 unfoldable pub others : List Pair → List Pair
 others [] = []
 others (x ∷ xs) = cond (isNull x) (others xs) (x ∷ others xs)

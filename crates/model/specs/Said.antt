@@ -1,14 +1,14 @@
--- What a call answers: document 01, "What comes back". Of several refusals that a call could give, "11 comes first, then 6, 7, 8, then the
--- Rust's own, then 10; 9 is last." The calls of this folder are of values within the limits, and test in that order from 6 on. That 11 comes
--- before is `checked`: a contract puts it round the call, with the test of this folder (`validBlock`, `validPacket`, `validDemux`, `validMux`) for
--- what a value means, beside the test that its places are in order. Assumes nothing.
+-- What a call answers [A1]. Of several refusals that a call could give, the first of a fixed order is given [A4]. The calls of this folder are of
+-- values within the limits, and test in that order from 6 on. That 11 comes before is `checked`: a contract puts it round the call, with the test of
+-- this folder (`validBlock`, `validPacket`, `validDemux`, `validMux`) for what a value means, beside the test that its places are in order. Assumes
+-- nothing.
 use mathlib.Core.Bool.{Bool, true, false, cond}
 use mathlib.Core.List.{List, [], _∷_, _++_}
 use Prim.Native.Nat.{ℕ}
 use lib.Dec.{ltb}
 use lib.ListN.{length, drop}
 
--- What an answer says: the number of the table, and the values that it carries in the table's order. 0 says accepted.
+-- What an answer says: the number of the refusal and the values that it carries, in order; 0 says accepted [A1].
 pub record Said : Type 0 where
   pub number : ℕ
   pub values : List ℕ
@@ -17,48 +17,47 @@ pub record Said : Type 0 where
 abbrev pub accepted : List ℕ → Said
 accepted values = record { number = 0; values = values }
 
--- 1: "a length rule below fails"
+-- 1: bytes are missing or too many [R1]
 abbrev pub lengthMismatch : ℕ → ℕ → Said
 lengthMismatch expected actual = record { number = 1; values = expected ∷ actual ∷ [] }
 
--- 2: "valid 608 triple after any 708 triple"
+-- 2: a pair behind packet data [R2]
 abbrev pub cea608AfterCea708 : ℕ → Said
 cea608AfterCea708 bytePos = record { number = 2; values = bytePos ∷ [] }
 
--- 3: "a run or block does not fit"
+-- 3: a run or a block does not fit [R3]
 abbrev pub wouldOverflow : ℕ → Said
 wouldOverflow bytesOver = record { number = 3; values = bytesOver ∷ [] }
 
--- 4: "a run for service 0"
+-- 4: a run for service 0 [R4]
 abbrev pub readOnly : Said
 readOnly = record { number = 4; values = [] }
 
--- 5: "pushing a block without payload"
+-- 5: a block without payload is pushed [R5]
 abbrev pub emptyService : Said
 emptyService = record { number = 5; values = [] }
 
--- 6: "an argument: sequence above 3, service above 63; the Rust panics"
+-- 6: no number of its kind, where the Rust panics [R6]
 abbrev pub badNumber : Said
 badNumber = record { number = 6; values = [] }
 
--- 7: "a run of 0 bytes"
+-- 7: nothing to push [R7]
 abbrev pub badRun : Said
 badRun = record { number = 7; values = [] }
 
--- 8: "see budgets"
+-- 8: a rate without budgets [R8]
 abbrev pub badRate : Said
 badRate = record { number = 8; values = [] }
 
--- 9: "lent output shorter than what would be written"
+-- 9: fewer lent bytes than would be written [R9]
 abbrev pub outShort : ℕ → Said
 outShort needed = record { number = 9; values = needed ∷ [] }
 
--- 10: "no place left"
+-- 10: there is no place [R10]
 abbrev pub full : Said
 full = record { number = 10; values = [] }
 
--- 11: "a state, packet or block whose counts, numbers or lengths break this page's limits; a block 0 with payload; a packet holding a block 0
--- or a block without payload"
+-- 11: a value that breaks a limit [R11]
 abbrev pub badValue : Said
 badValue = record { number = 11; values = [] }
 
@@ -82,12 +81,12 @@ module _ {A : Type 0} where
   isGiven (gave x) = true
   isGiven (refused why) = false
 
-  -- "State and lent bytes stay as they were": what is there after a call, if `old` was before
+  -- what is there after a call, if `old` was before: a refusal changes nothing [A2]
   abbrev pub after : A → Outcome A → A
   after old (gave new) = new
   after old (refused why) = old
 
-  -- "11 comes first": a call on a value that breaks a limit is refused, whatever else it would answer
+  -- 11 before all others [A4]: a call on a value that breaks a limit is refused, whatever else it would answer
   abbrev pub checked : Bool → Outcome A → Outcome A
   checked valid o = cond valid o (refused badValue)
 
@@ -106,7 +105,6 @@ module _ {A B : Type 0} where
   mapped f (gave x) = gave (f x)
   mapped f (refused why) = refused why
 
--- Bytes written to a lent output: 9 where it is "shorter than what would be written", with that length; else "output bytes past the written
--- length are unchanged".
+-- Bytes written to a lent output: 9 where it is too short, with the length that is needed [R9]; else the bytes behind them stay [A5].
 unfoldable pub putInto : List ℕ → List ℕ → Outcome (List ℕ)
 putInto out bytes = cond (ltb (length out) (length bytes)) (refused (outShort (length bytes))) (gave (bytes ++ drop (length bytes) out))

@@ -21,17 +21,17 @@ pub record Fits (b : Budgets) : Type 0 where
 pub fits : {b : Budgets} → Accepted b → Fits b
 fits a = record { pairs = omega (arith, a .apart); triples = a .most }
 
--- "the lesser of" is within the budget
+-- the lesser is within the budget
 within : (b : Bool) (p n : ℕ) → cond b p (min p n) ≤ p
 within true p n = omega arith
 within false p n = omega arith
 
--- "pairs if 608 padding is on, else the lesser of pairs and .."
+-- the turns of a frame are within its pairs [W1]
 pub turns-most : (p : ℕ) (s : Mux) → turnsDue p s ≤ p
 unfolding turnsDue
 turns-most p s = within (s .pad608) p _
 
--- "triples if output padding is on, else the lesser of triples and .."
+-- its count is within its triples [W2]
 pub count-most : (b : Budgets) (s : Mux) → countDue b s ≤ b .triples
 unfolding countDue
 count-most b s = within (s .padOut) (b .triples) _
@@ -44,7 +44,7 @@ total true false p t k u x y on h most all sent = omega (arith, all refl)
 total false true p t k u x y on h most all sent = omega arith
 total false false p t k u x y on h most all sent = absurd (false≢true on)
 
--- "at least one padding on at each write": the count that the first byte tells is the number of triples that follow
+-- with a padding on [J1] the count that the first byte tells is the number of triples that follow
 pub counted : (b : Budgets) (s : Mux) → Fits b → s .pad608 || s .padOut ≡ true → length (writeFrame b s .frame .triples) ≡ countDue b s
 unfolding writeFrame framed countDue turnsDue
 counted b s f on =

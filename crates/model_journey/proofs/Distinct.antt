@@ -17,7 +17,7 @@ same-items e t t′ =
       pairs2 = sym (t .pairs2) ∙ ap (λ (o : Read). others (ofField2 (o .pairs))) e ∙ t′ .pairs2;
     }
 
--- "So two drained runs that differ in these items never make the same frames."
+-- two drained runs with different items never make the same frames [J2]
 pub distinct : (cs cs′ : List Call) → Allowed cs freshMux → Allowed cs′ freshMux → Drained (run cs freshMux .last) → Drained (run cs′ freshMux .last)
     → run cs freshMux .frames ≡ run cs′ freshMux .frames → SameItems (run cs freshMux) (run cs′ freshMux)
 distinct cs cs′ w w′ d d′ e = same-items (ap (λ (fs : List (List ℕ)). readFrames fs (turn608On freshDemux)) e) (round-trip cs w d) (round-trip cs′ w′ d′)

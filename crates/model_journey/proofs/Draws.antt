@@ -22,11 +22,11 @@ draws on pending [] [] = refl
 draws on pending [] (p ∷ waiting) = let e : 0 + suc (length waiting) ≡ suc (0 + length waiting) = omega arith in rw (e, draws on pending [] waiting)
 draws on pending (x ∷ pairs) waiting = let e : suc (length pairs) + length waiting ≡ suc (length pairs + length waiting) = omega arith in rw (e, draws on pending pairs waiting)
 
--- "first the list's pairs in order, then packets, oldest first, each removed"
+-- the pairs in order, then the packets, each removed [F14]
 pub draws-all : (d : Demux) → drawTimes (length (d .pairs) + length (d .waiting)) d ≡ record { items = itemsIn d; last = emptied d }
 draws-all d = draws (d .on608) (d .pending) (d .pairs) (d .waiting)
 
--- "with none left it says so"
+-- with nothing left the draw says so [F14]
 pub draws-none : (d : Demux) → draw (emptied d) ≡ record { item = noItem; next = emptied d }
 unfolding draw
 draws-none d = refl

@@ -63,6 +63,6 @@ follow-run (pushes608 x ∷ cs) s f = follow-run cs (call (pushes608 x) s .last)
 follow-run (pads a b ∷ cs) s f = follow-run cs (call (pads a b) s .last) f
 follow-run (writes b ∷ cs) s f = follow-run cs (writeFrame b s .next) (sent-only _ f (s .packets) .follow)
 
--- "each sends at least four packet triples or all that remain": after any calls on a fresh multiplexer
+-- each write sends at least four packet triples, or all that are left [J4]: after any calls on a fresh multiplexer
 pub four : (cs : List Call) (b : Budgets) → Accepted b → SendsFour (run cs freshMux .last) (writeFrame b (run cs freshMux .last))
 four cs b a = four-at b (run cs freshMux .last) (a .apart) (follow-run cs freshMux stop)

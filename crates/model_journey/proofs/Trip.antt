@@ -23,9 +23,8 @@ none-underway {ts} {g} l rest e = empty (underway g ts) (omega (arith, underway-
 all-out : {A : Type 0} {i o now : List A} → Kept [] i o now → now ≡ [] → o ≡ i
 all-out {o} k e = sym (rw (e, append-nil o) at (k .same))
 
--- "Start a multiplexer fresh; push and write in any order, never flush, an accepted rate and at least one padding on at each write. Once
--- drained, a fresh demultiplexer with 608 on, fed every frame and emptied after each, has given exactly the accepted nonempty packets
--- (sequence number, block numbers, payload bytes) and each field's pairs other than 0x80,0x80, in order, once each."
+-- Any calls on a fresh multiplexer, without a flush and with a padding on at each accepted write: once drained, a fresh demultiplexer with 608 on,
+-- given every frame and drawn empty after each, has given exactly the items that were accepted, in order, once each [J1].
 pub round-trip : (cs : List Call) → Allowed cs freshMux → Drained (run cs freshMux .last) → RoundTrip (run cs freshMux) (readFrames (run cs freshMux .frames) (turn608On freshDemux))
 unfolding others
 round-trip cs w d =

@@ -55,7 +55,7 @@ pub record Left (i : ℕ) (q came q′ : List Pair) : Type 0 where
   pub cut : q ++ came ≡ gone ++ q′
   pub enough : i ≤ length gone
 
--- "The pair at place i of its field leaves within 2i accepted writes": whatever is pushed or switched between them. What comes is what is
+-- the pair at place i has left after 2i accepted writes [J3], whatever is pushed or switched between them. What comes is what is
 -- accepted meanwhile, other than 0x80,0x80, which is never queued.
 abbrev pub LeavesInTime : Field → List Call → Mux → Type 0
 LeavesInTime f cs s =
@@ -75,7 +75,7 @@ packetTriplesIn (second a b ∷ ts) = packetTriplesIn ts
 packetTriplesIn (void608 ∷ ts) = packetTriplesIn ts
 packetTriplesIn (void708 ∷ ts) = packetTriplesIn ts
 
--- "each sends at least four packet triples or all that remain"
+-- each write sends at least four packet triples, or all that are left [J4]
 pub record SendsFour (s : Mux) (w : Framed) : Type 0 where
   pub four : min 4 (unsent s) ≤ packetTriplesIn (seenAll (w .frame .triples))
   pub no-other : packetTriplesIn (seenAll (w .frame .triples)) + unsent (w .next) ≡ unsent s

@@ -97,7 +97,7 @@ module _ {w₀ w : CCDataWriter} {fs₀ : List (List ℕ)} {is₀ : Items} (new 
   abbrev reached : Follows freshMux [] fs₀ is₀ w (Padded before)
   reached = from-fresh new before
 
-  -- "The pair at place i of its field leaves within 2i accepted writes": whatever is pushed or switched between them, once 2i writes or more have
+  -- the pair at place i has left after 2i accepted writes [J3], whatever is pushed or switched between them, once 2i writes or more have
   -- been accepted the first i places of what was queued have gone.
   pub pair-leaves : {w′ : CCDataWriter} {fs : List (List ℕ)} {is : Items} → Calls w fs is w′ → (f : Field) → LeavesInTime f w fs is w′
   pair-leaves {w′} c f i there writes =
@@ -111,7 +111,7 @@ module _ {w₀ w : CCDataWriter} {fs₀ : List (List ℕ)} {is₀ : Items} (new 
   places-free c one i there writes = omega (arith, leaves.left-fewer (pair-leaves c one i there (omega arith)))
   places-free c two i there writes = omega (arith, leaves.left-fewer (pair-leaves c two i there (omega arith)))
 
-  -- "each sends at least four packet triples or all that remain"
+  -- each accepted write sends at least four packet triples, or all that are left [J4]
   pub sends-four : (κs : Lfts 1) (rate : Framerate) (out end : Lent) (r : WriterCount) → Write κs w rate out end r
       → (n : ℕ) → r .answer ≡ counted.Count n → SendsFour w (take n (now end)) (r .writer)
   sends-four κs rate out end r a n e =

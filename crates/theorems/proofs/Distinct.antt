@@ -19,7 +19,7 @@ pub same-items : {w₀ w v₀ v : CCDataWriter} {frames frames′ : List (List �
 same-items a c p d a′ k p′ d′ e =
     sym (carried a c p d .exactly) ∙ ap (λ (fs : List (List ℕ)). itemsRead (readFrames fs (turn608On freshDemux))) e ∙ carried a′ k p′ d′ .exactly
 
--- "So two drained runs that differ in these items never make the same frames."
+-- two drained sequences of calls with different items never make the same frames [J2]
 pub distinct : {w₀ w v₀ v : CCDataWriter} {frames frames′ : List (List ℕ)} {items items′ : Items}
     → NewWriter w₀ → (c : Calls w₀ frames items w) → Padded c → Drained w
     → NewWriter v₀ → (k : Calls v₀ frames′ items′ v) → Padded k → Drained v

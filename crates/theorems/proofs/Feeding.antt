@@ -86,7 +86,7 @@ pub feeds : {p p′ : CCDataParser} {fs : List (List ℕ)} {answers : List Answe
     → Sound p → Fed fs (means p) answers told is p′
 feeds {p} c s = feeds-at c (means p) s refl
 
--- answers that all say "accepted" are
+-- answers that all say that they are accepted are
 said-accepted : (answers : List Answer) (n : ℕ) → map saidAnswer answers ≡ replicate n (accepted []) → answers ≡ replicate n Accepted
 said-accepted [] zero e = refl
 said-accepted [] (suc n) e = absurd (omega (arith, ap length e))

@@ -66,7 +66,7 @@ read-begins {s} {r} {o} f i there such c w =
 framed : {s : Mux} {g : List ℕ} (r : Run) (d : Demux) (fs : List (List ℕ)) → r .frames ≡ fs → Carried s g r (readFrames (r .frames) d) → Carried s g r (readFrames fs d)
 framed {s} {g} r d fs e c = subst (λ (x : List (List ℕ)). Carried s g r (readFrames x d)) e c
 
--- "The pair at place i of its field leaves within 2i accepted writes", and a demultiplexer that was fed every frame before has given it by then: of
+-- the pair at place i has left after 2i accepted writes [J3], and a demultiplexer that was fed every frame before has given it by then: of
 -- what it gives from there on each field's pairs begin with those at the first i places.
 pub pair-given : {w₀ w w′ : CCDataWriter} {p₀ p p′ : CCDataParser} {fs₀ fs : List (List ℕ)} {is₀ is given₀ given : Items} {on : ParserAnswer} {answers₀ answers : List Answer} {told₀ told : List Item}
     → NewWriter w₀ → (before : Calls w₀ fs₀ is₀ w) → Padded before → (behind : Calls w fs is w′) → Padded behind

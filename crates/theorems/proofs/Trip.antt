@@ -88,9 +88,8 @@ carried {w} {frames} {accepted} new c padded empty =
     rw (← f .frames)
     (record { answers = t .answers; exactly = items-same _ accepted (t .packets ∙ f .packets) (t .pairs1 ∙ f .pairs1) (t .pairs2 ∙ f .pairs2) })
 
--- "Start a multiplexer fresh; push and write in any order, never flush, an accepted rate and at least one padding on at each write. Once drained, a
--- fresh demultiplexer with 608 on, fed every frame and emptied after each, has given exactly the accepted nonempty packets (sequence number,
--- block numbers, payload bytes) and each field's pairs other than 0x80,0x80, in order, once each."
+-- Any calls on a fresh multiplexer, without a flush and with a padding on at each accepted write: once drained, a fresh demultiplexer with 608 on,
+-- given every frame and drawn empty after each, has given exactly the items that were accepted, in order, once each [J1].
 pub round-trip : {w₀ w : CCDataWriter} {p₀ p : CCDataParser} {frames : List (List ℕ)} {accepted given : Items} {on : ParserAnswer} {answers : List Answer} {told : List Item}
     → NewWriter w₀ → (c : Calls w₀ frames accepted w) → Padded c → Drained w
     → NewParser p₀ → HandleCea608 p₀ on → Feeds (on .parser) frames answers told given p

@@ -21,7 +21,7 @@ use Rattle.theorems.specs.Writing.{Drained}
 abbrev pub queueAt : Field → CCDataWriter → List Pair
 queueAt f w = the f (queueOf (w .field1)) (queueOf (w .field2))
 
--- "packet triples not yet sent, the packet being sent included"
+-- the packet triples not yet sent, those of the packet being sent among them [W2]
 abbrev pub unsentOf : CCDataWriter → ℕ
 unsentOf w = unsent (means w)
 
@@ -29,7 +29,7 @@ unsentOf w = unsent (means w)
 abbrev pub packetTriplesOf : List ℕ → ℕ
 packetTriplesOf frame = packetTriplesIn (seenAll (triplesIn (drop 2 frame)))
 
--- "each sends at least four packet triples or all that remain", and what it sends is what remains the less
+-- each accepted write sends at least four packet triples, or all that are left [J4]; and what it sends is what remains the less
 pub record SendsFour (w : CCDataWriter) (frame : List ℕ) (w′ : CCDataWriter) : Type 0 where
   pub four : min 4 (unsentOf w) ≤ packetTriplesOf frame
   pub no-other : packetTriplesOf frame + unsentOf w′ ≡ unsentOf w
@@ -43,7 +43,7 @@ AcceptsWrite w rate out answer =
 abbrev pub pairsAt : Field → Items → List Pair
 pairsAt f is = the f (is .pairs1) (is .pairs2)
 
--- "The pair at place i of its field leaves within 2i accepted writes": between w and w′ the frames fs were written and the items `is` accepted
+-- the pair at place i has left after 2i accepted writes [J3]: between w and w′ the frames fs were written and the items `is` accepted
 abbrev pub LeavesInTime : Field → CCDataWriter → List (List ℕ) → Items → CCDataWriter → Type 0
 LeavesInTime f w fs is w′ = (i : ℕ) → i ≤ length (queueAt f w) → 2 * i ≤ length fs → Left i (queueAt f w) (pairsAt f is) (queueAt f w′)
 

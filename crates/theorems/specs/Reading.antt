@@ -26,14 +26,14 @@ drawnItem item.Packet d = onePacket (packetOf d)
 drawnItem item.Nothing d = noItems
 drawnItem (item.Refused why) d = noItems
 
--- "emptied": draws until there is nothing left, with each item that a draw told and what was given
+-- draws until there is nothing left, with each item that a draw told and what was given
 pub data Empties : CCDataParser → List Item → Items → CCDataParser → Type 0 where
   nothing-left : {p : CCDataParser} (r : Drawn) → Draw p r → r .item ≡ item.Nothing → Empties p (r .item ∷ []) (drawnItem (r .item) (r .packet)) (r .parser)
   draw : {p p′ : CCDataParser} {told : List Item} {is : Items} (r : Drawn) → Draw p r → (r .item ≡ item.Nothing → ⊥)
       → Empties (r .parser) told is p′ → Empties p (r .item ∷ told) (andThen (drawnItem (r .item) (r .packet)) is) p′
 
--- "fed every frame and emptied after each": each result is one that its function's contract allows, and the next call is of the state that came
--- back; with each frame's answer, each item that a draw told, and what was given
+-- every frame is given, and all is drawn after each [J1]: each result is one that its function's contract allows, and the next call is of the state
+-- that came back; with each frame's answer, each item that a draw told, and what was given
 pub data Feeds : CCDataParser → List (List ℕ) → List Answer → List Item → Items → CCDataParser → Type 0 where
   no-frame : {p : CCDataParser} → Feeds p [] [] [] noItems p
   feed : {p q p′ : CCDataParser} {fs : List (List ℕ)} {answers : List Answer} {told told′ : List Item} {is is′ : Items} (κs : Lfts 1) (frame : Lent) (r : ParserAnswer)

@@ -1,4 +1,4 @@
--- What demand 3 promises of calls and of the frames that they wrote. Assumes nothing.
+-- What is promised [J1] of calls and of the frames that they wrote. Assumes nothing.
 use mathlib.Core.Path.{_≡_}
 use mathlib.Core.Bool.{cond}
 use mathlib.Core.List.{List, [], _∷_, _++_}
@@ -15,7 +15,7 @@ use Rattle.parser.specs.declared.Item.{Item}
 use Rattle.theorems.specs.Items.{Items}
 use Rattle.theorems.specs.Reading.{NoRefusal}
 
--- 608 is turned on, no frame and no draw is refused, and what is given is "exactly" what was accepted, "in order, once each"
+-- 608 is turned on, no frame and no draw is refused, and what is given is exactly what was accepted, in order, once each [J1]
 pub record RoundTrip (on : ParserAnswer) (frames : List (List ℕ)) (answers : List Answer) (told : List Item) (given accepted : Items) : Type 0 where
   pub turned-on : on .answer ≡ Accepted
   pub no-refusal : NoRefusal frames answers told

@@ -38,7 +38,7 @@ abbrev pub frameIn : Counted → List ℕ → List (List ℕ)
 frameIn (counted.Count n) out = take n out ∷ []
 frameIn (counted.Refused why) out = []
 
--- "push and write in any order, never flush": calls one after the other from one state to another, with the frames that they wrote and the items
+-- calls in any order, without a flush [J1], one after the other from one state to another, with the frames that they wrote and the items
 -- that they accepted. Each has any arguments and any result that its function's contract allows, a refusal too, and the next call is of the state
 -- that came back. A write is at any rate, to lent bytes of any length.
 pub data Calls : CCDataWriter → List (List ℕ) → Items → CCDataWriter → Type 0 where
@@ -54,11 +54,11 @@ pub data Calls : CCDataWriter → List (List ℕ) → Items → CCDataWriter →
   write : {w w′ : CCDataWriter} {fs : List (List ℕ)} {is : Items} (κs : Lfts 1) (rate : Framerate) (out end : Lent) (r : WriterCount) → Write κs w rate out end r
       → Calls (r .writer) fs is w′ → Calls w (frameIn (r .answer) (now end) ++ fs) is w′
 
--- whether a write that is accepted finds "at least one padding on"
+-- whether a write that is accepted finds a padding on [J1]
 abbrev pub PaddingAt : Counted → CCDataWriter → Type 0
 PaddingAt answer w = (n : ℕ) → answer ≡ counted.Count n → w .«output_cea608_padding» || w .«output_padding» ≡ true
 
--- "at least one padding on at each write"; that its rate is accepted is what the answer says, else it is refused with 8
+-- each write finds a padding on [J1]; that its rate is accepted is what the answer says, else it is refused with 8
 abbrev pub Padded : {w w′ : CCDataWriter} {fs : List (List ℕ)} {is : Items} → Calls w fs is w′ → Type 0
 Padded no-call = Unit {0}
 Padded (push-packet d r t a c) = Padded c
@@ -67,7 +67,7 @@ Padded (set-cea608-padding on r a c) = Padded c
 Padded (set-padding on r a c) = Padded c
 Padded (write {w} κs rate out end r a c) = PaddingAt (r .answer) w × Padded c
 
--- "Once drained": nothing is queued, and every byte of the packet being sent has left
+-- nothing is queued, and every byte of the packet being sent has left
 pub record Drained (w : CCDataWriter) : Type 0 where
   pub no-packet : w .«packet_count» ≡ 0
   pub no-byte : writtenLength (w .sending) ≤ w .sent
