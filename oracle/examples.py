@@ -1,8 +1,9 @@
-"""Operations with the lines that document 01 asks for: its table "Checked examples", and raw fields set by `B`, `K`, `D` and `Q`.
+"""Operations with the lines that the rule book (docs/RULES.md) asks for: its examples, and raw fields set by `B`, `K`, `D` and `Q`.
 
-What follows a raw field is derived from document 01 and not from the crate, whose fields are private: a value within the
+What follows a raw field is derived from the rules and not from the crate, whose fields are private: a value within the
 limits is what its fields say, and every call on another is refused with 11 before anything else.
 """
+import os, re
 
 FILL = "A5"
 
@@ -202,3 +203,17 @@ RAW = [
     (("w", 60, 1, 8), out("C2 FF FE 41 41 FE 41 41", 8)),
     (("u",), "ok 0 0 0"),
 ]
+
+
+def refusals():
+    """The inputs of docs/REFUSALS.md, each record with the line that it is answered with: all but the last of an input are accepted."""
+    with open(os.path.join(os.path.dirname(os.path.abspath(__file__)), "../docs/REFUSALS.md")) as file:
+        inputs = re.findall(r"^- \*\*Input\*\*: (.*) prints `([^`]*)`$", file.read(), re.M)
+    for operations, line in inputs:
+        words = [operation.split(" ") for operation in re.findall(r"`([^`]*)`", operations)]
+        for i, (letter, *numbers) in enumerate(words):
+            record = letter.encode() + bytes(int(number, 16) for number in numbers)
+            yield ("raw", record), line if i == len(words) - 1 else "ok"
+
+
+REFUSALS = list(refusals())

@@ -1,4 +1,4 @@
-//! The crate's demultiplexer with document 01's sizes and its draw.
+//! The crate's demultiplexer with the rule book's sizes and its draw.
 
 use std::collections::VecDeque;
 

@@ -1,4 +1,4 @@
-//! The crate's multiplexer with document 01's sizes, its rates and its lent output.
+//! The crate's multiplexer with the rule book's sizes, its rates and its lent output.
 
 use cea708_types::{CCDataWriter, Cea608, DTVCCPacket, Framerate};
 
@@ -25,7 +25,7 @@ pub struct Mux {
     queued: usize,
 }
 
-/// k · denom / numer, rounded as document 01 says.
+/// k · denom / numer, rounded as the rule book says.
 fn rounded(k: u64, rate: Framerate) -> u64 {
     let (numer, denom) = (rate.numer() as u64, rate.denom() as u64);
     (2 * k * denom + numer) / (2 * numer)

@@ -1,7 +1,7 @@
 //! A block and a packet whose raw fields can be set, by the operations `B` and `K`.
 //!
 //! The crate's fields are private, so the places of the port's values stand here beside the crate's value. Places past a
-//! count keep what they held until something is written over them. Where raw fields break a limit of document 01 there is
+//! count keep what they held until something is written over them. Where raw fields break a limit of the rule book there is
 //! no value of the crate's, and every call on it is refused with 11.
 
 use cea708_types::{tables::Code, DTVCCPacket, Service};

@@ -1,4 +1,4 @@
-//! The refusals of document 01 that the crate or the rules around it give.
+//! The refusals of the rule book that the crate or the rules around it give.
 
 use std::fmt;
 

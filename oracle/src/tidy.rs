@@ -1,4 +1,4 @@
-//! Document 01's tidy packet reader, which the crate does not have, over the crate's block reader.
+//! The tidy packet reader, which the crate does not have, over the crate's block reader.
 
 use cea708_types::{DTVCCPacket, Service};
 
