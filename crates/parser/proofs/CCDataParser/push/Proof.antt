@@ -8,8 +8,8 @@ use Rattle.parser.proofs.CCDataParser.push.Tie as tie
 counts-requires : tie.Need-counts-requires
 counts-requires c κs = search needs
 
-oldest-requires : tie.Need-oldest-requires
-oldest-requires c κs = search needs
+front-of-requires : tie.Need-front-of-requires
+front-of-requires c κs = search needs
 
 ring-good-requires : tie.Need-ring-good-requires
 ring-good-requires c κs = search needs
@@ -35,7 +35,10 @@ returns c =
     let q = g .before .before .before .before in
     let t = q .before .before in
     let o = t .before .before .before .before in
-    push-full _ _ (o .before .counts .ensures .1) _ (o .before .counts .ensures .0) _ (tested-fine _ _ _ _ _ (o .oldest .ensures) _ _ (t .before .before .before .ring-good .ensures) (t .good2 .ensures)) (q .before .if1 .taken) _ (q .plan-of .ensures) _ _ (g .before .before .list-by .ensures) _ _ (g .gather-by .ensures) _ (c .before .if2 .taken) (c .refused .ensures)
+    let n = o .before .counts in
+    let v = tested-fine (n .result) _ _ _ _ (o .front-of .ensures) _ _ (t .before .before .before .ring-good .ensures) (t .good2 .ensures) in
+    push-full _ _ (n .ensures .1) (n .result) (n .ensures .0) _ v (q .before .if1 .taken) _ (q .plan-of .ensures)
+    _ _ (g .before .before .list-by .ensures) _ _ (g .gather-by .ensures) _ (c .before .if2 .taken) (c .refused .ensures)
 
 returns-2 : tie.Need-returns-2
 returns-2 c =
@@ -43,7 +46,10 @@ returns-2 c =
     let q = g .before .before .before .before in
     let t = q .before .before in
     let o = t .before .before .before .before in
-    push-done _ _ (o .before .counts .ensures .1) _ (o .before .counts .ensures .0) _ (tested-fine _ _ _ _ _ (o .oldest .ensures) _ _ (t .before .before .before .ring-good .ensures) (t .good2 .ensures)) (q .before .if1 .taken) _ (q .plan-of .ensures) _ _ (g .before .before .list-by .ensures) _ _ (g .gather-by .ensures) (c .before .if2 .left)
+    let n = o .before .counts in
+    let v = tested-fine (n .result) _ _ _ _ (o .front-of .ensures) _ _ (t .before .before .before .ring-good .ensures) (t .good2 .ensures) in
+    push-done _ _ (n .ensures .1) (n .result) (n .ensures .0) _ v (q .before .if1 .taken) _ (q .plan-of .ensures)
+    _ _ (g .before .before .list-by .ensures) _ _ (g .gather-by .ensures) (c .before .if2 .left)
 
 refused-requires-2 : tie.Need-refused-requires-2
 refused-requires-2 c κs = search needs
@@ -52,14 +58,16 @@ returns-3 : tie.Need-returns-3
 returns-3 c =
     let t = c .before .before in
     let o = t .before .before .before .before in
-    push-bad _ _ (o .before .counts .ensures .1) _ (o .before .counts .ensures .0) _ (tested-fine _ _ _ _ _ (o .oldest .ensures) _ _ (t .before .before .before .ring-good .ensures) (t .good2 .ensures)) _ (c .before .if1 .left) (c .refused2 .ensures)
+    let n = o .before .counts in
+    let v = tested-fine (n .result) _ _ _ _ (o .front-of .ensures) _ _ (t .before .before .before .ring-good .ensures) (t .good2 .ensures) in
+    push-bad _ _ (n .ensures .1) (n .result) (n .ensures .0) _ v _ (c .before .if1 .left) (c .refused2 .ensures)
 
 pub push-spec : {M : Type 1} → statement M
 push-spec =
     tie.close
     (tie.spec
     counts-requires
-    oldest-requires
+    front-of-requires
     ring-good-requires
     good-requires
     plan-of-requires
