@@ -10,6 +10,7 @@ pub mod Packet
 pub mod Slots
 pub mod ParserTriples
 pub mod ParserRings
+pub mod ParserDraws
 pub mod ParserGather
 pub mod Parser
 pub mod WriterFrames

@@ -27,7 +27,7 @@ use Rattle.parser_rings.proofs.Rings.{ring-round}
 use Rattle.parser_rings.proofs.Places.{sets-first}
 use Rattle.parser.specs.Means.{means, Shaped}
 use Rattle.parser.specs.Calls.{headAfter}
-use Rattle.parser.specs.Take.{slid, placeBehind, firstPair}
+use Rattle.parser_draws.specs.Take.{slid, nextHead, firstPair}
 use Rattle.parser.specs.declared.CCDataParser.{CCDataParser}
 use Rattle.parser.proofs.Valids.{Fine, waiting-count}
 use Rattle.parser.proofs.Laid.{Stands, own-stands}
@@ -65,8 +65,8 @@ pair-drawn l = by (eqb (getD l 0 0) 0)
 -- a ring without its first slot
 module _ (l : List Slot) (first n : ℕ) (some : n ≡ 0 → ⊥) (within : first ≤ 31) where
   -- the slots are the first one and the others
-  pub ring-drawn : ringFrom first n l ≡ getD l first noSlot ∷ ringFrom (placeBehind first n) (n - 1) l
-  unfolding ringFrom placeBehind
+  pub ring-drawn : ringFrom first n l ≡ getD l first noSlot ∷ ringFrom (nextHead first n) (n - 1) l
+  unfolding ringFrom nextHead
   ring-drawn =
       let z : first % 32 ≡ first = omega arith in
       by-test (eqb n 1)
@@ -75,9 +75,9 @@ module _ (l : List Slot) (first n : ℕ) (some : n ≡ 0 → ⊥) (within : firs
       rw t (ap (λ (k : ℕ). ringFrom first k l) e ∙ rw (z, ring-round (n - 1) (first + 1) ((first + 1) % 32) l (omega arith))))
 
   -- and the next place is one of 32
-  behind-within : placeBehind first n ≤ 31
-  unfolding placeBehind
-  behind-within = by-test (eqb n 1) (λ t. rw t (omega arith)) (λ t. rw t (omega arith))
+  next-within : nextHead first n ≤ 31
+  unfolding nextHead
+  next-within = by-test (eqb n 1) (λ t. rw t (omega arith)) (λ t. rw t (omega arith))
 
 -- the ring's head where so many waited and n wait
 module _ (first waited n : ℕ) where
@@ -87,8 +87,8 @@ module _ (first waited n : ℕ) where
   head-stays h = rw (le-ltb n waited h)
 
   -- one fewer
-  pub head-moves : waited ≡ suc n → headAfter first waited n ≡ placeBehind first waited
-  unfolding headAfter placeBehind
+  pub head-moves : waited ≡ suc n → headAfter first waited n ≡ nextHead first waited
+  unfolding headAfter nextHead
   head-moves e =
       rw (lt-ltb n waited (omega arith))
       (by-test (eqb n 0)
@@ -108,20 +108,20 @@ slot-read s e = given _ (both (leb (s .len) 128) _ e .1)
 -- drawing an item leaves the slots behind it
 module _ (p : CCDataParser) (v : Fine p) (s : Shaped p) where
   -- a packet is drawn
-  taken-stands : (q : Packet) (ps : List Packet) → means p .waiting ≡ q ∷ ps → Stands (placeBehind (p .«waiting_first») (p .«waiting_count»)) (p .waiting) ps
+  taken-stands : (q : Packet) (ps : List Packet) → means p .waiting ≡ q ∷ ps → Stands (nextHead (p .«waiting_first») (p .«waiting_count»)) (p .waiting) ps
   unfolding means every packetsOf closed
   taken-stands q ps e =
       let many : p .«waiting_count» ≡ suc (length ps) = sym (waiting-count p v) ∙ ap length e in
       let some : p .«waiting_count» ≡ 0 → ⊥ = λ z. omega arith in
       let one : p .«waiting_count» - 1 ≡ length ps = omega arith in
-      let others : List Slot = ringFrom (placeBehind (p .«waiting_first») (p .«waiting_count»)) (length ps) (p .waiting) in
+      let others : List Slot = ringFrom (nextHead (p .«waiting_first») (p .«waiting_count»)) (length ps) (p .waiting) in
       let head : Slot = getD (p .waiting) (p .«waiting_first») noSlot in
       let ring : ringFrom (p .«waiting_first») (p .«waiting_count») (p .waiting) ≡ head ∷ others = rw one at (ring-drawn (p .waiting) (p .«waiting_first») (p .«waiting_count») some (v .ring .first)) in
       let fine = both (slotFine head) (every slotFine others) (ap (every slotFine) (sym ring) ∙ v .ring .reading) in
       let k = slot-read head (fine .0) in
       let same : k .0 ∷ packetsOf (map slotRun others) ≡ q ∷ ps = rw (k .1) at (ap (λ (l : List Slot). packetsOf (map slotRun l)) (sym ring) ∙ e) in
       record {
-        first = behind-within (p .waiting) (p .«waiting_first») (p .«waiting_count») some (v .ring .first);
+        first = next-within (p .waiting) (p .«waiting_first») (p .«waiting_count») some (v .ring .first);
         places = s .waiting;
         reading = fine .1;
         packets = ap (λ (l : List Packet). drop 1 l) same;

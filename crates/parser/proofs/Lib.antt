@@ -7,7 +7,6 @@ pub mod Listed
 pub mod Told
 pub mod Pushes
 pub mod Calls
-pub mod Draws
 pub mod Drawing
 pub mod Items
 pub mod Same

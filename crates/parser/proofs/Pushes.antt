@@ -21,7 +21,7 @@ use Rattle.parser.specs.Valid.{valid}
 use Rattle.parser.specs.Calls.{laidAfter, Answers}
 use Rattle.parser.specs.After.{pushed}
 use Rattle.parser.specs.Tests.{countsOf, fine}
-use Rattle.parser.specs.Push.{fed, refusedFor, joined, chosen}
+use Rattle.parser.specs.Push.{fed, refusedFor, joinedBy, joined, chosen}
 use Rattle.parser.specs.declared.Counts.{Counts}
 use Rattle.parser.specs.declared.CCDataParser.{CCDataParser}
 use Rattle.parser.specs.declared.ParserAnswer.{ParserAnswer}
@@ -92,42 +92,18 @@ module _ (p : CCDataParser) (f : List ℕ) (shaped : Shaped p) (c : Counts) (cou
           pushed-by p f _ shaped within (t .0) e
 
       -- no packet came,
-      pub push-none : g .waiting ≤ 32 → g .waiting ≡ c .waiting
-          → Pushed p f
-          (record {
-            answer = q .answer;
-            parser = record {
-              «cea608_on» = c .on;
-              «pair_count» = n;
-              pairs = k;
-              «pending_len» = g .pending;
-              pending = l;
-              «waiting_first» = c .first;
-              «waiting_count» = c .waiting;
-              waiting = p .waiting;
-            };
-          })
-      push-none h e =
+      pub push-none : g .waiting ≤ 32 → g .waiting ≡ c .waiting → (x : CCDataParser) → x ≡ joinedBy c n k (g .pending) l (c .waiting) (p .waiting)
+          → Pushed p f (record { answer = q .answer; parser = x })
+      push-none h e x y =
           let same : g .waiting ≡ p .«waiting_count» = rw counted at e in
           let ours : Left = record { pending = g .pending; bytes = l; count = p .«waiting_count»; slots = p .waiting } in
           let alike : joined p (record { count = n; places = k }) (chosen p (takenBy g l)) ≡ joined p (record { count = n; places = k }) ours =
           rw (eq-eqb (g .waiting) (p .«waiting_count») same, same) in
-          rw counted (subst (λ (x : CCDataParser). Pushed p f (record { answer = q .answer; parser = x })) alike (kept h))
+          rw (y, counted) (subst (λ (z : CCDataParser). Pushed p f (record { answer = q .answer; parser = z })) alike (kept h))
 
       -- or some did
-      pub push-done : g .waiting ≤ 32 → (g .waiting ≡ c .waiting → ⊥)
-          → Pushed p f
-          (record {
-            answer = q .answer;
-            parser = record {
-              «cea608_on» = c .on;
-              «pair_count» = n;
-              pairs = k;
-              «pending_len» = g .pending;
-              pending = l;
-              «waiting_first» = c .first;
-              «waiting_count» = g .waiting;
-              waiting = g .slots;
-            };
-          })
-      push-done h e = let other : (g .waiting ≡ p .«waiting_count» → ⊥) = rw counted at e in rw counted (rw (ne-eqb (g .waiting) (p .«waiting_count») other) at (kept h))
+      pub push-done : g .waiting ≤ 32 → (g .waiting ≡ c .waiting → ⊥) → (x : CCDataParser) → x ≡ joinedBy c n k (g .pending) l (g .waiting) (g .slots)
+          → Pushed p f (record { answer = q .answer; parser = x })
+      push-done h e x y =
+          let other : (g .waiting ≡ p .«waiting_count» → ⊥) = rw counted at e in
+          rw (y, counted) (rw (ne-eqb (g .waiting) (p .«waiting_count») other) at (kept h))

@@ -1,82 +1,46 @@
 -- Laws of the limits, one for each way out of a function, and the facts of a state within them. Assumes nothing.
-use mathlib.Core.Path.{_≡_, refl, sym, ap, _∙_}
+use mathlib.Core.Path.{_≡_, refl, sym, _∙_}
 use mathlib.Core.List.{List, [], _∷_, map}
 use mathlib.Core.Bool.{Bool, true, false, _&&_, _||_}
-use Prim.Native.Nat.{ℕ, _-_, _*_, _%_, _≤_}
+use Prim.Native.Nat.{ℕ, _*_, _≤_}
 use native.Mathlib.Omega.{arith}
-use lib.ListN.{length, getD, take, length-append}
+use lib.ListN.{length, take, length-append}
 use lib.Dec.{eqb, leb}
-use borrow.Author.Tests.{eq-eqb, ne-eqb, eqb-true, eqb-false, le-leb, leb-true}
+use borrow.Author.Tests.{le-leb, leb-true}
 use Rattle.model.specs.Lists.{every, same}
 use Rattle.model.specs.Packet.{reads}
 use Rattle.model.specs.Demux.{closed, packetsOf, validPending, validDemux}
-use Rattle.model.proofs.Cases.{by-test, both, and-both}
+use Rattle.model.proofs.Cases.{both, and-both}
 use Rattle.model.proofs.Lists.{same-true, same-self}
 use Rattle.model.proofs.Frames.{closed-one}
 use Rattle.model.proofs.DemuxStates.{demux-facts, facts-demux, packets-valid}
-use Rattle.slots.specs.Slot.{noSlot, slotWith}
 use Rattle.slots.specs.declared.Slot.{Slot}
 use Rattle.parser_triples.specs.Pairs.{placedAll, pairsOf}
 use Rattle.parser_rings.specs.Ring.{ringFrom, slotRun, slotFine}
-use Rattle.parser_rings.specs.Tests.{ringFine, headFine, behindFine, oldestOf}
+use Rattle.parser_rings.specs.Tests.{headFine, frontOf}
 use Rattle.parser_gather.specs.Tests.{pendingFine}
 use Rattle.parser_rings.specs.declared.Front.{Front}
 use Rattle.parser_triples.proofs.Fields.{placed-again, again-placed, list-facts, facts-list, pairs-length}
-use Rattle.parser_rings.proofs.Slots.{RingFine, ring-facts, facts-ring, behind-empty, ring-parts}
+use Rattle.parser_rings.proofs.Slots.{RingFine, ring-facts, facts-ring, ring-whole}
 use Rattle.parser_gather.proofs.Pending.{fine-pending}
 use Rattle.parser_rings.proofs.Rings.{ring-length}
 use Rattle.parser.specs.Means.{means, Shaped}
 use Rattle.parser.specs.Valid.{inOrder, valid}
 use Rattle.parser_triples.specs.Listing.{listFine}
-use Rattle.parser.specs.Tests.{countsOf, frontOf, fine}
+use Rattle.parser.specs.Tests.{countsOf, fine}
 use Rattle.parser.specs.declared.CCDataParser.{CCDataParser}
 use Rattle.parser.specs.declared.Counts.{Counts}
 
--- the ring behind its head, and the slot there
-module _ (c : Counts) (slots : List Slot) where
-  -- of an empty ring
-  pub front-none : c .waiting ≡ 0 → record { good = leb (c .first) 31; slot = slotWith 0 [] } ≡ frontOf c slots
-  unfolding frontOf
-  front-none z = rw (eq-eqb _ _ z)
-
-  -- of any other
-  pub front-some : (r : Front) → (c .waiting ≡ 0 → ⊥) → r ≡ oldestOf (c .first) (c .waiting) slots → r ≡ frontOf c slots
-  unfolding frontOf
-  front-some r n e = rw (ne-eqb _ _ n) e
-
-  -- what they say
-  pub front-found : (r : Front) → r ≡ frontOf c slots → (r .good ≡ behindFine (c .first) (c .waiting) slots) × ((c .waiting ≡ 0 → ⊥) → r .slot ≡ getD slots (c .first % 32) noSlot)
-  unfolding frontOf oldestOf
-  front-found r e =
-      by-test (eqb (c .waiting) 0)
-      (λ t. let z : c .waiting ≡ 0 = eqb-true _ _ t in let f = rw t at e in (ap (λ (x : Front). x .good) f ∙ rw z (behind-empty (c .first) slots), λ n. absurd (n z)))
-      (λ t. let f = rw t at e in (ap (λ (x : Front). x .good) f, λ n. ap (λ (x : Front). x .slot) f))
-
--- the head of an empty ring, and of any other
-module _ (n : ℕ) (s : Slot) where
-  pub head-none : n ≡ 0 → true ≡ headFine n s
-  unfolding headFine
-  head-none z = rw (eq-eqb _ _ z)
-
-  pub head-some : (n ≡ 0 → ⊥) → (b : Bool) → b ≡ slotFine s → b ≡ headFine n s
-  unfolding headFine
-  head-some z b e = rw (ne-eqb _ _ z) e
-
--- a state, by what was found of its ring: the slot at the head, and whether the ring behind it is within its limits
-module _ (c : Counts) (pairs pending : List ℕ) (slots : List Slot) (o : Front) (front : o ≡ frontOf c slots) where
-  -- of an empty ring the slot says nothing
-  head-is : headFine (c .waiting) (o .slot) ≡ headFine (c .waiting) (getD slots (c .first % 32) noSlot)
-  unfolding headFine
-  head-is = by-test (eqb (c .waiting) 0) (λ e. rw e) (λ e. rw (front-found c slots o front .1 (eqb-false _ _ e)))
-
-  -- the whole ring
-  ring-whole : o .good && headFine (c .waiting) (o .slot) ≡ ringFine (c .first) (c .waiting) slots
-  ring-whole = rw (front-found c slots o front .0, head-is) (sym (ring-parts (c .first) slots (c .waiting)))
+-- a state, by what was found of its ring: the slot at the head, and whether the ring but for it is within its limits
+module _ (c : Counts) (pairs pending : List ℕ) (slots : List Slot) (o : Front) (front : o ≡ frontOf (c .first) (c .waiting) slots) where
+  -- the tests of a state, `ring` telling it of the waiting slots
+  abbrev tests : Bool → Bool
+  tests ring = listFine (c .on) (c .pairs) pairs && (pendingFine (c .pending) pending && ring)
 
   -- the whole ring is tested, and then the rest
-  pub tested-fine : (ring b : Bool) → ring ≡ (o .good && headFine (c .waiting) (o .slot)) → b ≡ (listFine (c .on) (c .pairs) pairs && (pendingFine (c .pending) pending && ring)) → b ≡ fine c pairs pending slots
+  pub tested-fine : (ring b : Bool) → ring ≡ (o .good && headFine (c .waiting) (o .slot)) → b ≡ tests ring → b ≡ fine c pairs pending slots
   unfolding fine
-  tested-fine ring b e q = q ∙ rw (e, ring-whole)
+  tested-fine ring b e q = q ∙ rw (e, ring-whole (c .first) (c .waiting) slots o front)
 
   apart : (x y z h : Bool) → (x && (y && z)) && h ≡ x && (y && (z && h))
   apart false y z h = refl
@@ -84,9 +48,14 @@ module _ (c : Counts) (pairs pending : List ℕ) (slots : List Slot) (o : Front)
   apart true true z h = refl
 
   -- all but the slot at the head is tested, and then that slot
-  pub behind-fine : (b : Bool) → b ≡ (listFine (c .on) (c .pairs) pairs && (pendingFine (c .pending) pending && o .good)) → b && headFine (c .waiting) (o .slot) ≡ fine c pairs pending slots
+  pub rest-fine : (b : Bool) → b ≡ tests (o .good) → b && headFine (c .waiting) (o .slot) ≡ fine c pairs pending slots
   unfolding fine
-  behind-fine b q = rw (q, apart (listFine (c .on) (c .pairs) pairs) (pendingFine (c .pending) pending) (o .good) (headFine (c .waiting) (o .slot)), ring-whole)
+  rest-fine b q =
+      rw (
+        q,
+        apart (listFine (c .on) (c .pairs) pairs) (pendingFine (c .pending) pending) (o .good) (headFine (c .waiting) (o .slot)),
+        ring-whole (c .first) (c .waiting) slots o front,
+      )
 
 -- the facts of a state within the limits
 pub record Fine (p : CCDataParser) : Type 0 where

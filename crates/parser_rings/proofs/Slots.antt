@@ -1,19 +1,20 @@
 -- Laws of slots within the limits, one for each way out of a function. Assumes nothing.
-use mathlib.Core.Path.{_≡_, refl, sym, _∙_}
-use mathlib.Core.List.{List}
+use mathlib.Core.Path.{_≡_, refl, sym, ap, _∙_}
+use mathlib.Core.List.{List, []}
 use mathlib.Core.Bool.{and-true, Bool, true, false, _&&_}
 use Prim.Native.Nat.{ℕ, zero, suc, _+_, _-_, _%_, _≤_, _<_}
 use native.Mathlib.Omega.{arith}
 use lib.ListN.{getD, take}
-use lib.Dec.{leb}
-use borrow.Author.Tests.{ne-eqb, lt-leb, le-leb, leb-true}
+use lib.Dec.{eqb, leb}
+use borrow.Author.Tests.{eq-eqb, ne-eqb, eqb-true, eqb-false, lt-leb, le-leb, leb-true}
 use Rattle.model.specs.Lists.{every}
 use Rattle.model.specs.Packet.{reads}
-use Rattle.model.proofs.Cases.{both}
-use Rattle.slots.specs.Slot.{noSlot}
+use Rattle.model.proofs.Cases.{by-test, both}
+use Rattle.slots.specs.Slot.{noSlot, slotWith}
 use Rattle.slots.specs.declared.Slot.{Slot}
 use Rattle.parser_rings.specs.Ring.{slotFine, ringFrom}
-use Rattle.parser_rings.specs.Tests.{ringFine, headFine, behindFine, oldestOf}
+use Rattle.parser_rings.specs.Tests.{ringFine, headFine, restFine, frontAt, frontOf}
+use Rattle.parser_rings.specs.declared.Front.{Front}
 
 module _ (s : Slot) where
   -- longer than its places
@@ -50,39 +51,39 @@ module _ (a : Bool) (l : List Slot) (first n i : ℕ) (e : a ≡ every slotFine 
     pub slots-bad : b ≡ false → false ≡ a
     slots-bad t = sym (rw t at slots-here)
 
--- the ring behind its head
+-- the ring but for its head
 module _ (f n : ℕ) (l : List Slot) where
   -- a place that is not one of 32
-  pub behind-first : 32 ≤ f → false ≡ behindFine f n l
-  unfolding behindFine
-  behind-first h = rw (lt-leb f 31 h)
+  pub rest-first : 32 ≤ f → false ≡ restFine f n l
+  unfolding restFine
+  rest-first h = rw (lt-leb f 31 h)
 
   module _ (within : f < 32) where
     -- too many
-    pub behind-count : 32 < n → false ≡ behindFine f n l
-    unfolding behindFine
-    behind-count h = rw (le-leb f 31 (omega arith), lt-leb n 32 h)
+    pub rest-count : 32 < n → false ≡ restFine f n l
+    unfolding restFine
+    rest-count h = rw (le-leb f 31 (omega arith), lt-leb n 32 h)
 
     -- all are left
-    pub behind-start : n ≤ 32 → behindFine f n l ≡ every slotFine (ringFrom (f + 1) (n - 1) l)
-    unfolding behindFine
-    behind-start h = rw (le-leb f 31 (omega arith), le-leb n 32 h)
+    pub rest-start : n ≤ 32 → restFine f n l ≡ every slotFine (ringFrom (f + 1) (n - 1) l)
+    unfolding restFine
+    rest-start h = rw (le-leb f 31 (omega arith), le-leb n 32 h)
 
     -- none are there
-    pub behind-none : n < 2 → true ≡ behindFine f n l
+    pub rest-none : n < 2 → true ≡ restFine f n l
     unfolding every ringFrom
-    behind-none h = let z : n - 1 ≡ 0 = omega arith in sym (rw z at (behind-start (omega arith)))
+    rest-none h = let z : n - 1 ≡ 0 = omega arith in sym (rw z at (rest-start (omega arith)))
 
     -- one is there
-    pub behind-one : n ≡ 2 → (b : Bool) → b ≡ slotFine (getD l ((f + 1) % 32) noSlot) → b ≡ behindFine f n l
+    pub rest-one : n ≡ 2 → (b : Bool) → b ≡ slotFine (getD l ((f + 1) % 32) noSlot) → b ≡ restFine f n l
     unfolding every ringFrom
-    behind-one two b e =
+    rest-one two b e =
         let z : n - 1 ≡ suc 0 = omega arith in
-        e ∙ sym ((rw z at (behind-start (omega arith))) ∙ and-true _)
+        e ∙ sym ((rw z at (rest-start (omega arith))) ∙ and-true _)
 
-  -- the slot at the head, and the answer for the ring behind it
-  pub front-is : (b : Bool) (s : Slot) → b ≡ behindFine f n l → s ≡ getD l (f % 32) noSlot → record { good = b; slot = s } ≡ oldestOf f n l
-  unfolding oldestOf
+  -- the slot at the head, and the answer for the ring but for it
+  pub front-is : (b : Bool) (s : Slot) → b ≡ restFine f n l → s ≡ getD l (f % 32) noSlot → record { good = b; slot = s } ≡ frontAt f n l
+  unfolding frontAt
   front-is b s e q = rw (e, q)
 
   -- a head at a place that is named
@@ -90,22 +91,22 @@ module _ (f n : ℕ) (l : List Slot) where
     here : getD l at noSlot ≡ getD l (f % 32) noSlot
     here = let z : f % 32 ≡ at = omega arith in rw z
 
-    -- with none behind it
-    pub front-alone : n < 2 → record { good = true; slot = getD l at noSlot } ≡ oldestOf f n l
-    front-alone k = front-is true (getD l at noSlot) (behind-none (omega arith) k) here
+    -- with none after it
+    pub front-alone : n < 2 → record { good = true; slot = getD l at noSlot } ≡ frontAt f n l
+    front-alone k = front-is true (getD l at noSlot) (rest-none (omega arith) k) here
 
-    -- with one behind it
-    pub front-followed : n ≡ 2 → (b : Bool) → b ≡ slotFine (getD l (at + 1) noSlot) → record { good = b; slot = getD l at noSlot } ≡ oldestOf f n l
+    -- with one after it
+    pub front-followed : n ≡ 2 → (b : Bool) → b ≡ slotFine (getD l (at + 1) noSlot) → record { good = b; slot = getD l at noSlot } ≡ frontAt f n l
     front-followed k b q =
         let z : (f + 1) % 32 ≡ at + 1 = omega arith in
-        front-is b (getD l at noSlot) (behind-one (omega arith) k b (rw z q)) here
+        front-is b (getD l at noSlot) (rest-one (omega arith) k b (rw z q)) here
 
 -- no slots
-pub behind-empty : (f : ℕ) (l : List Slot) → leb f 31 ≡ behindFine f 0 l
-unfolding behindFine every ringFrom
-behind-empty f l = sym (and-true (leb f 31))
+pub rest-empty : (f : ℕ) (l : List Slot) → leb f 31 ≡ restFine f 0 l
+unfolding restFine every ringFrom
+rest-empty f l = sym (and-true (leb f 31))
 
--- the ring is its head and what is behind it
+-- the ring is its head and what follows
 module _ (f : ℕ) (l : List Slot) where
   parts : (a b h t : Bool) → a && (b && (h && t)) ≡ (a && (b && t)) && h
   parts false b h t = refl
@@ -114,8 +115,8 @@ module _ (f : ℕ) (l : List Slot) where
   parts true true false true = refl
   parts true true false false = refl
 
-  pub ring-parts : (n : ℕ) → ringFine f n l ≡ behindFine f n l && headFine n (getD l (f % 32) noSlot)
-  unfolding ringFine behindFine headFine every ringFrom
+  pub ring-parts : (n : ℕ) → ringFine f n l ≡ restFine f n l && headFine n (getD l (f % 32) noSlot)
+  unfolding ringFine restFine headFine every ringFrom
   ring-parts zero = sym (and-true _)
   ring-parts (suc n) =
       let z : suc n - 1 ≡ n = omega arith in
@@ -140,3 +141,49 @@ module _ (f n : ℕ) (l : List Slot) where
   pub facts-ring : RingFine f n l → ringFine f n l ≡ true
   unfolding ringFine
   facts-ring v = rw (le-leb _ _ (v .first), le-leb _ _ (v .count), v .reading)
+
+-- the head of an empty ring, and of any other
+module _ (n : ℕ) (s : Slot) where
+  pub head-none : n ≡ 0 → true ≡ headFine n s
+  unfolding headFine
+  head-none z = rw (eq-eqb _ _ z)
+
+  pub head-some : (n ≡ 0 → ⊥) → (b : Bool) → b ≡ slotFine s → b ≡ headFine n s
+  unfolding headFine
+  head-some z b e = rw (ne-eqb _ _ z) e
+
+-- the slot at the head, and whether the ring but for it is within its limits
+module _ (f n : ℕ) (l : List Slot) where
+  -- of an empty ring
+  pub front-none : n ≡ 0 → record { good = leb f 31; slot = slotWith 0 [] } ≡ frontOf f n l
+  unfolding frontOf
+  front-none z = rw (eq-eqb _ _ z)
+
+  -- of any other
+  pub front-some : (r : Front) → (n ≡ 0 → ⊥) → r ≡ frontAt f n l → r ≡ frontOf f n l
+  unfolding frontOf
+  front-some r z e = rw (ne-eqb _ _ z) e
+
+  -- what was found
+  module _ (r : Front) (e : r ≡ frontOf f n l) where
+    -- it says of the ring but for its head,
+    pub front-rest : r .good ≡ restFine f n l
+    unfolding frontOf frontAt
+    front-rest =
+        by-test (eqb n 0)
+        (λ t. let z : n ≡ 0 = eqb-true _ _ t in ap (λ (x : Front). x .good) (rw t at e) ∙ rw z (rest-empty f l))
+        (λ t. ap (λ (x : Front). x .good) (rw t at e))
+
+    -- and gives the head, if there is one
+    pub front-slot : (n ≡ 0 → ⊥) → r .slot ≡ getD l (f % 32) noSlot
+    unfolding frontOf frontAt
+    front-slot z = ap (λ (x : Front). x .slot) (rw (ne-eqb _ _ z) at e)
+
+    -- of an empty ring the slot says nothing
+    head-is : headFine n (r .slot) ≡ headFine n (getD l (f % 32) noSlot)
+    unfolding headFine
+    head-is = by-test (eqb n 0) (λ t. rw t) (λ t. rw (front-slot (eqb-false _ _ t)))
+
+    -- both together are the whole ring
+    pub ring-whole : r .good && headFine n (r .slot) ≡ ringFine f n l
+    ring-whole = rw (front-rest, head-is) (sym (ring-parts f l n))

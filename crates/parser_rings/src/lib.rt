@@ -1,12 +1,13 @@
-// The ring of slots that wait: the slot at its head, and whether those behind it read as packets.
+// The ring of slots that wait: the slot at its head, and whether those that follow read as packets.
 ghost use mathlib.Core.Path.{_≡_};
+ghost use mathlib.Core.Bool.{_&&_};
 ghost use Rattle.parser_rings.specs.Ring.{slotFine};
-ghost use Rattle.parser_rings.specs.Tests.{oldestOf};
+ghost use Rattle.parser_rings.specs.Tests.{headFine, frontAt, frontOf};
 use basics::MOST_PACKET;
 use basics::MOST_WAITING;
 use slots::Slot;
 
-// The slot at the head of the ring, and whether the ring behind it is within its limits.
+// The slot at the head of the ring, and whether the ring but for its head is within its limits.
 pub struct Front {
     pub good: bool,
     pub slot: Slot,
@@ -24,9 +25,9 @@ pub fn slot_good(slot: Slot) -> bool
     packet::reads_in(&bytes, len)
 }
 
-// The slot at `first`, going round, and whether each of the `n - 1` slots behind it reads as a packet; there are at most 32.
-fn oldest_round(slots: [Slot; 32], first: usize, n: usize) -> Front
-    ensures { λ r. ⌜ r ≡ oldestOf first n slots ⌝ }
+// The slot at `first`, going round, and whether each of the `n - 1` slots that follow reads as a packet; there are at most 32.
+fn front_round(slots: [Slot; 32], first: usize, n: usize) -> Front
+    ensures { λ r. ⌜ r ≡ frontAt first n slots ⌝ }
 {
     let slot = slots[first % 32];
     if MOST_WAITING <= first {
@@ -47,10 +48,10 @@ fn oldest_round(slots: [Slot; 32], first: usize, n: usize) -> Front
     Front { good: true, slot }
 }
 
-// The slot at the head of the ring, and whether the ring behind it is within its limits. Few slots stand at the first two places, which are
+// The slot at the head of the ring, and whether the ring but for its head is within its limits. Few slots stand at the first two places, which are
 // named: an array that is looked at by a number is copied.
-pub fn oldest(slots: [Slot; 32], first: usize, n: usize) -> Front
-    ensures { λ r. ⌜ r ≡ oldestOf first n slots ⌝ }
+fn front_at(slots: [Slot; 32], first: usize, n: usize) -> Front
+    ensures { λ r. ⌜ r ≡ frontAt first n slots ⌝ }
 {
     if n < 2 {
         if first == 0 {
@@ -69,5 +70,40 @@ pub fn oldest(slots: [Slot; 32], first: usize, n: usize) -> Front
             return Front { good, slot };
         }
     }
-    oldest_round(slots, first, n)
+    front_round(slots, first, n)
+}
+
+// The slot that has waited longest, and whether the ring but for it is within its limits. Of an empty ring only the place is looked at: no
+// slot is copied.
+pub fn front_of(slots: [Slot; 32], first: usize, n: usize) -> Front
+    ensures { λ r. ⌜ r ≡ frontOf first n slots ⌝ }
+{
+    if n == 0 {
+        let bytes = [0u8; 128];
+        let slot = Slot { len: 0, bytes };
+        let good = first <= 31;
+        return Front { good, slot };
+    }
+    front_at(slots, first, n)
+}
+
+// Whether the slot that has waited longest, if there is one, reads as a packet.
+pub fn head_good(n: usize, slot: Slot) -> bool
+    ensures { λ r. ⌜ r ≡ headFine n slot ⌝ }
+{
+    if n == 0 {
+        return true;
+    }
+    slot_good(slot)
+}
+
+// Whether the ring is within its limits, its head too.
+pub fn ring_good(n: usize, o: Front) -> bool
+    ensures { λ r. ⌜ r ≡ (o .good && headFine n (o .slot)) ⌝ }
+{
+    let slot = o.slot;
+    if o.good {
+        return head_good(n, slot);
+    }
+    false
 }

@@ -7,8 +7,8 @@ use Rattle.parser.proofs.CCDataParser.is_valid.Tie as tie
 counts-requires : tie.Need-counts-requires
 counts-requires c κs = search needs
 
-oldest-requires : tie.Need-oldest-requires
-oldest-requires c κs = search needs
+front-of-requires : tie.Need-front-of-requires
+front-of-requires c κs = search needs
 
 ring-good-requires : tie.Need-ring-good-requires
 ring-good-requires c κs = search needs
@@ -20,7 +20,9 @@ returns : tie.Need-returns
 returns c =
     let g = c .before .before .before in
     let o = g .before in
-    tested-valid _ _ _ (o .before .counts .ensures .1) (o .before .counts .ensures .0) (tested-fine _ _ _ _ _ (o .oldest .ensures) _ _ (g .ring-good .ensures) (c .good2 .ensures))
+    let n = o .before .counts in
+    tested-valid _ (n .result) _ (n .ensures .1) (n .ensures .0)
+    (tested-fine (n .result) _ _ _ _ (o .front-of .ensures) _ _ (g .ring-good .ensures) (c .good2 .ensures))
 
 pub is-valid-spec : {M : Type 1} → statement M
-is-valid-spec = tie.close (tie.spec counts-requires oldest-requires ring-good-requires good-requires returns)
+is-valid-spec = tie.close (tie.spec counts-requires front-of-requires ring-good-requires good-requires returns)
