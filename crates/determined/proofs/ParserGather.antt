@@ -4,20 +4,20 @@ use mathlib.Core.List.{List}
 use Prim.Native.Nat.{ℕ}
 use contract.Lifetimes.{Lfts}
 use denote.Ref.{now}
-use Rattle.parser_gather.specs.Gather.{Left, takenBy}
-use Rattle.parser_gather.specs.declared.Gathered.{Gathered}
+use Rattle.parser_gather.specs.Gather.{Left, leftIn}
+use Rattle.parser_gather.specs.declared.Remains.{Remains}
 use Rattle.parser_gather.proofs.pending_good.Reads as pending_good
 use Rattle.parser_gather.proofs.gather_by.Reads as gather_by
 use Rattle.determined.specs.Determines.{Determines, DeterminesLent}
 use Rattle.determined.proofs.Ways.{equal}
 
 -- what the code gives, taken back
-abbrev gatheredIn : Left → Gathered
-gatheredIn x = record { pending = x .pending; waiting = x .count; slots = x .slots }
+abbrev remainsIn : Left → Remains
+remainsIn x = record { pending = x .pending; waiting = x .count; slots = x .slots }
 
 -- packets gathered, with the pending bytes in a lent place
-gathers : {A E : Type 0} {left : A → Left} {lent : E → List ℕ} → DeterminesLent lent (λ (a : A) (r : Gathered) (e : E). takenBy r (lent e) ≡ left a)
-gathers = record { result = λ a r q e f h k. ap gatheredIn (h ∙ sym k); contents = λ a r q e f h k. ap (λ (x : Left). x .bytes) (h ∙ sym k) }
+gathers : {A E : Type 0} {left : A → Left} {lent : E → List ℕ} → DeterminesLent lent (λ (a : A) (r : Remains) (e : E). leftIn r (lent e) ≡ left a)
+gathers = record { result = λ a r q e f h k. ap remainsIn (h ∙ sym k); contents = λ a r q e f h k. ap (λ (x : Left). x .bytes) (h ∙ sym k) }
 
 -- `pending_good(bytes, len)`
 pub pending-good : (κs : Lfts 1) → Determines (pending_good.Post κs)

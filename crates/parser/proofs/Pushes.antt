@@ -14,8 +14,8 @@ use Rattle.model.proofs.Cases.{by-test}
 use Rattle.parser_triples.specs.Listing.{Listing, listedBy}
 use Rattle.parser_triples.specs.Plan.{planOf}
 use Rattle.parser_triples.specs.declared.Plan.{Plan}
-use Rattle.parser_gather.specs.Gather.{Left, takenBy, gatheredBy}
-use Rattle.parser_gather.specs.declared.Gathered.{Gathered}
+use Rattle.parser_gather.specs.Gather.{Left, leftIn, leftAfter}
+use Rattle.parser_gather.specs.declared.Remains.{Remains}
 use Rattle.parser.specs.Means.{means, Shaped}
 use Rattle.parser.specs.Valid.{valid}
 use Rattle.parser.specs.Calls.{laidAfter, Answers}
@@ -44,7 +44,7 @@ pushed-by p f r s v a e = record { answer = rw v a; means = λ _. rw e (means-pu
 pub frame-answer : (p : CCDataParser) (f : List ℕ) → Sound p → (a : Answer) × Pushed p f (record { answer = a; parser = pushed p f })
 frame-answer p f s =
     let t = told p (valid-fine p (s .valid)) (s .shaped) f in
-    by-test (ltb 32 (gatheredBy (planOf f .gathers) (p .«waiting_first») (p .«waiting_count») (p .waiting) (p .«pending_len») (p .pending) f .count))
+    by-test (ltb 32 (leftAfter (planOf f .gathers) (p .«waiting_first») (p .«waiting_count») (p .waiting) (p .«pending_len») (p .pending) f .count))
     (λ e. (Refused Full, pushed-by p f _ (s .shaped) (s .valid) (t .none (ltb-true _ _ e) .0) refl))
     (λ e. (planOf f .answer, pushed-by p f _ (s .shaped) (s .valid) (t .room (ltb-false _ _ e) .0) refl))
 
@@ -67,15 +67,15 @@ module _ (p : CCDataParser) (f : List ℕ) (shaped : Shaped p) (c : Counts) (cou
     laid = rw (within, frame-head p f (record { valid = within; shaped = shaped }))
 
     module _ (n : ℕ) (k : List ℕ) (lists : record { count = n; places = k } ≡ listedBy (q .lists && c .on) (p .pairs) f)
-        (g : Gathered) (l : List ℕ) (gathers : takenBy g l ≡ gatheredBy (q .gathers) (c .first) (c .waiting) (p .waiting) (c .pending) (p .pending) f) where
+        (g : Remains) (l : List ℕ) (gathers : leftIn g l ≡ leftAfter (q .gathers) (c .first) (c .waiting) (p .waiting) (c .pending) (p .pending) f) where
       -- the list and the ring are those of the plan
       lists-here : record { count = n; places = k } ≡ listedBy (q .lists && p .«cea608_on») (p .pairs) f
       lists-here = rw counted at lists
 
-      gathers-here : takenBy g l ≡ gatheredBy (q .gathers) (p .«waiting_first») (p .«waiting_count») (p .waiting) (p .«pending_len») (p .pending) f
+      gathers-here : leftIn g l ≡ leftAfter (q .gathers) (p .«waiting_first») (p .«waiting_count») (p .waiting) (p .«pending_len») (p .pending) f
       gathers-here = rw counted at gathers
 
-      counted-here : g .waiting ≡ gatheredBy (q .gathers) (p .«waiting_first») (p .«waiting_count») (p .waiting) (p .«pending_len») (p .pending) f .count
+      counted-here : g .waiting ≡ leftAfter (q .gathers) (p .«waiting_first») (p .«waiting_count») (p .waiting) (p .«pending_len») (p .pending) f .count
       counted-here = ap (λ (x : Left). x .count) gathers-here
 
       -- no place is left
@@ -83,11 +83,11 @@ module _ (p : CCDataParser) (f : List ℕ) (shaped : Shaped p) (c : Counts) (cou
       push-full r h e = let t = here .none (rw counted-here at h) in rw e (pushed-by p f _ shaped within (t .0) (t .1 ∙ laid))
 
       -- a place is left: the state with the ring that is kept
-      kept : g .waiting ≤ 32 → Pushed p f (record { answer = q .answer; parser = joined p (record { count = n; places = k }) (chosen p (takenBy g l)) })
+      kept : g .waiting ≤ 32 → Pushed p f (record { answer = q .answer; parser = joined p (record { count = n; places = k }) (chosen p (leftIn g l)) })
       kept h =
           let t = here .room (rw counted-here at h) in
-          let e : joined p (record { count = n; places = k }) (chosen p (takenBy g l)) ≡ pushed p f =
-          ap (λ (x : Listing). joined p x (chosen p (takenBy g l))) lists-here
+          let e : joined p (record { count = n; places = k }) (chosen p (leftIn g l)) ≡ pushed p f =
+          ap (λ (x : Listing). joined p x (chosen p (leftIn g l))) lists-here
           ∙ ap (λ (x : Left). joined p (listedBy (q .lists && p .«cea608_on») (p .pairs) f) (chosen p x)) gathers-here ∙ t .1 ∙ laid in
           pushed-by p f _ shaped within (t .0) e
 
@@ -97,7 +97,7 @@ module _ (p : CCDataParser) (f : List ℕ) (shaped : Shaped p) (c : Counts) (cou
       push-none h e x y =
           let same : g .waiting ≡ p .«waiting_count» = rw counted at e in
           let ours : Left = record { pending = g .pending; bytes = l; count = p .«waiting_count»; slots = p .waiting } in
-          let alike : joined p (record { count = n; places = k }) (chosen p (takenBy g l)) ≡ joined p (record { count = n; places = k }) ours =
+          let alike : joined p (record { count = n; places = k }) (chosen p (leftIn g l)) ≡ joined p (record { count = n; places = k }) ours =
           rw (eq-eqb (g .waiting) (p .«waiting_count») same, same) in
           rw (y, counted) (subst (λ (z : CCDataParser). Pushed p f (record { answer = q .answer; parser = z })) alike (kept h))
 

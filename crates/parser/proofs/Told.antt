@@ -25,7 +25,7 @@ use Rattle.parser_triples.specs.Plan.{plan, planFound, planOf}
 use Rattle.parser_triples.specs.declared.Plan.{Plan}
 use Rattle.parser_rings.specs.Ring.{clearedFor, withRuns}
 use Rattle.parser_gather.specs.Tests.{readyFor}
-use Rattle.parser_gather.specs.Gather.{Left, leftOf, gatheredBy}
+use Rattle.parser_gather.specs.Gather.{Left, leftOf, leftAfter}
 use Rattle.parser_gather.proofs.Pending.{fine-pending}
 use Rattle.parser.specs.Means.{means, Shaped}
 use Rattle.parser.specs.Calls.{laidIn}
@@ -53,7 +53,7 @@ pub record Tells (p : CCDataParser) (a : Answer) (l : Listing) (g : Left) (t : T
 abbrev pub Told : CCDataParser → Plan → List ℕ → Taken → Type 0
 Told p q f t =
     Tells p (q .answer) (listedBy (q .lists && p .«cea608_on») (p .pairs) f)
-    (gatheredBy (q .gathers) (p .«waiting_first») (p .«waiting_count») (p .waiting) (p .«pending_len») (p .pending) f) t
+    (leftAfter (q .gathers) (p .«waiting_first») (p .«waiting_count») (p .waiting) (p .«pending_len») (p .pending) f) t
 
 module _ (p : CCDataParser) (v : Fine p) (s : Shaped p) where
   -- what is gathered, in the places of the state: what the code leaves,
@@ -135,7 +135,7 @@ module _ (p : CCDataParser) (v : Fine p) (s : Shaped p) where
 
     -- no late triple
     told-bytes : (b : Bool) → carries708 (seenFrom 0 f) ≡ b → Told p (plan Accepted true b) f (takeGathered (pairsIn (seenFrom 0 f)) (model.gathered (means p .pending) (seenFrom 0 f)) (means p))
-    unfolding gatheredBy means
+    unfolding leftAfter means
     told-bytes true e =
         told-gathered _ (pairsIn (seenFrom 0 f)) _ (model.gathered (means p .pending) (seenFrom 0 f)) (listed-by (p .«cea608_on») (p .pairs) f short) (rw ready-here (chosen-left (ended (model.gather (means p .pending) (seenFrom 0 f))) ∙ ap keeps (sym (all-of (means p .pending) e))))
         (gathered-read (means p .pending) (seenFrom 0 f))
@@ -145,7 +145,7 @@ module _ (p : CCDataParser) (v : Fine p) (s : Shaped p) where
 
     -- a late triple
     told-late : (at : ℕ) (b : Bool) → Told p (planFound (some at) b) f (record { answer = cea608AfterCea708 at; runs = []; next = withPairs (pairsIn (seenFrom 0 f)) (means p) })
-    unfolding gatheredBy means
+    unfolding leftAfter means
     told-late at b = told-kept (Refused (refusal.Cea608AfterCea708 at)) _ _ _ _ (listed-by (p .«cea608_on») (p .pairs) f short) stays-left refl refl refl
 
     -- either way
@@ -156,7 +156,7 @@ module _ (p : CCDataParser) (v : Fine p) (s : Shaped p) where
 
   -- a frame that is not read, or whose length is wrong
   told-emptied : (a : Answer) (f : List ℕ) → Told p (plan a false false) f (record { answer = saidAnswer a; runs = []; next = withPairs [] (means p) })
-  unfolding gatheredBy listedBy means
+  unfolding leftAfter listedBy means
   told-emptied a f = told-kept a _ [] _ _ (listed-none (p .pairs)) stays-left refl refl (rw (cond-same {A = List Cea608} (p .«cea608_on») []))
 
   -- any frame, by its header

@@ -20,8 +20,9 @@ use Rattle.parser_triples.specs.Walk.{seenFrom}
 use Rattle.parser_triples.proofs.Walks.{seen-next, seen-none, sees-void, sees-608, sees-more, sees-start}
 use Rattle.parser_rings.specs.Ring.{setRound, clearedFor}
 use Rattle.parser_gather.specs.Tests.{pendingFine}
-use Rattle.parser_gather.specs.Gather.{Left, leftOf, Held, heldBy, putTwo, Holds, Sized, put, closesBy}
+use Rattle.parser_gather.specs.Gather.{Left, leftOf, tripleAt, Held, heldBy, putTwo, Holds, Sized, put, closesBy}
 use Rattle.parser_gather.specs.declared.Run.{Run}
+use Rattle.parser_gather.specs.declared.Triple.{Triple}
 use Rattle.parser_rings.proofs.Places.{sets-append, take-sets, zeros}
 
 -- what bytes want: none before a start,
@@ -261,27 +262,33 @@ module _ (f : ℕ) (l : List ℕ) (a : Left) (n : ℕ) (t : List Slot) where
 
   module _ (g : List ℕ) (s : Run) (k : List ℕ) (h : Holds (heldBy s k) g) where
     -- a turn
-    module _ (d : List ℕ) (i : ℕ) (more : 3 * i + 4 < length d) where
+    module _ (d : List ℕ) (i : ℕ) (more : 3 * i + 4 < length d) (w : Triple) (found : w ≡ tripleAt i d) where
       abbrev here : Seen
-      here = seen (tri (getD d (3 * i + 2) 0) (getD d (3 * i + 3) 0) (getD d (3 * i + 4) 0))
+      here = seen (tri (w .kind) (w .x) (w .y))
+
+      -- the triples that are left are this one and the others
+      seen-here : seenFrom i d ≡ here ∷ seenFrom (i + 1) d
+      seen-here = rw found (seen-next d i more)
 
       module _ (e : a ≡ leftOf f n t l (ended (gather g (seenFrom i d)))) where
-        turned : a ≡ leftOf f n t l (delivered (cond (closesBy here g) (g ∷ []) []) (ended (gather (put here g) (seenFrom (i + 1) d))))
-        turned =
-            e ∙ rw (seen-next d i more, gather-turn g here (seenFrom (i + 1) d), ended-delivered (cond (closesBy here g) (g ∷ []) []) (gather (put here g) (seenFrom (i + 1) d)))
+        abbrev closing : List (List ℕ)
+        closing = cond (closesBy here g) (g ∷ []) []
 
-        module _ (b : Bool) (asked : (x y : ℕ) → b ≡ closesBy (seen (tri (getD d (3 * i + 2) 0) x y)) (take (s .len) k)) (u : List Slot) (m : ℕ) where
-          closing : b ≡ closesBy here g
-          closing = rw (held-run h) at (asked (getD d (3 * i + 3) 0) (getD d (3 * i + 4) 0))
+        turned : a ≡ leftOf f n t l (delivered closing (ended (gather (put here g) (seenFrom (i + 1) d))))
+        turned = e ∙ rw (seen-here, gather-turn g here (seenFrom (i + 1) d), ended-delivered closing (gather (put here g) (seenFrom (i + 1) d)))
+
+        module _ (b : Bool) (asked : (x y : ℕ) → b ≡ closesBy (seen (tri (w .kind) x y)) (take (s .len) k)) (u : List Slot) (m : ℕ) where
+          closes-here : b ≡ closesBy here g
+          closes-here = rw (held-run h) at (asked (w .x) (w .y))
 
           -- it delivers
           pub turn-delivers : b ≡ true → u ≡ set t ((f + n) % 32) (record { len = s .len; bytes = k }) → m ≡ n + 1
               → a ≡ leftOf f m u l (ended (gather (put here g) (seenFrom (i + 1) d)))
-          turn-delivers y p q = rw (p, q, held-slot h) ((rw (← closing, y) at turned) ∙ left-one g (ended (gather (put here g) (seenFrom (i + 1) d))))
+          turn-delivers y p q = rw (p, q, held-slot h) ((rw (← closes-here, y) at turned) ∙ left-one g (ended (gather (put here g) (seenFrom (i + 1) d))))
 
           -- it does not
           pub turn-keeps : b ≡ false → u ≡ t → m ≡ n → a ≡ leftOf f m u l (ended (gather (put here g) (seenFrom (i + 1) d)))
-          turn-keeps y p q = rw (p, q) (rw (← closing, y) at turned)
+          turn-keeps y p q = rw (p, q) (rw (← closes-here, y) at turned)
 
     -- the frame's end
     module _ (d : List ℕ) (i : ℕ) (done : length d ≤ 3 * i + 4) (e : a ≡ leftOf f n t l (ended (gather g (seenFrom i d)))) where
@@ -324,9 +331,9 @@ module _ (f : ℕ) (l : List ℕ) (a : Left) (n : ℕ) (t : List Slot) where
 
         module _ (u : List Slot) (c : ℕ) where
           -- a slot behind the others, and no run more
-          none-more : leftOf f (n + 1) (set t ((f + n) % 32) (slotWith (length g) g)) l (record { runs = []; bytes = [] }) ≡ record { pending = 0; bytes = l; count = n + 1; slots = set t ((f + n) % 32) (slotWith (length g) g) }
+          none-more : (r : List Slot) → leftOf f (n + 1) r l (record { runs = []; bytes = [] }) ≡ record { pending = 0; bytes = l; count = n + 1; slots = r }
           unfolding setRound
-          none-more = let w : n + 1 + 0 ≡ n + 1 = omega arith in rw w
+          none-more r = let w : n + 1 + 0 ≡ n + 1 = omega arith in rw w
 
           -- it delivers
           pub end-delivers : b ≡ true → u ≡ set t ((f + n) % 32) (record { len = s .len; bytes = k }) → c ≡ n + 1 → record { pending = p; bytes = m; count = c; slots = u } ≡ a
@@ -335,7 +342,7 @@ module _ (f : ℕ) (l : List ℕ) (a : Left) (n : ℕ) (t : List Slot) where
               by-test (eqb (wants g) 0)
               (λ o. let z : wants g ≡ 0 = eqb-true _ _ o in
               let r : reads g ≡ true = sym (test z) ∙ y in
-              rw (none-left z .0, none-left z .1, q, v, held-slot h) (sym ((rw r at (whole z)) ∙ left-one g (record { runs = []; bytes = [] }) ∙ none-more)))
+              rw (none-left z .0, none-left z .1, q, v, held-slot h) (sym ((rw r at (whole z)) ∙ left-one g (record { runs = []; bytes = [] }) ∙ none-more _)))
               (λ o. let w : b ≡ false = rw (need-some (eqb-false _ _ o)) at asked in absurd (true≢false (sym y ∙ w)))
 
           -- it does not

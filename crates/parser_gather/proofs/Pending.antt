@@ -14,9 +14,9 @@ use Rattle.model.proofs.Cases.{by-test, both}
 use Rattle.model.proofs.Limits.{size-most}
 use Rattle.slots.specs.declared.Slot.{Slot}
 use Rattle.parser_triples.specs.Walk.{seenFrom}
-use Rattle.parser_gather.specs.Tests.{pendingFine, readyFor}
 use Rattle.parser_rings.specs.Ring.{clearedFor}
-use Rattle.parser_gather.specs.Gather.{Left, leftOf, gatheredBy}
+use Rattle.parser_gather.specs.Tests.{pendingFine, readyFor}
+use Rattle.parser_gather.specs.Gather.{Left, leftOf, leftAfter}
 
 module _ (n : ℕ) (l : List ℕ) where
   -- no bytes
@@ -87,17 +87,17 @@ module _ (f count n : ℕ) (l : List ℕ) where
 -- gathering, if asked
 module _ (gathers : Bool) (f count : ℕ) (slots : List Slot) (n : ℕ) (l frame : List ℕ) where
   -- not asked
-  pub gather-not : gathers ≡ false → record { pending = n; bytes = l; count = count; slots = slots } ≡ gatheredBy gathers f count slots n l frame
-  unfolding gatheredBy
+  pub gather-not : gathers ≡ false → record { pending = n; bytes = l; count = count; slots = slots } ≡ leftAfter gathers f count slots n l frame
+  unfolding leftAfter
   gather-not e = rw e
 
   module _ (asked : gathers ≡ true) (b : Bool) (tested : b ≡ readyFor f count n l) where
     -- outside the limits
-    pub gather-unready : b ≡ false → record { pending = n; bytes = l; count = count; slots = slots } ≡ gatheredBy gathers f count slots n l frame
-    unfolding gatheredBy
+    pub gather-unready : b ≡ false → record { pending = n; bytes = l; count = count; slots = slots } ≡ leftAfter gathers f count slots n l frame
+    unfolding leftAfter
     gather-unready e = rw (asked, ← tested, e)
 
     -- packets are gathered
-    pub gather-asked : (g : Left) → b ≡ true → g ≡ leftOf f count (clearedFor count slots) l (ended (gather (take n l) (seenFrom 0 frame))) → g ≡ gatheredBy gathers f count slots n l frame
-    unfolding gatheredBy
+    pub gather-asked : (g : Left) → b ≡ true → g ≡ leftOf f count (clearedFor count slots) l (ended (gather (take n l) (seenFrom 0 frame))) → g ≡ leftAfter gathers f count slots n l frame
+    unfolding leftAfter
     gather-asked g e q = rw (asked, ← tested, e) q

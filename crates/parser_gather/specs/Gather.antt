@@ -2,7 +2,7 @@
 use mathlib.Core.Path.{_≡_}
 use mathlib.Core.List.{List, [], _∷_, _++_}
 use mathlib.Core.Bool.{Bool, false, cond, _&&_}
-use Prim.Native.Nat.{ℕ, _+_, _-_, _%_, _≤_}
+use Prim.Native.Nat.{ℕ, _+_, _-_, _*_, _%_, _≤_}
 use lib.ListN.{length, getD, set, take, replicate}
 use lib.Seq.{sets}
 use lib.Dec.{eqb}
@@ -12,7 +12,8 @@ use Rattle.model.specs.Demux.{Gathered, wants, gather, ended}
 use Rattle.slots.specs.declared.Slot.{Slot}
 use Rattle.parser_triples.specs.Walk.{seenFrom}
 use Rattle.parser_gather.specs.declared.Run.{Run}
-use Rattle.parser_gather.specs.declared.Gathered as code
+use Rattle.parser_gather.specs.declared.Triple.{Triple}
+use Rattle.parser_gather.specs.declared.Remains.{Remains}
 use Rattle.parser_rings.specs.Ring.{setRound, clearedFor}
 use Rattle.parser_gather.specs.Tests.{readyFor}
 
@@ -24,19 +25,27 @@ pub record Left : Type 0 where
   pub slots : List Slot
 
 -- what the code gives, with the places of the pending bytes
-abbrev pub takenBy : code.Gathered → List ℕ → Left
-takenBy g l = record { pending = g .pending; bytes = l; count = g .waiting; slots = g .slots }
+abbrev pub leftIn : Remains → List ℕ → Left
+leftIn g l = record { pending = g .pending; bytes = l; count = g .waiting; slots = g .slots }
 
 -- what is gathered: its bytes laid over the places, and its runs behind the slots that wait
 abbrev pub leftOf : ℕ → ℕ → List Slot → List ℕ → Gathered → Left
 leftOf f n slots l o =
     record { pending = length (o .bytes); bytes = sets l 0 (o .bytes); count = n + length (o .runs); slots = setRound (f + n) slots (o .runs) }
 
+-- what a frame leaves whose triples are all gathered, of n pending bytes and count slots, cleared ones if there are none
+abbrev pub leftGathered : ℕ → ℕ → List Slot → ℕ → List ℕ → List ℕ → Left
+leftGathered f count slots n l frame = leftOf f count (clearedFor count slots) l (ended (gather (take n l) (seenFrom 0 frame)))
+
 -- the frame is gathered where that is asked and the places are within their limits; else all stays
-unfoldable pub gatheredBy : Bool → ℕ → ℕ → List Slot → ℕ → List ℕ → List ℕ → Left
-gatheredBy gathers f count slots n l frame =
-    cond (gathers && readyFor f count n l) (leftOf f count (clearedFor count slots) l (ended (gather (take n l) (seenFrom 0 frame))))
+unfoldable pub leftAfter : Bool → ℕ → ℕ → List Slot → ℕ → List ℕ → List ℕ → Left
+leftAfter gathers f count slots n l frame =
+    cond (gathers && readyFor f count n l) (leftGathered f count slots n l frame)
     (record { pending = n; bytes = l; count = count; slots = slots })
+
+-- the triple at a place of a frame
+abbrev pub tripleAt : ℕ → List ℕ → Triple
+tripleAt i d = record { kind = getD d (3 * i + 2) 0; x = getD d (3 * i + 3) 0; y = getD d (3 * i + 4) 0 }
 
 -- the bytes still wanted, the bytes gathered, and the places that they stand in
 pub record Held : Type 0 where

@@ -2,16 +2,13 @@
 ghost use mathlib.Core.Path.{_≡_};
 ghost use mathlib.Core.Bool.{true, cond, _&&_};
 ghost use mathlib.Core.List.{List};
-ghost use Prim.Native.Nat.{ℕ, _≤_, _<_};
-ghost use lib.ListN.{take, replicate};
+ghost use Prim.Native.Nat.{ℕ, _+_, _*_, _≤_, _<_};
+ghost use lib.ListN.{length, take, replicate};
 ghost use lib.Dec.{eqb};
 ghost use Rattle.model.specs.Frame.{seen, tri};
 ghost use Rattle.model.specs.Packet.{reads};
-ghost use Rattle.model.specs.Demux.{gather, ended};
-ghost use Rattle.parser_triples.specs.Walk.{seenFrom};
-ghost use Rattle.parser_rings.specs.Ring.{clearedFor};
 ghost use Rattle.parser_gather.specs.Tests.{pendingFine, readyFor};
-ghost use Rattle.parser_gather.specs.Gather.{Sized, heldBy, putTwo, Holds, put, closesBy, takenBy, leftOf, gatheredBy};
+ghost use Rattle.parser_gather.specs.Gather.{tripleAt, Sized, heldBy, putTwo, Holds, put, closesBy, leftIn, leftGathered, leftAfter};
 use basics::MOST_WAITING;
 use basics::put_bytes;
 use slots::Slot;
@@ -22,8 +19,15 @@ pub struct Run {
     pub len: usize,
 }
 
+// A triple of a frame.
+struct Triple {
+    kind: u8,
+    x: u8,
+    y: u8,
+}
+
 // What a frame leaves: how many bytes are pending, how many slots wait, and the slots.
-pub struct Gathered {
+pub struct Remains {
     pub pending: usize,
     pub waiting: usize,
     pub slots: [Slot; 32],
@@ -116,6 +120,18 @@ fn left_of(s: Run) -> usize
     s.len
 }
 
+// The triple at a place of a frame.
+fn triple_at(frame: &[u8], i: usize) -> Triple
+    requires { ⌜ 3 * i + 4 < length (now frame) ⌝ }
+    ensures { λ r. ⌜ r ≡ tripleAt i (now (frame .entry)) ⌝ }
+{
+    Triple {
+        kind: frame[3 * i + 2],
+        x: frame[3 * i + 3],
+        y: frame[3 * i + 4],
+    }
+}
+
 // Gathers packets from a frame: bytes that are closed and read as a packet go into the slot behind the last waiting one, or into cleared
 // slots where none waits, so that those are not copied; and bytes that are left over the pending ones.
 fn gather_frame(
@@ -125,11 +141,11 @@ fn gather_frame(
     slots: [Slot; 32],
     pending: &mut [u8; 128],
     frame: &[u8],
-) -> Gathered
+) -> Remains
     requires { ⌜ first < 32 ⌝ }
     requires { ⌜ count ≤ 32 ⌝ }
     requires { ⌜ pendingFine len (now pending) ≡ true ⌝ }
-    ensures { λ r. ⌜ takenBy r (now (pending .exit)) ≡ leftOf first count (clearedFor count slots) (now (pending .entry)) (ended (gather (take len (now (pending .entry))) (seenFrom 0 (now (frame .entry))))) ⌝ }
+    ensures { λ r. ⌜ leftIn r (now (pending .exit)) ≡ leftGathered first count slots len (now (pending .entry)) (now (frame .entry)) ⌝ }
 {
     let none = [0u8; 128];
     let slot = Slot {
@@ -146,12 +162,12 @@ fn gather_frame(
     let mut s = run_of(old, len, &mut bytes);
     let mut i = 0;
     while 3 * i + 4 < frame.len() {
-        let c = frame[3 * i + 2];
-        if closes(c, &bytes, s.len) {
+        let w = triple_at(frame, i);
+        if closes(w.kind, &bytes, s.len) {
             t[(first + n) % 32] = Slot { len: s.len, bytes };
             n += 1;
         }
-        s = put_triple(s, &mut bytes, c, frame[3 * i + 3], frame[3 * i + 4]);
+        s = put_triple(s, &mut bytes, w.kind, w.x, w.y);
         i += 1;
     }
     if completes(s, &bytes) {
@@ -160,7 +176,7 @@ fn gather_frame(
     }
     let left = left_of(s);
     put_bytes(pending, 0, &bytes[0..left]);
-    Gathered {
+    Remains {
         pending: left,
         waiting: n,
         slots: t,
@@ -202,15 +218,15 @@ pub fn gather_by(
     slots: [Slot; 32],
     pending: &mut [u8; 128],
     frame: &[u8],
-) -> Gathered
-    ensures { λ r. ⌜ takenBy r (now (pending .exit)) ≡ gatheredBy gathers first count slots len (now (pending .entry)) (now (frame .entry)) ⌝ }
+) -> Remains
+    ensures { λ r. ⌜ leftIn r (now (pending .exit)) ≡ leftAfter gathers first count slots len (now (pending .entry)) (now (frame .entry)) ⌝ }
 {
     if gathers {
         if ready(first, count, len, pending) {
             return gather_frame(first, count, len, slots, pending, frame);
         }
     }
-    Gathered {
+    Remains {
         pending: len,
         waiting: count,
         slots,
