@@ -56,7 +56,8 @@ pub turned-is : (p : CCDataParser) → Sound p
 unfolding laidAfter laidIn withRuns means placedAll
 turned-is p s =
     let v = sound-fine p s in
-    rw (pending-many p v (s .shaped), pending-same p v (s .shaped), head-stays (p .«waiting_first») (p .«waiting_count») (length (means p .waiting)) (omega (arith, waiting-count p v)), waiting-count p v)
+    let stays = head-stays (p .«waiting_first») (p .«waiting_count») (length (means p .waiting)) (omega (arith, waiting-count p v)) in
+    rw (pending-many p v (s .shaped), pending-same p v (s .shaped), stays, waiting-count p v)
 
 module _ (p : CCDataParser) (b : Bool) (tested : b ≡ valid p) where
   -- the pairs

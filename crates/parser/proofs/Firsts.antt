@@ -116,7 +116,8 @@ module _ (p : CCDataParser) (v : Fine p) (s : Shaped p) where
       let one : p .«waiting_count» - 1 ≡ length ps = omega arith in
       let others : List Slot = ringFrom (nextHead (p .«waiting_first») (p .«waiting_count»)) (length ps) (p .waiting) in
       let head : Slot = getD (p .waiting) (p .«waiting_first») noSlot in
-      let ring : ringFrom (p .«waiting_first») (p .«waiting_count») (p .waiting) ≡ head ∷ others = rw one at (ring-drawn (p .waiting) (p .«waiting_first») (p .«waiting_count») some (v .ring .first)) in
+      let ring : ringFrom (p .«waiting_first») (p .«waiting_count») (p .waiting) ≡ head ∷ others =
+      rw one at (ring-drawn (p .waiting) (p .«waiting_first») (p .«waiting_count») some (v .ring .first)) in
       let fine = both (slotFine head) (every slotFine others) (ap (every slotFine) (sym ring) ∙ v .ring .reading) in
       let k = slot-read head (fine .0) in
       let same : k .0 ∷ packetsOf (map slotRun others) ≡ q ∷ ps = rw (k .1) at (ap (λ (l : List Slot). packetsOf (map slotRun l)) (sym ring) ∙ e) in

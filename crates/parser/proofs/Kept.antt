@@ -41,6 +41,12 @@ pub means-fresh : means fresh ≡ freshDemux
 unfolding means fresh laidIn pairsOf packetsOf ringFrom
 means-fresh = refl
 
+-- the slots after a call hold the packets that the model's leaves
+abbrev StandsAfter : CCDataParser → Taken → Type 0
+StandsAfter p t =
+    Stands (headAfter (p .«waiting_first») (p .«waiting_count») (length (t .next .waiting)))
+    (withRuns (p .«waiting_first») (p .«waiting_count») (p .waiting) (t .runs)) (t .next .waiting)
+
 -- a state within the limits
 module _ (p : CCDataParser) (s : Sound p) where
   -- its facts
@@ -56,8 +62,7 @@ module _ (p : CCDataParser) (s : Sound p) where
   stands = own-stands p sound-fine (s .shaped)
 
   -- what a call leaves, by what the model's leaves and by its slots
-  module _ (t : Taken) (v : validDemux (t .next) ≡ true)
-      (w : Stands (headAfter (p .«waiting_first») (p .«waiting_count») (length (t .next .waiting))) (withRuns (p .«waiting_first») (p .«waiting_count») (p .waiting) (t .runs)) (t .next .waiting)) where
+  module _ (t : Taken) (v : validDemux (t .next) ≡ true) (w : StandsAfter p t) where
     -- it is within the limits,
     after-sound : Sound (laidAfter p t)
     unfolding laidAfter
@@ -76,7 +81,7 @@ module _ (p : CCDataParser) (s : Sound p) where
       (laid-same p sound-fine (s .shaped))
 
   -- 608 turned on
-  on-stands : Stands (headAfter (p .«waiting_first») (p .«waiting_count») (length (means p .waiting))) (withRuns (p .«waiting_first») (p .«waiting_count») (p .waiting) []) (means p .waiting)
+  on-stands : StandsAfter p (quiet (turn608On (means p)))
   unfolding withRuns
   on-stands = rw (head-stays (p .«waiting_first») (p .«waiting_count») (length (means p .waiting)) (omega (arith, waiting-count p sound-fine))) stands
 
@@ -110,7 +115,7 @@ module _ (p : CCDataParser) (f : List ℕ) (s : Sound p) where
       (rw (frame-delivers (means p) f .waiting) (omega (arith, length-append (means p .waiting) (packetsOf (taken .runs)), waiting-count p (sound-fine p s))))
 
   -- the slots stand with those that it delivers
-  taken-stands : Stands (headAfter (p .«waiting_first») (p .«waiting_count») (length (taken .next .waiting))) (withRuns (p .«waiting_first») (p .«waiting_count») (p .waiting) (taken .runs)) (taken .next .waiting)
+  taken-stands : StandsAfter p taken
   taken-stands =
       let k = frame-delivers (means p) f in
       rw (frame-head, k .waiting)
@@ -125,8 +130,8 @@ module _ (p : CCDataParser) (f : List ℕ) (s : Sound p) where
   pub means-pushed : means (pushed p f) ≡ takeFrame f (means p) .next
   means-pushed = rw (s .valid) (after-means p s taken taken-valid taken-stands)
 
--- "Full exactly if waiting packets plus those this frame would deliver exceed 32": a frame has at most 31 triples, and delivers one packet
--- a triple and one at its end
+-- [F13] a frame is refused as Full if more than 32 packets would wait: it has at most 31 triples, and delivers one packet a triple and one at
+-- its end
 abbrev NotFull : Taken → Type 0
 NotFull t = t .answer ≡ full → ⊥
 
@@ -140,7 +145,8 @@ module _ (f : List ℕ) (d : Demux) (nothing : length (d .waiting) ≡ 0) where
   unfolding takeGathered
   gathers-room h =
       let few = few-packets (d .pending) (seenFrom 0 f) in
-      let n : ltb 32 (length (d .waiting) + length (packetsOf (gathered (d .pending) (seenFrom 0 f) .runs))) ≡ false = le-ltb 32 (length (d .waiting) + length (packetsOf (gathered (d .pending) (seenFrom 0 f) .runs))) (omega (arith, few, few-triples f h)) in
+      let many : ℕ = length (d .waiting) + length (packetsOf (gathered (d .pending) (seenFrom 0 f) .runs)) in
+      let n : ltb 32 many ≡ false = le-ltb 32 many (omega (arith, few, few-triples f h)) in
       rw n (other _ (λ z. omega arith))
 
   -- a frame with triples

@@ -95,7 +95,8 @@ module _ (p : CCDataParser) (v : Fine p) (s : Shaped p) where
       → joined p l (chosen p g) ≡ laidIn (p .pairs) (p .pending) (p .«waiting_first») (withRuns (p .«waiting_first») (p .«waiting_count») (p .waiting) (o .runs)) d
   unfolding laidIn
   join l qs g o d e q r w =
-      let many : length (means p .waiting ++ packetsOf (o .runs)) ≡ p .«waiting_count» + length (o .runs) = omega (arith, length-append (means p .waiting) (packetsOf (o .runs)), packets-many r, waiting-count p v) in
+      let many : length (means p .waiting ++ packetsOf (o .runs)) ≡ p .«waiting_count» + length (o .runs) =
+      omega (arith, length-append (means p .waiting) (packetsOf (o .runs)), packets-many r, waiting-count p v) in
       ap (λ (x : Left). joined p l x) q ∙ rw (e, w, many)
 
   -- an answer that leaves all as it is but the list
@@ -133,15 +134,21 @@ module _ (p : CCDataParser) (v : Fine p) (s : Shaped p) where
     unfolding model.gathered
     all-of g e = rw e
 
-    -- no late triple
-    told-bytes : (b : Bool) → carries708 (seenFrom 0 f) ≡ b → Told p (plan Accepted true b) f (takeGathered (pairsIn (seenFrom 0 f)) (model.gathered (means p .pending) (seenFrom 0 f)) (means p))
+    -- what is gathered of it
+    abbrev all : model.Gathered
+    all = model.gathered (means p .pending) (seenFrom 0 f)
+
+    -- no late triple, by what is gathered
+    told-all : (g : Left) → chosen p g ≡ keeps all
+        → Tells p Accepted (listedBy (true && p .«cea608_on») (p .pairs) f) g (takeGathered (pairsIn (seenFrom 0 f)) all (means p))
+    told-all g e =
+        told-gathered _ (pairsIn (seenFrom 0 f)) g all (listed-by (p .«cea608_on») (p .pairs) f short) e (gathered-read (means p .pending) (seenFrom 0 f))
+
+    -- with a valid 708 triple or without
+    told-bytes : (b : Bool) → carries708 (seenFrom 0 f) ≡ b → Told p (plan Accepted true b) f (takeGathered (pairsIn (seenFrom 0 f)) all (means p))
     unfolding leftAfter means
-    told-bytes true e =
-        told-gathered _ (pairsIn (seenFrom 0 f)) _ (model.gathered (means p .pending) (seenFrom 0 f)) (listed-by (p .«cea608_on») (p .pairs) f short) (rw ready-here (chosen-left (ended (model.gather (means p .pending) (seenFrom 0 f))) ∙ ap keeps (sym (all-of (means p .pending) e))))
-        (gathered-read (means p .pending) (seenFrom 0 f))
-    told-bytes false e =
-        told-gathered _ (pairsIn (seenFrom 0 f)) _ (model.gathered (means p .pending) (seenFrom 0 f)) (listed-by (p .«cea608_on») (p .pairs) f short) (stays-left ∙ ap keeps (sym (kept-pending (means p .pending) (seenFrom 0 f) e)))
-        (gathered-read (means p .pending) (seenFrom 0 f))
+    told-bytes true e = told-all _ (rw ready-here (chosen-left (ended (model.gather (means p .pending) (seenFrom 0 f))) ∙ ap keeps (sym (all-of (means p .pending) e))))
+    told-bytes false e = told-all _ (stays-left ∙ ap keeps (sym (kept-pending (means p .pending) (seenFrom 0 f) e)))
 
     -- a late triple
     told-late : (at : ℕ) (b : Bool) → Told p (planFound (some at) b) f (record { answer = cea608AfterCea708 at; runs = []; next = withPairs (pairsIn (seenFrom 0 f)) (means p) })

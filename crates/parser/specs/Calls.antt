@@ -32,7 +32,7 @@ laidIn pairs pending first slots d =
       waiting = slots;
     }
 
--- "fresh, with 608 off": zeros in every place
+-- [F16] fresh: zeros in every place
 unfoldable pub fresh : CCDataParser
 fresh = laidIn (replicate 93 0) (replicate 128 0) 0 (replicate 32 (slotWith 0 [])) freshDemux
 
@@ -46,7 +46,7 @@ laidAfter p t =
     laidIn (p .pairs) (p .pending) (headAfter (p .«waiting_first») (p .«waiting_count») (length (t .next .waiting)))
     (withRuns (p .«waiting_first») (p .«waiting_count») (p .waiting) (t .runs)) (t .next)
 
--- a call answers what the model's answers and leaves what that leaves, in the places that it is given; "11 comes first", and then all stays
+-- a call answers what the model's answers and leaves what that leaves, in the places that it is given; [A4] 11 comes first, and then all stays
 pub record Answers (t : Taken) (placed : Taken → CCDataParser) (p : CCDataParser) (r : ParserAnswer) : Type 0 where
   pub answer : saidAnswer (r .answer) ≡ cond (valid p) (t .answer) badValue
   pub means : valid p ≡ true → means (r .parser) ≡ t .next

@@ -23,7 +23,7 @@ saidItem Packet = accepted (3 ∷ [])
 saidItem Nothing = accepted []
 saidItem (Refused why) = saidRefusal why
 
--- drawing answers the item that the model draws, with its packet, and leaves what the model leaves; "11 comes first", and then all stays
+-- drawing answers the item that the model draws, with its packet, and leaves what the model leaves; [A4] 11 comes first, and then all stays
 pub record Draws (p : CCDataParser) (r : Drawn) : Type 0 where
   pub item : saidItem (r .item) ≡ cond (valid p) (accepted (itemValues (draw (state.means p) .item))) badValue
   pub packet : r .packet ≡ laid (cond (valid p) (itemPacket (draw (state.means p) .item)) noPacket)

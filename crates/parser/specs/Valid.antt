@@ -17,6 +17,6 @@ inOrder p =
     && (leb (p .«pending_len») 128
     && (leb (p .«waiting_first») 31 && every slotFine (ringFrom (p .«waiting_first») (p .«waiting_count») (p .waiting))))
 
--- 11 is given for "a state .. whose counts, numbers or lengths break this page's limits": the places are in order, and what they mean is valid
+-- [R11] within the limits: the places are in order, and what they mean is valid
 unfoldable pub valid : CCDataParser → Bool
 valid p = inOrder p && validDemux (means p)

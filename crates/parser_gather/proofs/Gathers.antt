@@ -229,6 +229,10 @@ module _ (n k : ℕ) where
   pub left-most : (p : ℕ) → p ≡ cond (eqb n 0) 0 k → p ≤ k
   left-most p e = rw e (by-cond (λ m. m ≤ k) (eqb n 0) (λ _. omega arith) (λ _. omega arith))
 
+-- the first of them, laid over places
+pub laid-first : (p : ℕ) (m l k : List ℕ) → m ≡ sets l 0 (take (p - 0) (drop 0 k)) → m ≡ sets l 0 (take p k)
+laid-first p m l k e = let z : p - 0 ≡ p = omega arith in rw z at e
+
 -- one triple: what it closes is kept, and then its bytes are taken
 gather-turn : (g : List ℕ) (t : Seen) (ts : List Seen) → gather g (t ∷ ts) ≡ delivered (cond (closesBy t g) (g ∷ []) []) (gather (put t g) ts)
 unfolding gather closesBy kept
@@ -297,11 +301,7 @@ module _ (f : ℕ) (l : List ℕ) (a : Left) (n : ℕ) (t : List Slot) where
       at-end = rw (seen-none d i done) at e
 
       module _ (b : Bool) (asked : b ≡ (eqb (s .need) 0 && reads (take (s .len) k))) (p : ℕ) (left : p ≡ cond (eqb (s .need) 0) 0 (s .len))
-          (m : List ℕ) (laid : m ≡ sets l 0 (take (p - 0) (drop 0 k))) where
-        -- the bytes that are left, laid over the places
-        over-places : m ≡ sets l 0 (take p k)
-        over-places = let z : p - 0 ≡ p = omega arith in rw z at laid
-
+          (m : List ℕ) (over-places : m ≡ sets l 0 (take p k)) where
         -- they are complete
         module _ (z : wants g ≡ 0) where
           need-none : eqb (s .need) 0 ≡ true

@@ -4,6 +4,7 @@ ghost use mathlib.Core.Bool.{true, cond, _&&_};
 ghost use mathlib.Core.List.{List};
 ghost use Prim.Native.Nat.{ℕ, _+_, _*_, _≤_, _<_};
 ghost use lib.ListN.{length, take, replicate};
+ghost use lib.Seq.{sets};
 ghost use lib.Dec.{eqb};
 ghost use Rattle.model.specs.Frame.{seen, tri};
 ghost use Rattle.model.specs.Packet.{reads};
@@ -120,6 +121,17 @@ fn left_of(s: Run) -> usize
     s.len
 }
 
+// Lays the bytes that are left over the pending ones; and how many they are.
+fn keep_left(s: Run, bytes: [u8; 128], pending: &mut [u8; 128]) -> usize
+    requires { ⌜ Sized s ⌝ }
+    ensures { λ r. ⌜ r ≡ cond (eqb (s .need) 0) 0 (s .len) ⌝ }
+    ensures { λ r. ⌜ now (pending .exit) ≡ sets (now (pending .entry)) 0 (take r bytes) ⌝ }
+{
+    let left = left_of(s);
+    put_bytes(pending, 0, &bytes[0..left]);
+    left
+}
+
 // The triple at a place of a frame.
 fn triple_at(frame: &[u8], i: usize) -> Triple
     requires { ⌜ 3 * i + 4 < length (now frame) ⌝ }
@@ -174,8 +186,7 @@ fn gather_frame(
         t[(first + n) % 32] = Slot { len: s.len, bytes };
         n += 1;
     }
-    let left = left_of(s);
-    put_bytes(pending, 0, &bytes[0..left]);
+    let left = keep_left(s, bytes, pending);
     Remains {
         pending: left,
         waiting: n,

@@ -15,11 +15,11 @@ pub record Listing : Type 0 where
   pub count : ℕ
   pub places : List ℕ
 
--- "Valid earlier ones are pairs of field 1 (type 0) and 2 (type 1)": those of triples, laid behind the n that are there; places further on stay
+-- [F7] the pairs of triples, laid behind the n that are there; places further on stay
 unfoldable pub listing : ℕ → List ℕ → List Seen → Listing
 listing n l ts = record { count = n + length (pairsIn ts); places = sets l (3 * n) (placedAll (pairsIn ts)) }
 
--- "the pair list is emptied", and then the pairs of the frame are listed where that is asked; "A frame is at most 95 bytes."
+-- [F1] the list is emptied, and then the pairs of the frame are listed where that is asked; [S5] a frame has at most 95 bytes
 unfoldable pub listedBy : Bool → List ℕ → List ℕ → Listing
 listedBy lists l f = cond (lists && leb (length f) 95) (listing 0 l (seenFrom 0 f)) (record { count = 0; places = l })
 

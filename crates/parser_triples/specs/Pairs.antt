@@ -6,7 +6,7 @@ use lib.ListN.{getD, drop}
 use lib.Dec.{eqb}
 use Rattle.model.specs.Frame.{pair, Cea608, field1, field2}
 
--- "a pair says which field": the places of pairs, one behind the other
+-- [F5] a pair with its field: the places of pairs, one behind the other
 unfoldable pub placedAll : List Cea608 → List ℕ
 placedAll [] = []
 placedAll (field1 (pair a b) ∷ ps) = 0 ∷ a ∷ b ∷ placedAll ps

@@ -1,4 +1,4 @@
--- What is to be done with a frame: document 01, "Reading frames". No public contract of `parser` reaches this file. Assumes nothing.
+-- What is to be done with a frame: rules F of docs/RULES.md. No public contract of `parser` reaches this file. Assumes nothing.
 use mathlib.Core.List.{List}
 use mathlib.Core.Bool.{Bool, true, false, cond}
 use mathlib.Core.Option.{Option, none, some}
@@ -15,7 +15,7 @@ use Rattle.parser_triples.specs.declared.Head.{Head}
 use Rattle.parser_triples.specs.declared.Head.the-variants.{Unread, Mismatch, Walk}
 use Rattle.parser_triples.specs.declared.Plan.{Plan}
 
--- what the first byte and the length say: nothing is read, or "length other than 3n+2 is refused with 1, *expected 3n+1*", or there are triples
+-- what the first byte and the length say: nothing is read [F2], or the length is refused [F3], or there are triples
 unfoldable pub headOf : List ℕ → Head
 headOf f =
     let n = countIn (getD f 0 0) in
@@ -25,7 +25,7 @@ headOf f =
 abbrev pub plan : Answer → Bool → Bool → Plan
 plan a lists gathers = record { answer = a; lists = lists; gathers = gathers }
 
--- "one refused with 2 leaves in it the pairs before the offending triple"; "With no valid type 2 or 3 triple, pending bytes are kept."
+-- [A3] a frame with a late triple lists the pairs before it and gathers nothing; [F8] nor does one without a valid triple of type 2 or 3
 abbrev pub planFound : Option ℕ → Bool → Plan
 planFound (some at) carries = plan (Refused (Cea608AfterCea708 at)) true false
 planFound none carries = plan Accepted true carries
@@ -34,8 +34,7 @@ planFound none carries = plan Accepted true carries
 abbrev pub planWalked : List ℕ → Plan
 planWalked f = planFound (lateFrom 0 (seenFrom 0 f)) (carries708 (seenFrom 0 f))
 
--- "In this order: the pair list is emptied; under 5 bytes, flag 0x40 clear, or count (low five bits) 0 is accepted with nothing further done;
--- length other than 3n+2 is refused with 1, *expected 3n+1*."
+-- the plan of a frame, by [F2] and [F3] and then by its triples
 unfoldable pub planOf : List ℕ → Plan
 planOf f =
     let n = countIn (getD f 0 0) in

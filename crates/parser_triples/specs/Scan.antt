@@ -7,7 +7,7 @@ use Rattle.parser_triples.specs.Walk.{over, seenFrom}
 use Rattle.parser_triples.specs.declared.Scan.{Scan}
 use Rattle.parser_triples.specs.declared.Scan.the-variants.{Only608, Ended, Carries, Late}
 
--- "A type 2 or 3 triple, valid or not, ends the 608 part": a triple within it
+-- [F6] a triple within the part with pairs, which one of type 2 or 3 ends
 abbrev pub scanFirst : Seen → Scan
 scanFirst (first a b) = Only608
 scanFirst (second a b) = Only608
@@ -16,7 +16,7 @@ scanFirst void708 = Ended
 scanFirst (start a b) = Carries
 scanFirst (more a b) = Carries
 
--- "a valid type 0 or 1 after it is refused with 2": a triple after it
+-- [F6] a triple after it, late if it is a valid one of type 0 or 1
 abbrev pub scanAfter : Scan → ℕ → Seen → Scan
 scanAfter s at (first a b) = Late at
 scanAfter s at (second a b) = Late at
@@ -32,11 +32,11 @@ scanAt Ended at t = scanAfter Ended at t
 scanAt Carries at t = scanAfter Carries at t
 scanAt (Late i) at t = Late i
 
--- "at 3 times its index": the triple with index i
+-- [F6] at three times its place: the triple at place i
 unfoldable pub scanTurn : Scan → ℕ → Seen → Scan
 scanTurn s i t = scanAt s (3 * i) t
 
--- after the 608 part: there was a "valid type 2 or 3 triple", or none yet
+-- [F8] after that part: there was a valid triple of type 2 or 3, or none yet
 abbrev pub found : Bool → Scan
 found carries = cond carries Carries Ended
 

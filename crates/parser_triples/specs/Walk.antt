@@ -4,7 +4,7 @@ use Prim.Native.Nat.{ℕ, _+_, _*_}
 use lib.ListN.{drop}
 use Rattle.model.specs.Frame.{Seen, seenAll, triplesIn}
 
--- "Triples start at byte 2": what a reader sees in those from the i-th on
+-- [F4] triples begin at the third byte: what a reader sees in those from the i-th on
 abbrev pub seenFrom : ℕ → List ℕ → List Seen
 seenFrom i f = seenAll (triplesIn (drop (3 * i + 2) f))
 

@@ -1,14 +1,17 @@
 -- `parser_gather::gather_frame` meets its contract: what the whole frame leaves stays what is left of it leaves behind the slots that are there, by
 -- whether a triple delivers; then the frame's end. Assumes nothing.
-use mathlib.Core.Path.{refl}
+use mathlib.Core.Path.{_≡_, refl}
 use mathlib.Core.Logic.{⊎-elim}
 use Prim.Native.Nat.{_+_, _*_, _-_, _≤_}
 use native.Mathlib.Omega.{arith}
-use lib.ListN.{length}
+use lib.ListN.{length, take}
 use borrow.Author.Needs.{needs}
+use denote.Ref.{now}
+use Rattle.model.specs.Demux.{gather, ended}
 use Rattle.parser_triples.specs.Walk.{seenFrom}
-use Rattle.parser_gather.specs.Gather.{Sized, leftGathered}
-use Rattle.parser_gather.proofs.Gathers.{Going, held-places, left-most, turn-delivers, turn-keeps, end-delivers, end-keeps}
+use Rattle.parser_rings.specs.Ring.{clearedFor}
+use Rattle.parser_gather.specs.Gather.{Sized, leftOf}
+use Rattle.parser_gather.proofs.Gathers.{cleared-none, cleared-some, left-over, Going, held-places, turn-delivers, turn-keeps, end-delivers, end-keeps}
 use Rattle.parser_gather.proofs.gather_frame.Statement.{statement}
 use Rattle.parser_gather.proofs.gather_frame.Tie as tie
 
@@ -17,7 +20,7 @@ Inv-loop first count len pending frame t₀ n₀ bytes₀ s₀ i₀ t n bytes s 
     (3 * i ≤ length frame + 2)
     × (n ≤ 32 + i)
     × Sized s
-    × Going (leftGathered first n₀ t₀ len pending frame) first pending n t s bytes (seenFrom i frame)
+    × Going (leftOf first n₀ t₀ pending (ended (gather (take len pending) (seenFrom 0 frame)))) first pending n t s bytes (seenFrom i frame)
 
 abbrev μ-loop : tie.MeasureT-loop
 μ-loop first count len pending frame t₀ n₀ bytes₀ s₀ i₀ t n bytes s i = length frame + 3 - 3 * i
@@ -63,7 +66,7 @@ loop-less c = search needs
 
 loop-again : tie.Need-loop-again Inv-loop μ-loop
 loop-again c =
-    let came = c .before .before .if1 .came in
+    let came = c .before .before .if2 .came in
     let asked = c .before .before .before .closes .ensures in
     let w = c .before .before .before .before .before in
     let more = w .before .loop-test .taken in
@@ -97,32 +100,27 @@ array-set-from-t-2 c = search needs
 add-n-2 : tie.Need-add-n-2 Inv-loop μ-loop
 add-n-2 c = search needs
 
-left-of-requires : tie.Need-left-of-requires Inv-loop μ-loop
-left-of-requires c κs = search needs
-
-sub-put-bytes : tie.Need-sub-put-bytes Inv-loop μ-loop
-sub-put-bytes c = search needs
-
-part-put-bytes-start : tie.Need-part-put-bytes-start Inv-loop μ-loop
-part-put-bytes-start c = search needs
-
-part-put-bytes-end : tie.Need-part-put-bytes-end Inv-loop μ-loop
-part-put-bytes-end c =
-    let v = c .before .before .before .before .before .before .before .loop in
-    omega (arith, held-places (v .inv .3 .holds), left-most (v .s .need) (v .s .len) _ (c .before .before .left-of .ensures))
-
-put-bytes-requires : tie.Need-put-bytes-requires Inv-loop μ-loop
-put-bytes-requires c κs = search needs
+keep-left-requires : tie.Need-keep-left-requires Inv-loop μ-loop
+keep-left-requires c κs = search needs
 
 returns : tie.Need-returns Inv-loop μ-loop
 returns c =
-    let came = c .before .before .before .before .before .if2 .came in
-    let v = c .before .before .before .before .before .before .before .before .before .loop .inv .3 in
-    let done = c .before .before .before .before .before .before .before .before .loop-test .left in
-    let asked = c .before .before .before .before .before .before .completes .ensures in
-    let left = c .before .before .before .before .left-of .ensures in
-    ⊎-elim (λ w. end-delivers _ _ _ _ _ (v .held) _ _ (v .holds) _ _ done (v .rest) _ asked _ left _ (c .put-bytes .ensures) _ _ (w .0 .taken) (w .1) (w .2))
-    (λ w. end-keeps _ _ _ _ _ (v .held) _ _ (v .holds) _ _ done (v .rest) _ asked _ left _ (c .put-bytes .ensures) _ _ (w .0 .left) (w .1) (w .2)) came
+    let came = c .before .before .if3 .came in
+    let asked = c .before .before .before .completes .ensures in
+    let w = c .before .before .before .before .before in
+    let v = w .before .loop .inv .3 in
+    let done = w .loop-test .left in
+    let left = c .keep-left .ensures in
+    let begun = w .before .before .before .before .before in
+    let a = begun .before .before .args in
+    let base : begun .if1 .t ≡ clearedFor (a .count) (a .slots) =
+    ⊎-elim (λ k. cleared-some _ _ _ (k .1) (k .0 .taken)) (λ k. cleared-none _ _ _ (k .1) (k .0 .left)) (begun .if1 .came) in
+    let whole = ended (gather (take (a .len) (now (a .pending))) (seenFrom 0 (now (a .frame)))) in
+    left-over (a .first) (a .count) (begun .if1 .t) _ (now (a .pending)) whole _ base
+    (⊎-elim
+    (λ k. end-delivers _ _ _ _ _ (v .held) _ _ (v .holds) _ _ done (v .rest) _ asked _ (left .0) _ (left .1) _ _ (k .0 .taken) (k .1) (k .2))
+    (λ k. end-keeps _ _ _ _ _ (v .held) _ _ (v .holds) _ _ done (v .rest) _ asked _ (left .0) _ (left .1) _ _ (k .0 .left) (k .1) (k .2))
+    came)
 
 pub gather-frame-spec : {M : Type 1} → statement M
 gather-frame-spec =
@@ -149,9 +147,5 @@ gather-frame-spec =
     mul-t-2
     array-set-from-t-2
     add-n-2
-    left-of-requires
-    sub-put-bytes
-    part-put-bytes-start
-    part-put-bytes-end
-    put-bytes-requires
+    keep-left-requires
     returns)
