@@ -14,19 +14,17 @@ use Rattle.service.specs.declared.Service.{Service}
 use Rattle.packet.specs.declared.DTVCCPacket.{DTVCCPacket}
 use Rattle.packet.specs.declared.ServiceAt.{ServiceAt}
 use Rattle.packet.specs.declared.Place.the-variants.{Here, Nothing, Refused}
-use Rattle.packet_entries.specs.Fields.{validFields}
 use Rattle.packet_entries.specs.Entries.{entries, cut, usedBy}
-use Rattle.packet_entries.specs.Extent.{Sized, sumTo, blockAt}
+use Rattle.packet_entries.specs.Extent.{sumTo, blockAt}
 use Rattle.packet_entries.proofs.Entries.{entries-at, used-sum}
 use Rattle.packet_entries.proofs.Holds.{Within, used-fits, blocks-cut, blocks-count}
 use Rattle.packet_entries.proofs.Walks.{sum-few}
-use Rattle.packet_entries.proofs.Measures.{sized-within, sized-valid}
 use Rattle.packet_entries.proofs.Placed.{place-block}
 use Rattle.packet_pushes.proofs.Pushed.{used-parts, cut-drop}
 use Rattle.packet.specs.Packet.{packetOf, validDTVCC}
 use Rattle.packet.specs.Place.{Placed, saidPlace}
 use Rattle.packet.specs.Replies.{fieldsOf, entriesOf}
-use Rattle.packet.proofs.Holds.{Places}
+use Rattle.packet.proofs.Holds.{Places, within-facts, entries-within}
 
 -- the blocks at a place of a packet: one, or none behind the last
 abbrev pub blocksAt : ℕ → DTVCCPacket → Outcome (List Block)
@@ -48,13 +46,9 @@ entries-drop (suc i) (suc k) ns ss h =
     one-more : (i : ℕ) → 1 + i ≡ suc i
     one-more i = omega arith
 
-module _ (p : DTVCCPacket) (l u : ℕ) (s : Sized (fieldsOf p) l u) (places : Places p) (i : ℕ) where
+module _ (p : DTVCCPacket) (valid : validDTVCC p ≡ true) (places : Places p) (i : ℕ) where
   w : Within (fieldsOf p)
-  w = sized-within (fieldsOf p) l u s
-
-  valid : validDTVCC p ≡ true
-  unfolding validDTVCC validFields
-  valid = sized-valid (fieldsOf p) l u s (places .payload)
+  w = entries-within p (within-facts p valid) places
 
   pub place-none : (r : ServiceAt) → p .count ≤ i → r .place ≡ Nothing → r .service ≡ blank → Placed (blocksAt i p) r
   place-none r h a b =
