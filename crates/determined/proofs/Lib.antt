@@ -4,6 +4,8 @@ pub mod Caption
 pub mod ServiceHeaders
 pub mod Service
 pub mod PacketEntries
+pub mod PacketWriting
+pub mod PacketMoves
 pub mod PacketBlocks
 pub mod PacketPushes
 pub mod Packet

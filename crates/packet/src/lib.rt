@@ -199,7 +199,7 @@ impl DTVCCPacket {
         let numbers = self.numbers;
         let sizes = self.sizes;
         let payload = self.payload;
-        packet_entries::write(self.seq_no, self.count, &numbers, &sizes, &payload, out)
+        packet_writing::write(self.seq_no, self.count, &numbers, &sizes, &payload, out)
     }
 
     // Whether the packet breaks no limit.
@@ -247,14 +247,14 @@ impl DTVCCPacket {
 pub fn packet_size(h: u8) -> usize
     ensures { λ r. ⌜ r ≡ packetSize h ⌝ }
 {
-    packet_blocks::packet_size(h)
+    packet_moves::packet_size(h)
 }
 
 // Whether the first `len` bytes read as a packet; at most 128 are there.
 pub fn reads_in(bytes: &[u8; 128], len: usize) -> bool
     ensures { λ r. ⌜ r ≡ model.reads (take len (now (bytes .entry))) ⌝ }
 {
-    packet_blocks::reads_in(bytes, len)
+    packet_moves::reads_in(bytes, len)
 }
 
 // A refusal, beside an empty packet.

@@ -19,7 +19,7 @@ use Rattle.model.proofs.Blocks.{written-length}
 use Rattle.service.specs.declared.Service.{Service}
 use Rattle.service.specs.declared.ServiceAnswer.{ServiceAnswer}
 use Rattle.service_headers.specs.declared.Head.the-variants.{Whole, Short}
-use Rattle.service_headers.specs.Head.{headOf, lengthFor}
+use Rattle.service_headers.specs.Head.{blockHead, lengthFor}
 use Rattle.service.specs.Service.{Answers, Writes, blockOf, over, blank, validService}
 use Rattle.basics.proofs.Runs.{sets-front, sets-behind}
 use Rattle.service_headers.proofs.Heads.{headed, head-short, length-of, laid-block}
@@ -240,21 +240,21 @@ module _ (s : Service) (v : Bool) (is : v ≡ validService s) where
 -- a block read
 module _ (d : List ℕ) where
   -- bytes missing
-  pub parse-short : (k : ℕ) → headOf d ≡ Short k → readBlock d ≡ refused (lengthMismatch k (length d))
+  pub parse-short : (k : ℕ) → blockHead d ≡ Short k → readBlock d ≡ refused (lengthMismatch k (length d))
   unfolding readBlock
   parse-short k e = let h = head-short d k e in simp (h .0, h .1)
 
   -- number 0
-  pub parse-null : (n st sz : ℕ) → headOf d ≡ Whole n st sz → n ≡ 0 → readBlock d ≡ gave (record { number = 0; payload = [] })
+  pub parse-null : (n st sz : ℕ) → blockHead d ≡ Whole n st sz → n ≡ 0 → readBlock d ≡ gave (record { number = 0; payload = [] })
   unfolding readBlock blockIn
   parse-null n st sz e z = let h = headed d n st sz e in simp (h .whole, h .number, z)
 
   -- any other number
-  pub parse-some : (n st sz : ℕ) → headOf d ≡ Whole n st sz → (n ≡ 0 → ⊥)
+  pub parse-some : (n st sz : ℕ) → blockHead d ≡ Whole n st sz → (n ≡ 0 → ⊥)
       → readBlock d ≡ gave (record { number = n; payload = take sz (drop st d) })
   unfolding readBlock blockIn
   parse-some n st sz e z = let h = headed d n st sz e in simp (h .whole, h .number, ne-eqb n 0 z, h .start, h .size)
 
   -- its payload is as long as the header says
-  pub part-length : (n st sz : ℕ) → headOf d ≡ Whole n st sz → length (take sz (drop st d)) ≡ sz
+  pub part-length : (n st sz : ℕ) → blockHead d ≡ Whole n st sz → length (take sz (drop st d)) ≡ sz
   part-length n st sz e = length-take-le sz (drop st d) (rw length-drop (omega (arith, headed d n st sz e .fits)))

@@ -23,12 +23,12 @@ element-copy-out-t17 c = search needs
 returns : tie.Need-returns
 returns c =
     let r = c .before .before .before .before in
-    filled-refused (now (r .before .before .before .before .args .bytes)) _ _ _ _ _ (c .before .before .r .given .1) _ (r .read-blocks .ensures) _ (c .unread .ensures)
+    filled-refused (now (r .before .before .before .before .args .bytes)) _ _ _ (c .before .before .r .given .1) _ (r .read-blocks .ensures) _ (c .unread .ensures)
 
 returns-2 : tie.Need-returns-2
 returns-2 c =
     let r = c .before .before .before .before in
-    filled-given (now (r .before .before .before .before .args .bytes)) _ _ _ _ _ (c .before .before .r2 .given .1) _ (r .read-blocks .ensures)
+    filled-given (now (r .before .before .before .before .args .bytes)) _ _ _ (c .before .before .r2 .given .1) _ (r .read-blocks .ensures)
 
 pub fill-spec : {M : Type 1} → statement M
 fill-spec =

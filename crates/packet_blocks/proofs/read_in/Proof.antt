@@ -1,6 +1,7 @@
 -- The tests of the reader come first; the blocks tell the rest. Assumes nothing.
 use denote.Ref.{now}
-use Rattle.packet_blocks.proofs.Readers.{front-within, read-none, read-wrong, first-room, read-blocks}
+use Rattle.packet_moves.proofs.Fronts.{front-within}
+use Rattle.packet_blocks.proofs.Readers.{read-none, read-wrong, first-room, read-blocks}
 use borrow.Author.Needs.{needs}
 use Rattle.packet_blocks.proofs.read_in.Statement.{statement}
 use Rattle.packet_blocks.proofs.read_in.Tie as tie

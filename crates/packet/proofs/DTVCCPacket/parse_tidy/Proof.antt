@@ -1,6 +1,6 @@
 -- It is the reader with the tidy rules. Assumes nothing.
 use mathlib.Core.Bool.{true}
-use Rattle.packet_blocks.specs.Reading.{readAs}
+use Rattle.packet_moves.specs.Moves.{readAs}
 use Rattle.packet.proofs.Replies.{read-within, read-answer}
 use borrow.Author.Needs.{needs}
 use Rattle.packet.proofs.DTVCCPacket.parse_tidy.Statement.{statement}
