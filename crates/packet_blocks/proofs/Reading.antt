@@ -63,7 +63,8 @@ module _ (bs : List Block) (at : Kept) (x y : Arrays) (first : LaidIn bs at x y)
 
 -- the room keptAfter a block that is kept, the bytes from `here` on having a whole header
 module _ (tidy : Bool) (d : List ℕ) (here : ℕ) (left : here < length d) (n st sz : ℕ) (e : blockHead (drop here d) ≡ Whole n st sz) where
-  room-kept : (at : Kept) → Room at here (length d) → (bs : List Block) → (length bs + length (payloadsOf bs) ≤ moveFor tidy n st sz) → (2 * length bs ≤ moveFor tidy n st sz) → Room (keptAfter bs at) (here + moveFor tidy n st sz) (length d)
+  room-kept : (at : Kept) → Room at here (length d) → (bs : List Block) → length bs + length (payloadsOf bs) ≤ moveFor tidy n st sz → 2 * length bs ≤ moveFor tidy n st sz
+      → Room (keptAfter bs at) (here + moveFor tidy n st sz) (length d)
   room-kept at room bs h k =
       record { within = omega (arith, move-bounds tidy d here left n st sz e .most); short = room .short; blocks = omega (arith, room .blocks); bytes = omega (arith, room .bytes) }
 

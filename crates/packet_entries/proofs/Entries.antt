@@ -162,7 +162,8 @@ cut-good (e ∷ es) d h ok =
     let f = both (carriable b) (every carriable (cut es (drop (e .size) d))) ok in
     let c = carriable-facts b (f .0) in
     let n : length (take (e .size) d) ≡ e .size = length-take-le (e .size) d (omega arith) in
-    and-both _ _ (facts-good _ _ (record { named = c .named; known = c .known; filled = omega (arith, c .filled); small = omega (arith, c .small) })) (cut-good es (drop (e .size) d) (rw length-drop (omega arith)) (f .1))
+    and-both _ _ (facts-good _ _ (record { named = c .named; known = c .known; filled = omega (arith, c .filled); small = omega (arith, c .small) }))
+    (cut-good es (drop (e .size) d) (rw length-drop (omega arith)) (f .1))
 
 pub block-lengths : (n k : ℕ) (p : List ℕ) → 1 ≤ k → length p ≡ k → blockLength (record { number = n; payload = p }) ≡ lengthFor n k
 block-lengths n k p h e = block-length (record { number = n; payload = p }) (omega arith) ∙ written-length (record { number = n; payload = p }) ∙ rw e (sym (length-for n k h))

@@ -135,13 +135,16 @@ module _ (old : Fields) (places : Places old) (p : Packet) (v : Valid p) where
       rw (n, s) (entries-laid (p .blocks) _ _)
 
   payloads-fit : length (payloadsOf (p .blocks)) ≤ length (old .payload)
-  payloads-fit = omega (arith, payloads-length (p .blocks), used-least (map entryOf (p .blocks)) (laid-good (p .blocks) (v .blocks)), laid-lengths (p .blocks) (v .blocks), blocks-short p v, places .payload)
+  payloads-fit =
+      let used = used-least (map entryOf (p .blocks)) (laid-good (p .blocks) (v .blocks)) in
+      omega (arith, payloads-length (p .blocks), used, laid-lengths (p .blocks) (v .blocks), blocks-short p v, places .payload)
 
   -- it is what is then held
   pub over-holds : packetIn (laidOver old p) ≡ p
   unfolding laidOver
   over-holds =
-      let f : sets (old .payload) 0 (payloadsOf (p .blocks)) ≡ payloadsOf (p .blocks) ++ drop (length (payloadsOf (p .blocks))) (old .payload) = sets-front (old .payload) (payloadsOf (p .blocks)) payloads-fit in
+      let f : sets (old .payload) 0 (payloadsOf (p .blocks)) ≡ payloadsOf (p .blocks) ++ drop (length (payloadsOf (p .blocks))) (old .payload) =
+      sets-front (old .payload) (payloadsOf (p .blocks)) payloads-fit in
       let e : packetIn (laidOver old p) .blocks ≡ p .blocks = blocks-cut (laidOver old p) ∙ rw (entries-are, f) (cut-laid (p .blocks) _) in
       ap (λ (bs : List Block). record { sequence = p .sequence; blocks = bs }) e
 

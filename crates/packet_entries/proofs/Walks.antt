@@ -88,7 +88,8 @@ module _ (count : ℕ) (ns ss : List ℕ) where
           short = g .short;
           lengths-few = omega (arith, g .lengths-few, length-most (getD ns i 0) (getD ss i 0), k .small);
           used-few = omega (arith, g .used-few, k .small);
-          found = g .found ∙ ap (more lengths used) (ap walked (entries-at count i ns ss h) ∙ walked-good _ _ (sym e ∙ q)) ∙ rw m (more-more lengths used _ (getD ss i 0) (walked (entries (count - (i + 1)) (drop (i + 1) ns) (drop (i + 1) ss))));
+          found = g .found ∙ ap (more lengths used) (ap walked (entries-at count i ns ss h) ∙ walked-good _ _ (sym e ∙ q))
+              ∙ rw m (more-more lengths used _ (getD ss i 0) (walked (entries (count - (i + 1)) (drop (i + 1) ns) (drop (i + 1) ss))));
         })
 
     pub going-last : count ≤ i → Of lengths used ≡ walked (entries count ns ss)

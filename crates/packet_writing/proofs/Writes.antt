@@ -115,7 +115,8 @@ module _ (count : ℕ) (ns ss d l₀ : List ℕ) where
           let b : Block = blockFrom n (take k (drop from d)) in
           let m : length (writtenBlock b) ≡ step = written-length b ∙ rw (part-here, ← s) (sym e) in
           let z : lengthFor n k ≡ step = length-for n k (good-here .filled) ∙ rw (← s) (sym e) in
-          let x : sets l at (writtenBlocks (cut (record { number = n; size = k } ∷ rest) (drop from d))) ≡ sets l₀ 1 (writtenBlocks (cut (entries count ns ss) d)) = rw (entries-at count i ns ss more) at (g .same) in
+          let x : sets l at (writtenBlocks (cut (record { number = n; size = k } ∷ rest) (drop from d))) ≡ sets l₀ 1 (writtenBlocks (cut (entries count ns ss) d)) =
+          rw (entries-at count i ns ss more) at (g .same) in
           let y : sets l at (writtenBlock b ++ writtenBlocks (cut rest (drop k (drop from d)))) ≡ sets (sets l at (writtenBlock b)) (at + step) (writtenBlocks (cut rest (drop (from + k) d))) =
           sets-append (writtenBlock b) (writtenBlocks (cut rest (drop k (drop from d)))) l at ∙ rw (m, drop-drop k from d) in
           record {
@@ -147,7 +148,9 @@ module _ (p : Fields) (n u : ℕ) (s : Sized p n u) (full : length (p .payload) 
   pub written-total : (t : ℕ) → t ≡ cond (eqb n 0) 1 (n + n % 2) → length (writtenPacket (packetIn p)) ≡ t
   unfolding writtenPacket
   written-total t e =
-      let m : length (writtenPacket (packetIn p)) ≡ 1 + (lengths + n % 2) = omega (arith, length-append (writtenBlocks (packetIn p .blocks)) (fill (packetLength (packetIn p))), blocks-are, fill-length (packetLength (packetIn p)), sized-length p n u s full) in
+      let both-parts = length-append (writtenBlocks (packetIn p .blocks)) (fill (packetLength (packetIn p))) in
+      let m : length (writtenPacket (packetIn p)) ≡ 1 + (lengths + n % 2) =
+      omega (arith, both-parts, blocks-are, fill-length (packetLength (packetIn p)), sized-length p n u s full) in
       m ∙ none-or-more (λ k l. 1 + (l + k % 2) ≡ cond (eqb k 0) 1 (k + k % 2)) refl (λ l. let z : eqb (1 + l) 0 ≡ false = ne-eqb (1 + l) 0 (λ q. omega arith) in rw z (omega arith)) ∙ sym e
 
   -- the fill stands behind the blocks
@@ -168,7 +171,9 @@ module _ (p : Fields) (n u : ℕ) (s : Sized p n u) (full : length (p .payload) 
 
     pub write-short : (out : List ℕ) (r : Counted) → length out < t → saidCounted r ≡ outShort t → WritesPlaces p out r out
     unfolding putInto
-    write-short out r h q = let z : ltb (length out) t ≡ true = lt-ltb _ _ h in record { answer = rw (sized-valid p n u s full, written-total t is, z) q; output = rw (sized-valid p n u s full, written-total t is, z) }
+    write-short out r h q =
+        let z : ltb (length out) t ≡ true = lt-ltb _ _ h in
+        record { answer = rw (sized-valid p n u s full, written-total t is, z) q; output = rw (sized-valid p n u s full, written-total t is, z) }
 
     pub write-fits : (out now : List ℕ) (r : Counted) → t ≤ length out → saidCounted r ≡ accepted (t ∷ []) → now ≡ sets out 0 (writtenPacket (packetIn p))
         → WritesPlaces p out r now

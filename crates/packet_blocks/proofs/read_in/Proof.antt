@@ -42,7 +42,8 @@ returns-2 c =
     let k = w .before in
     let f = k .before .before in
     let s = f .before .before in
-    read-wrong (now (s .args .bytes)) (s .args .len) _ (f .before .held .ensures) (f .if1 .left) _ (k .packet-size .ensures) _ _ (w .wrong-length .ensures) _ _ (c .before .before .if2 .taken) (c .before .mismatch2 .ensures) (c .unread2 .ensures)
+    read-wrong (now (s .args .bytes)) (s .args .len) _ (f .before .held .ensures) (f .if1 .left) _ (k .packet-size .ensures) _ _ (w .wrong-length .ensures) _ _
+    (c .before .before .if2 .taken) (c .before .mismatch2 .ensures) (c .unread2 .ensures)
 
 fill-requires : tie.Need-fill-requires
 fill-requires c κs =
@@ -51,7 +52,8 @@ fill-requires c κs =
     let f = k .before .before in
     let s = f .before .before in
     let h = f .before .held .ensures in
-    (first-room (now (s .args .bytes)) (s .args .len) _ h (f .if1 .left) _ (k .packet-size .ensures) (s .args .tidy) _ (w .wrong-length .ensures) (c .if2 .left), front-within (now (s .args .bytes)) (s .args .len) _ h)
+    let room = first-room (now (s .args .bytes)) (s .args .len) _ h (f .if1 .left) _ (k .packet-size .ensures) (s .args .tidy) _ (w .wrong-length .ensures) (c .if2 .left) in
+    (room, front-within (now (s .args .bytes)) (s .args .len) _ h)
 
 returns-3 : tie.Need-returns-3
 returns-3 c =
@@ -59,7 +61,8 @@ returns-3 c =
     let k = w .before in
     let f = k .before .before in
     let s = f .before .before in
-    read-blocks (now (s .args .bytes)) (s .args .len) _ (f .before .held .ensures) (f .if1 .left) _ (k .packet-size .ensures) (s .args .tidy) _ (w .wrong-length .ensures) (c .before .if2 .left) _ (c .fill .ensures)
+    read-blocks (now (s .args .bytes)) (s .args .len) _ (f .before .held .ensures) (f .if1 .left) _ (k .packet-size .ensures) (s .args .tidy) _ (w .wrong-length .ensures)
+    (c .before .if2 .left) _ (c .fill .ensures)
 
 pub read-in-spec : {M : Type 1} → statement M
 read-in-spec =

@@ -26,7 +26,11 @@ same-length : tie.Need-same-length
 same-length c = search needs
 
 returns : tie.Need-returns
-returns c = let p = c .before .before .before .before .before .before in let h = p .before .before in let s = h .before .before .before in block-laid _ _ _ _ _ _ _ _ (s .pre .1) (s .pre .2) (h .written-header-length .ensures) (p .put-header .ensures) (c .before .before .put-bytes .ensures)
+returns c =
+    let p = c .before .before .before .before .before .before in
+    let h = p .before .before in
+    let s = h .before .before .before in
+    block-laid _ _ _ _ _ _ _ _ (s .pre .1) (s .pre .2) (h .written-header-length .ensures) (p .put-header .ensures) (c .before .before .put-bytes .ensures)
 
 pub put-block-spec : {M : Type 1} → statement M
 put-block-spec =

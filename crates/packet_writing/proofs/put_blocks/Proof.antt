@@ -19,14 +19,22 @@ Inv-loop numbers sizes payload count out₀ at₀ from₀ i₀ out at from i = L
 abbrev μ-loop : tie.MeasureT-loop
 μ-loop numbers sizes payload count out₀ at₀ from₀ i₀ out at from i = count - i
 
--- the block at hand: its payload is there, and it still fits
-bytes : (c : tie.After-wide Inv-loop μ-loop) → c .before .before .before .before .loop .from + c .wide .result ≤ length (now (c .before .before .before .before .before .before .before .args .payload))
+-- the block at hand: its number and its size
+abbrev Number : tie.After-wide Inv-loop μ-loop → ℕ
+Number c = getD (now (c .before .before .before .before .before .before .before .args .numbers)) (c .before .before .before .before .loop .i) 0
+
+abbrev Size : tie.After-wide Inv-loop μ-loop → ℕ
+Size c = getD (now (c .before .before .before .before .before .before .before .args .sizes)) (c .before .before .before .before .loop .i) 0
+
+-- its payload is there, and it still fits
+bytes : (c : tie.After-wide Inv-loop μ-loop)
+    → c .before .before .before .before .loop .from + c .wide .result ≤ length (now (c .before .before .before .before .before .before .before .args .payload))
 bytes c = rw (c .wide .ensures .0) (bytes-here _ _ _ _ _ _ _ _ _ (c .before .before .before .before .loop .inv .0) (c .before .before .before .loop-test .taken))
 
-good : (c : tie.After-wide Inv-loop μ-loop) → Good (getD (now (c .before .before .before .before .before .before .before .args .numbers)) (c .before .before .before .before .loop .i) 0) (getD (now (c .before .before .before .before .before .before .before .args .sizes)) (c .before .before .before .before .loop .i) 0)
+good : (c : tie.After-wide Inv-loop μ-loop) → Good (Number c) (Size c)
 good c = good-here _ _ _ _ _ _ _ _ _ (c .before .before .before .before .loop .inv .0) (c .before .before .before .loop-test .taken)
 
-place : (c : tie.After-wide Inv-loop μ-loop) → c .before .before .before .before .loop .at + (2 + getD (now (c .before .before .before .before .before .before .before .args .sizes)) (c .before .before .before .before .loop .i) 0) ≤ 162
+place : (c : tie.After-wide Inv-loop μ-loop) → c .before .before .before .before .loop .at + (2 + Size c) ≤ 162
 place c = place-here _ _ _ _ _ _ _ _ _ (c .before .before .before .before .loop .inv .0) (c .before .before .before .loop-test .taken)
 
 -- and its header has at most two bytes
@@ -87,7 +95,8 @@ loop-again c =
     let a = b .before .before .before in
     let l = a .before .before .before .before .loop in (
       laying-next _ _ _ _ _ _ _ _ _ (l .inv .0) (a .before .before .before .loop-test .taken) (c .before .written-header-length .result) _ _ _ (c .before .written-header-length .ensures)
-          (ap (λ (x : ℕ). c .before .written-header-length .result + x) (c .wide2 .ensures .0)) (ap (λ (x : ℕ). l .from + x) (a .wide .ensures .0)) (b .put-block .ensures ∙ rw (add-sub-cancel-left, a .wide .ensures .0)),
+          (ap (λ (x : ℕ). c .before .written-header-length .result + x) (c .wide2 .ensures .0)) (ap (λ (x : ℕ). l .from + x) (a .wide .ensures .0))
+          (b .put-block .ensures ∙ rw (add-sub-cancel-left, a .wide .ensures .0)),
       ap length (b .put-block .ensures) ∙ simp length-sets (l .inv .1),
     )
 

@@ -65,10 +65,18 @@ put-fill-requires : tie.Need-put-fill-requires
 put-fill-requires c κs = search needs
 
 same-length : tie.Need-same-length
-same-length c = ap length (c .before .before .put-fill .ensures) ∙ simp length-sets (ap length (c .before .before .before .before .before .before .put-blocks .ensures) ∙ simp (length-sets, length-set))
+same-length c =
+    let f = c .before .before in
+    ap length (f .put-fill .ensures) ∙ simp length-sets (ap length (f .before .before .before .before .put-blocks .ensures) ∙ simp (length-sets, length-set))
 
 returns-3 : tie.Need-returns-3
-returns-3 c = let b = c .before .before .before .before .before .before in let h = b .before .before in let l = h .before .before in let e = ext l in write-fits (P (start e)) _ _ (sized e) (full e) _ (l .written-in .ensures) _ _ _ (h .before .if1 .left) refl (packet-laid (P (start e)) _ _ (sized e) (full e) _ _ _ _ (h .header-byte .ensures) (b .put-blocks .ensures) (c .before .before .put-fill .ensures))
+returns-3 c =
+    let b = c .before .before .before .before .before .before in
+    let h = b .before .before in
+    let l = h .before .before in
+    let e = ext l in
+    write-fits (P (start e)) _ _ (sized e) (full e) _ (l .written-in .ensures) _ _ _ (h .before .if1 .left) refl
+    (packet-laid (P (start e)) _ _ (sized e) (full e) _ _ _ _ (h .header-byte .ensures) (b .put-blocks .ensures) (c .before .before .put-fill .ensures))
 
 pub write-spec : {M : Type 1} → statement M
 write-spec =
