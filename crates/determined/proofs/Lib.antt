@@ -7,6 +7,7 @@ pub mod PacketEntries
 pub mod PacketWriting
 pub mod PacketMoves
 pub mod PacketBlocks
+pub mod PacketReading
 pub mod PacketPushes
 pub mod Packet
 pub mod Slots

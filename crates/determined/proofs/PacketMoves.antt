@@ -1,4 +1,5 @@
 -- The functions that go over a packet's bytes. Assumes nothing.
+use mathlib.Core.Path.{sym, _∙_}
 use contract.Lifetimes.{Lfts}
 use Rattle.packet_moves.proofs.packet_size.Reads as packet_size
 use Rattle.packet_moves.proofs.moved.Reads as Moved
@@ -17,7 +18,7 @@ moved = equal
 
 -- `held(bytes, len)`
 pub held : (κs : Lfts 1) → Determines (Held.Post κs)
-held κs = equal
+held κs = record { result = λ a r q e f h k. h .0 ∙ sym (k .0) }
 
 -- `reads_in(bytes, len)`
 pub reads-in : (κs : Lfts 1) → Determines (ReadsIn.Post κs)

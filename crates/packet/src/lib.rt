@@ -175,21 +175,21 @@ impl DTVCCPacket {
     pub fn parse(data: &[u8]) -> PacketAnswer
         ensures { λ r. ⌜ Answers (readPacket (now («data» .entry))) blank r ⌝ }
     {
-        packet_of(packet_blocks::read(data, false))
+        packet_of(packet_reading::read(data, false))
     }
 
     // Reads the packet that the first `len` bytes are, as `parse` does; at most 128 are there.
     pub fn parse_in(bytes: &[u8; 128], len: usize) -> PacketAnswer
         ensures { λ r. ⌜ Answers (readPacket (take len (now (bytes .entry)))) blank r ⌝ }
     {
-        packet_of(packet_blocks::read_in(bytes, len, false))
+        packet_of(packet_reading::read_in(bytes, len, false))
     }
 
     // Reads a packet whose length is what its header says, and passes each block whole.
     pub fn parse_tidy(data: &[u8]) -> PacketAnswer
         ensures { λ r. ⌜ Answers (readTidy (now («data» .entry))) blank r ⌝ }
     {
-        packet_of(packet_blocks::read(data, true))
+        packet_of(packet_reading::read(data, true))
     }
 
     // Writes the packet to a lent output; answers how many bytes that is.

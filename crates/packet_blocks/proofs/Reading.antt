@@ -24,7 +24,7 @@ use Rattle.basics.proofs.Runs.{sets-append, sets-more}
 use Rattle.packet_blocks.specs.declared.Kept.{Kept}
 use Rattle.packet_entries.specs.Fields.{Arrays, numbersOf, sizesOf, payloadsOf, blockFrom}
 use Rattle.packet_moves.specs.Moves.{moveFor, keptFor, blocksIn}
-use Rattle.packet_moves.proofs.Moves.{refused-at, next-is, move-bounds, body-length, move-covers, long, from-none, in-front, reach}
+use Rattle.packet_moves.proofs.Moves.{refused-at, next-is, body-length, move-covers, long, from-none, in-front, reach}
 use Rattle.packet_blocks.specs.Reading.{LaidIn, keptAfter, Keeps, Stored, Room, KeepRoom}
 
 -- what is laid behind other blocks
@@ -66,7 +66,7 @@ module _ (tidy : Bool) (d : List ℕ) (here : ℕ) (left : here < length d) (n s
   room-kept : (at : Kept) → Room at here (length d) → (bs : List Block) → length bs + length (payloadsOf bs) ≤ moveFor tidy n st sz → 2 * length bs ≤ moveFor tidy n st sz
       → Room (keptAfter bs at) (here + moveFor tidy n st sz) (length d)
   room-kept at room bs h k =
-      record { within = omega (arith, move-bounds tidy d here left n st sz e .most); short = room .short; blocks = omega (arith, room .blocks); bytes = omega (arith, room .bytes) }
+      record { short = room .short; blocks = omega (arith, room .blocks); bytes = omega (arith, room .bytes) }
 
   room-behind : (at : Kept) → Room at here (length d) → Room (keptAfter (keptFor n (take sz (drop (here + st) d))) at) (here + moveFor tidy n st sz) (length d)
   unfolding keptFor flatMap

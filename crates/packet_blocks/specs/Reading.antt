@@ -49,7 +49,6 @@ pub record ReadsInto (o : Outcome Packet) (r : Filled) : Type 0 where
 
 -- how many bytes the blocks kept so far were read from
 pub record Room (at : Kept) (here end : ℕ) : Type 0 where
-  pub within : here ≤ end
   pub short : end ≤ 128
   pub blocks : 2 * at .count + 1 ≤ here
   pub bytes : at .used + at .count + 1 ≤ here

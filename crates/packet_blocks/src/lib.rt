@@ -4,11 +4,10 @@ ghost use Prim.Native.Nat.{_+_, _≤_};
 ghost use lib.ListN.{length, take, drop};
 ghost use lib.Seq.{sets};
 ghost use Rattle.caption.specs.Answers.{saidRefusal};
-ghost use Rattle.model.specs.Said.{refused, mapped, lengthMismatch};
+ghost use Rattle.model.specs.Said.{refused, mapped};
 ghost use Rattle.packet_entries.specs.Fields.{arraysBefore, arraysAfter};
-ghost use Rattle.packet_moves.specs.Moves.{wrongLength, readAs, keptFor, packetWith, blocksIn};
+ghost use Rattle.packet_moves.specs.Moves.{keptFor, packetWith, blocksIn};
 ghost use Rattle.packet_blocks.specs.Reading.{soFar, Keeps, Stored, ReadsInto, Room, KeepRoom};
-use basics::MOST_PACKET;
 use basics::put_bytes;
 use caption::Answer;
 use caption::Counted;
@@ -31,32 +30,50 @@ pub struct Kept {
     pub used: usize,
 }
 
-// Reads the packet that bytes are, as `read_in` does.
-pub fn read(data: &[u8], tidy: bool) -> Filled
-    ensures { λ r. ⌜ ReadsInto (readAs tidy (now («data» .entry))) r ⌝ }
+// The packet of the blocks that the first `len` bytes have behind the header; at most 128 bytes are there, and their number is not looked at.
+pub fn fill(bytes: &[u8; 128], len: usize, tidy: bool) -> Filled
+    ensures { λ r. ⌜ ReadsInto (mapped (packetWith (now (bytes .entry))) (blocksIn (now (bytes .entry)) len tidy 1)) r ⌝ }
 {
-    let n = data.len();
-    if MOST_PACKET < n {
-        return unread(mismatch(packet_moves::packet_size(data[0]), n));
+    let end = packet_moves::held(bytes, len);
+    let mut numbers = [0u8; 63];
+    let mut sizes = [0u8; 63];
+    let mut payload = [0u8; 127];
+    let r = read_blocks(
+        bytes,
+        1,
+        end,
+        tidy,
+        0,
+        0,
+        &mut numbers,
+        &mut sizes,
+        &mut payload,
+    );
+    match r {
+        Counted::Refused(why) => unread(why),
+        Counted::Count(count) => Filled {
+            answer: Answer::Accepted,
+            seq_no: bytes[0] / 64 % 4,
+            count,
+            numbers,
+            sizes,
+            payload,
+        },
     }
-    let mut bytes = [0u8; 128];
-    put_bytes(&mut bytes, 0, data);
-    read_in(&bytes, n, tidy)
 }
 
-// Reads the packet that the first `len` bytes are, plainly or tidily; at most 128 bytes are there.
-pub fn read_in(bytes: &[u8; 128], len: usize, tidy: bool) -> Filled
-    ensures { λ r. ⌜ ReadsInto (readAs tidy (take len (now (bytes .entry)))) r ⌝ }
+// A refusal of reading, beside zeros.
+pub fn unread(why: Refusal) -> Filled
+    ensures { λ r. ⌜ ReadsInto (refused (saidRefusal why)) r ⌝ }
 {
-    let n = packet_moves::held(bytes, len);
-    if n == 0 {
-        return unread(mismatch(1, 0));
+    Filled {
+        answer: Answer::Refused(why),
+        seq_no: 0,
+        count: 0,
+        numbers: [0u8; 63],
+        sizes: [0u8; 63],
+        payload: [0u8; 127],
     }
-    let size = packet_moves::packet_size(bytes[0]);
-    if wrong_length(tidy, size, n) {
-        return unread(mismatch(size, n));
-    }
-    fill(bytes, n, tidy)
 }
 
 // Lays bytes into a payload, from `at` on, four in a turn while four are left: most payloads are too short for a longer turn. Answers how many
@@ -172,67 +189,4 @@ fn read_blocks(
         sizes,
         payload,
     )
-}
-
-// Whether a reader refuses `actual` bytes where the header says `size`.
-fn wrong_length(tidy: bool, size: usize, actual: usize) -> bool
-    ensures { λ r. ⌜ r ≡ wrongLength tidy size actual ⌝ }
-{
-    if tidy {
-        return size != actual;
-    }
-    size < actual
-}
-
-// Why data of this length is refused.
-fn mismatch(expected: usize, actual: usize) -> Refusal
-    ensures { λ r. ⌜ saidRefusal r ≡ lengthMismatch expected actual ⌝ }
-{
-    Refusal::LengthMismatch { expected, actual }
-}
-
-// A refusal of reading, beside zeros.
-fn unread(why: Refusal) -> Filled
-    ensures { λ r. ⌜ ReadsInto (refused (saidRefusal why)) r ⌝ }
-{
-    Filled {
-        answer: Answer::Refused(why),
-        seq_no: 0,
-        count: 0,
-        numbers: [0u8; 63],
-        sizes: [0u8; 63],
-        payload: [0u8; 127],
-    }
-}
-
-// Reads the packet that the first `end` bytes are, whose length is not wrong.
-fn fill(bytes: &[u8; 128], end: usize, tidy: bool) -> Filled
-    requires { ⌜ Room (soFar 0 0) 1 end × (end ≤ length (now bytes)) ⌝ }
-    ensures { λ r. ⌜ ReadsInto (mapped (packetWith (now (bytes .entry))) (blocksIn (now (bytes .entry)) end tidy 1)) r ⌝ }
-{
-    let mut numbers = [0u8; 63];
-    let mut sizes = [0u8; 63];
-    let mut payload = [0u8; 127];
-    let r = read_blocks(
-        bytes,
-        1,
-        end,
-        tidy,
-        0,
-        0,
-        &mut numbers,
-        &mut sizes,
-        &mut payload,
-    );
-    match r {
-        Counted::Refused(why) => unread(why),
-        Counted::Count(count) => Filled {
-            answer: Answer::Accepted,
-            seq_no: bytes[0] / 64 % 4,
-            count,
-            numbers,
-            sizes,
-            payload,
-        },
-    }
 }

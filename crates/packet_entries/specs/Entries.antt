@@ -1,9 +1,8 @@
 -- The places of a packet by their numbers and sizes alone, as the code goes over them. This is for the functions and the proofs of this crate and
 -- of `packet_pushes`: no public contract of `packet` reaches it, and `tests-agree` says that its test is that of `Fields`. Assumes nothing.
-use mathlib.Core.Path.{_≡_}
 use mathlib.Core.Bool.{Bool, true, _&&_}
 use mathlib.Core.List.{List, [], _∷_}
-use Prim.Native.Nat.{ℕ, zero, suc, _+_, _≤_}
+use Prim.Native.Nat.{ℕ, zero, suc, _+_}
 use lib.Dec.{leb}
 use lib.ListN.{getD, take, drop}
 use Rattle.model.specs.Block.{Block}

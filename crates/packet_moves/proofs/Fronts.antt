@@ -7,7 +7,7 @@ use native.Mathlib.Omega.{arith}
 use lib.Dec.{leb}
 use lib.ListN.{length, getD, take, drop, length-take}
 use lib.Seq.{take-all, getD-take}
-use borrow.Author.Tests.{eq-eqb, ne-eqb, lt-ltb, le-ltb, eqb-true, ltb-false, leb-true, leb-false, not-false}
+use borrow.Author.Tests.{eq-eqb, ne-eqb, lt-ltb, le-ltb, leb-true, leb-false}
 use Rattle.model.specs.Said.{refused, isGiven, mapped, lengthMismatch}
 use Rattle.model.specs.Packet.{packetSize, plainMove, blocksFrom, readBy, readPacket, readTidy, reads}
 use Rattle.model.proofs.Cases.{by-test}
@@ -34,14 +34,6 @@ module _ (tidy : Bool) (d : List ℕ) where
     pub blocks-as : wrongLength tidy size (length d) ≡ false → readAs tidy d ≡ mapped (packetWith d) (blocksFrom (moveBy tidy) 0 (drop 1 d))
     unfolding readBy
     blocks-as w = read-by tidy d ∙ simp (ne-eqb (length d) 0 some, ← is, w)
-
-    -- data that is not refused is not longer than the header says
-    pub not-wrong : wrongLength tidy size (length d) ≡ false → length d ≤ size
-    not-wrong w = by tidy w
-      where
-        by : (tidy : Bool) → wrongLength tidy size (length d) ≡ false → length d ≤ size
-        by true q = omega (arith, eqb-true size (length d) (not-false _ q))
-        by false q = ltb-false _ _ q
 
 -- what the plain reader gives is what reads
 reads-as : (d : List ℕ) → reads d ≡ isGiven (readAs false d)

@@ -46,7 +46,7 @@ pub fn moved(tidy: bool, number: u8, start: u8, size: u8) -> usize
 
 // How many of the first `len` bytes there are.
 pub fn held(bytes: &[u8; 128], len: usize) -> usize
-    ensures { λ r. ⌜ r ≡ length (take len (now (bytes .entry))) ⌝ }
+    ensures { λ r. ⌜ (r ≡ length (take len (now (bytes .entry)))) × (r ≤ 128) ⌝ }
 {
     let all = &bytes[..];
     lesser(len, all.len())

@@ -1,6 +1,6 @@
 // The header of a block, read and written.
 ghost use mathlib.Core.Path.{_≡_};
-ghost use Prim.Native.Nat.{_%_, min};
+ghost use Prim.Native.Nat.{_%_};
 ghost use lib.ListN.{take, drop};
 ghost use lib.Seq.{sets};
 ghost use mathlib.Core.Bool.{cond};

@@ -9,7 +9,7 @@ lesser-requires : tie.Need-lesser-requires
 lesser-requires c κs = search needs
 
 returns : tie.Need-returns
-returns c = c .lesser .ensures ∙ sym (length-take _ _)
+returns c = (c .lesser .ensures ∙ sym (length-take _ _), search needs)
 
 pub held-spec : {M : Type 1} → statement M
 held-spec = tie.close (tie.spec lesser-requires returns)

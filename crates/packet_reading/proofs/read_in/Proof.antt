@@ -1,10 +1,9 @@
 -- The tests of the reader come first; the blocks tell the rest. Assumes nothing.
 use denote.Ref.{now}
-use Rattle.packet_moves.proofs.Fronts.{front-within}
-use Rattle.packet_blocks.proofs.Readers.{read-none, read-wrong, first-room, read-blocks}
+use Rattle.packet_reading.proofs.Readers.{read-none, read-wrong, read-blocks}
 use borrow.Author.Needs.{needs}
-use Rattle.packet_blocks.proofs.read_in.Statement.{statement}
-use Rattle.packet_blocks.proofs.read_in.Tie as tie
+use Rattle.packet_reading.proofs.read_in.Statement.{statement}
+use Rattle.packet_reading.proofs.read_in.Tie as tie
 
 held-requires : tie.Need-held-requires
 held-requires c κs = search needs
@@ -19,7 +18,7 @@ returns : tie.Need-returns
 returns c =
     let h = c .before .before .before in
     let s = h .before in
-    read-none (now (s .args .bytes)) (s .args .len) _ (h .held .ensures) _ _ _ (c .before .before .if1 .taken) (c .before .mismatch .ensures) (c .unread .ensures)
+    read-none (now (s .args .bytes)) (s .args .len) _ (h .held .ensures .0) _ _ _ (c .before .before .if1 .taken) (c .before .mismatch .ensures) (c .unread .ensures)
 
 element-copy-out-packet-size : tie.Need-element-copy-out-packet-size
 element-copy-out-packet-size c = search needs
@@ -42,18 +41,11 @@ returns-2 c =
     let k = w .before in
     let f = k .before .before in
     let s = f .before .before in
-    read-wrong (now (s .args .bytes)) (s .args .len) _ (f .before .held .ensures) (f .if1 .left) _ (k .packet-size .ensures) _ _ (w .wrong-length .ensures) _ _
+    read-wrong (now (s .args .bytes)) (s .args .len) _ (f .before .held .ensures .0) (f .if1 .left) _ (k .packet-size .ensures) _ _ (w .wrong-length .ensures) _ _
     (c .before .before .if2 .taken) (c .before .mismatch2 .ensures) (c .unread2 .ensures)
 
 fill-requires : tie.Need-fill-requires
-fill-requires c κs =
-    let w = c .before in
-    let k = w .before in
-    let f = k .before .before in
-    let s = f .before .before in
-    let h = f .before .held .ensures in
-    let room = first-room (now (s .args .bytes)) (s .args .len) _ h (f .if1 .left) _ (k .packet-size .ensures) (s .args .tidy) _ (w .wrong-length .ensures) (c .if2 .left) in
-    (room, front-within (now (s .args .bytes)) (s .args .len) _ h)
+fill-requires c κs = search needs
 
 returns-3 : tie.Need-returns-3
 returns-3 c =
@@ -61,7 +53,7 @@ returns-3 c =
     let k = w .before in
     let f = k .before .before in
     let s = f .before .before in
-    read-blocks (now (s .args .bytes)) (s .args .len) _ (f .before .held .ensures) (f .if1 .left) _ (k .packet-size .ensures) (s .args .tidy) _ (w .wrong-length .ensures)
+    read-blocks (now (s .args .bytes)) (s .args .len) _ (f .before .held .ensures .0) (f .if1 .left) _ (k .packet-size .ensures) (s .args .tidy) _ (w .wrong-length .ensures)
     (c .before .if2 .left) _ (c .fill .ensures)
 
 pub read-in-spec : {M : Type 1} → statement M

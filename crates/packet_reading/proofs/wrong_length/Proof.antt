@@ -1,6 +1,6 @@
 -- The flag picks the test, as in `wrongLength`. Assumes nothing.
-use Rattle.packet_blocks.proofs.wrong_length.Statement.{statement}
-use Rattle.packet_blocks.proofs.wrong_length.Tie as tie
+use Rattle.packet_reading.proofs.wrong_length.Statement.{statement}
+use Rattle.packet_reading.proofs.wrong_length.Tie as tie
 
 returns : tie.Need-returns
 returns c = simp (c .if1 .taken)

@@ -1,8 +1,8 @@
 -- More bytes than a packet has are refused; else their copy is read. Assumes nothing.
-use Rattle.packet_blocks.proofs.Readers.{read-many, copied-read}
+use Rattle.packet_reading.proofs.Readers.{read-many, copied-read}
 use borrow.Author.Needs.{needs}
-use Rattle.packet_blocks.proofs.read.Statement.{statement}
-use Rattle.packet_blocks.proofs.read.Tie as tie
+use Rattle.packet_reading.proofs.read.Statement.{statement}
+use Rattle.packet_reading.proofs.read.Tie as tie
 
 shared-slice-read-packet-size : tie.Need-shared-slice-read-packet-size
 shared-slice-read-packet-size c = search needs
