@@ -1,13 +1,14 @@
 -- What an answer says tells which answer it is: each map into `Said` has a left inverse, so no two answers say the same.
 -- Assumes nothing.
-use mathlib.Core.Path.{_≡_, refl}
-use mathlib.Core.Bool.{true, false, cond}
+use mathlib.Core.Path.{_≡_, refl, sym, _∙_}
+use mathlib.Core.Bool.{Bool, true, false, cond, true≢false}
 use mathlib.Core.List.{List, [], _∷_}
 use mathlib.Mathlib.Logic.Function.Defs.{id, Injective, LeftInverse, LeftInverse·injective}
 use Prim.Native.Nat.{ℕ, _-_}
 use lib.Dec.{eqb}
 use lib.ListN.{getD}
-use Rattle.model.specs.Said.{Said}
+use borrow.Author.Tests.{eq-eqb}
+use Rattle.model.specs.Said.{Said, accepted, badValue, measured}
 use Rattle.caption.specs.Answers.{saidRefusal, saidAnswer, saidCounted, saidTruth}
 use Rattle.caption.specs.declared.Refusal.{Refusal}
 use Rattle.caption.specs.declared.Refusal.the-variants.{LengthMismatch, Cea608AfterCea708, WouldOverflow, ReadOnly, EmptyService, BadNumber, BadRun, BadRate, OutShort, Full, BadValue}
@@ -53,6 +54,12 @@ module _ {A : Type 0} (given : List ℕ → A) (refused : Refusal → A) where
   refused-again (OutShort needed) = refl
   refused-again Full = refl
   refused-again BadValue = refl
+
+-- so each has a number of its own, and that is not 0
+pub refusal-numbered : (why : Refusal) → saidRefusal why .number ≡ 0 → ⊥
+refusal-numbered why z =
+    let e : answerOf (λ _. true) (λ _. false) (saidRefusal why) ≡ true = rw (eq-eqb _ _ z) in
+    true≢false (sym e ∙ refused-again (λ _. true) (λ _. false) why)
 
 -- no two refusals say the same
 pub saidRefusal-injective : Injective saidRefusal
@@ -101,3 +108,13 @@ truth-again (truth.Refused why) = refused-again is truth.Refused why
 -- no two answers say the same
 pub saidTruth-injective : Injective saidTruth
 saidTruth-injective = LeftInverse·injective (answerOf is truth.Refused) saidTruth truth-again
+
+-- a number asked of a value, by what the test of its limits answered
+module _ (valid v : Bool) (is : v ≡ valid) where
+  -- 11 where a limit is broken
+  pub measure-bad : (n : ℕ) → v ≡ false → badValue ≡ measured valid n
+  measure-bad n e = rw (← is, e)
+
+  -- the number where none is
+  pub measure-good : (n k : ℕ) → v ≡ true → n ≡ k → accepted (n ∷ []) ≡ measured valid k
+  measure-good n k e q = rw (← is, e, q)

@@ -45,18 +45,18 @@ budgets-meant numer denom = by (eqb numer 0 || (eqb (pairsAt numer denom) 0 || l
 
 -- One law for each way in which the budgets are found, in the order of the tests.
 module _ (numer denom : ℕ) where
-  -- "numer is 0"
+  -- a numerator of 0 [G2]
   pub numer-zero : numer ≡ 0 → badRate ≡ saysWith pairsThenTriples (budgets numer denom)
   unfolding budgets
   numer-zero z = simp (eq-eqb _ _ z)
 
-  -- "pairs is 0"
+  -- no pairs [G2]
   pub pairs-zero : {p : ℕ} → (numer ≡ 0 → ⊥) → p ≡ pairsAt numer denom → p ≡ 0
       → badRate ≡ saysWith pairsThenTriples (budgets numer denom)
   unfolding budgets
   pairs-zero n e z = simp (ne-eqb _ _ n, ← e, eq-eqb _ _ z)
 
-  -- "triples exceeds 31"
+  -- more than 31 triples [G2]
   pub triples-over : {p t : ℕ} → (numer ≡ 0 → ⊥) → p ≡ pairsAt numer denom → (p ≡ 0 → ⊥) → t ≡ triplesAt numer denom → mostTriples < t
       → badRate ≡ saysWith pairsThenTriples (budgets numer denom)
   unfolding budgets

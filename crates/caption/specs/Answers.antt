@@ -1,4 +1,4 @@
--- What the shared answers say: the number of document 01's table "What comes back", and the values that it carries. Assumes nothing.
+-- What the shared answers say [A1]: the number of a refusal in the table R, and the values that it carries. Assumes nothing.
 use mathlib.Core.Bool.{cond}
 use mathlib.Core.List.{[], _∷_}
 use Rattle.model.specs.Said.{Said, accepted, lengthMismatch, cea608AfterCea708, wouldOverflow, readOnly, emptyService, badNumber, badRun, badRate, outShort, full, badValue}

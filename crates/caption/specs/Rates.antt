@@ -1,4 +1,4 @@
--- Frame rates: those that have names, and what their budgets say. Document 01, "Writing frames". Assumes nothing.
+-- Frame rates: those that have names [G3], and what their budgets say [G1] [G2]. Assumes nothing.
 use mathlib.Core.List.{List, [], _∷_, map}
 use Prim.Native.Nat.{ℕ}
 use Rattle.model.specs.Said.{Said, accepted, badRate}
@@ -11,7 +11,7 @@ use Rattle.caption.specs.declared.Budgets.the-variants.{Of, BadRate}
 abbrev pub rate : ℕ → ℕ → Framerate
 rate numer denom = record { numer = numer; denom = denom }
 
--- "Five rates have names": those of the model
+-- the five that have names [G3]: those of the model
 abbrev pub namedRates : List Framerate
 namedRates = map (λ (r : model.Rate). rate (r .numer) (r .denom)) model.namedRates
 

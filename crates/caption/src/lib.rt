@@ -56,7 +56,8 @@ pub enum Cea608 {
     Field2(u8, u8),
 }
 
-// A frame rate: `numer` frames in `denom` seconds. Rates above 60 are not well supported.
+// A frame rate: `numer` frames in `denom` seconds. One that has no budgets is refused, and no other [G2]: a frame would carry no pair (above 120
+// frames a second) or more than 31 triples (below 19.05), or the numerator is 0.
 pub struct Framerate {
     pub numer: u32,
     pub denom: u32,

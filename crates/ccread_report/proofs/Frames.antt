@@ -7,9 +7,9 @@ use native.Mathlib.Omega.{arith}
 use lib.Dec.{eqb}
 use borrow.Author.Tests.{eq-eqb, ne-eqb}
 use Rattle.caption.specs.declared.Refusal.{Refusal}
-use Rattle.caption.specs.declared.Refusal.the-variants.{LengthMismatch, Cea608AfterCea708, WouldOverflow, ReadOnly, EmptyService, BadNumber, BadRun, BadRate, OutShort, Full, BadValue}
 use Rattle.caption.specs.declared.Answer.the-variants.{Accepted, Refused}
-use Rattle.caption.specs.Answers.{saidRefusal, saidAnswer}
+use Rattle.caption.specs.Answers.{saidAnswer}
+use Rattle.caption.proofs.Answers.{refusal-numbered}
 use Rattle.model.specs.Said.{Said}
 use Rattle.model.specs.Demux.{takeFrame}
 use Rattle.model.proofs.Cases.{by-test}
@@ -25,20 +25,6 @@ use Rattle.parser.specs.declared.CCDataParser.{CCDataParser}
 use Rattle.parser.proofs.Laid.{Sound}
 use Rattle.parser.proofs.Kept.{pushed-sound}
 use Rattle.ccread_report.specs.Report.{waitingLines, takenLines, frameLines, drawnOut, settled}
-
--- a refusal has a number
-refusal-numbered : (why : Refusal) → saidRefusal why .number ≡ 0 → ⊥
-refusal-numbered (LengthMismatch expected actual) z = omega arith
-refusal-numbered (Cea608AfterCea708 bytePos) z = omega arith
-refusal-numbered (WouldOverflow over) z = omega arith
-refusal-numbered ReadOnly z = omega arith
-refusal-numbered EmptyService z = omega arith
-refusal-numbered BadNumber z = omega arith
-refusal-numbered BadRun z = omega arith
-refusal-numbered BadRate z = omega arith
-refusal-numbered (OutShort needed) z = omega arith
-refusal-numbered Full z = omega arith
-refusal-numbered BadValue z = omega arith
 
 -- a frame pushed
 module _ (p : CCDataParser) (f : List ℕ) (shaped : Shaped p) (a : ParserAnswer) (h : Answers (takeFrame f (means p)) (laidAfter p) p a) where

@@ -4,7 +4,10 @@ pub mod Caption
 pub mod ServiceHeaders
 pub mod Service
 pub mod PacketEntries
+pub mod PacketWriting
+pub mod PacketMoves
 pub mod PacketBlocks
+pub mod PacketReading
 pub mod PacketPushes
 pub mod Packet
 pub mod Slots

@@ -24,7 +24,6 @@ use Rattle.packet.specs.declared.Place.the-variants.{Here, Nothing, Refused}
 use Rattle.packet.specs.declared.ServiceAt.{ServiceAt}
 use Rattle.determined.proofs.Service.{writes}
 use Rattle.packet.proofs.packet_size.Reads as packet_size
-use Rattle.packet.proofs.parse_hdr_byte.Reads as parse_hdr_byte
 use Rattle.packet.proofs.reads_in.Reads as ReadsIn
 use Rattle.packet.proofs.DTVCCPacket.new.Reads as new
 use Rattle.packet.proofs.DTVCCPacket.sequence_no.Reads as sequence_no
@@ -40,6 +39,7 @@ use Rattle.packet.proofs.DTVCCPacket.push_code_into_single_service.Reads as pus
 use Rattle.packet.proofs.DTVCCPacket.parse.Reads as parse
 use Rattle.packet.proofs.DTVCCPacket.parse_in.Reads as ParseIn
 use Rattle.packet.proofs.DTVCCPacket.parse_tidy.Reads as parse_tidy
+use Rattle.packet.proofs.DTVCCPacket.is_valid.Reads as is_valid
 use Rattle.determined.specs.Determines.{Determines, DeterminesLent}
 use Rattle.determined.proofs.Ways.{equal, said, two}
 
@@ -77,10 +77,6 @@ module _ {A E : Type 0} where
 -- `packet_size(h)`
 pub packet-size : Determines (packet_size.Post (tt {0}))
 packet-size = equal
-
--- `parse_hdr_byte(byte)`
-pub parse-hdr-byte : Determines (parse_hdr_byte.Post (tt {0}))
-parse-hdr-byte = equal
 
 -- `reads_in(bytes, len)`
 pub reads-in : (κs : Lfts 1) → Determines (ReadsIn.Post κs)
@@ -141,3 +137,7 @@ DTVCCPacket-parse-in κs = answers
 -- `DTVCCPacket::parse_tidy(data)`
 pub DTVCCPacket-parse-tidy : (κs : Lfts 1) → Determines (parse_tidy.Post κs)
 DTVCCPacket-parse-tidy κs = answers
+
+-- `packet.is_valid()`
+pub DTVCCPacket-is-valid : Determines (is_valid.Post (tt {0}))
+DTVCCPacket-is-valid = equal

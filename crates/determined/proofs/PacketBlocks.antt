@@ -7,16 +7,14 @@ use Rattle.caption.specs.declared.Answer.{Answer}
 use Rattle.caption.proofs.Answers.{saidAnswer-injective}
 use Rattle.packet_entries.specs.Fields.{Fields}
 use Rattle.packet_blocks.specs.declared.Filled.{Filled}
-use Rattle.packet_blocks.specs.Reading.{Read}
-use Rattle.packet_blocks.proofs.packet_size.Reads as packet_size
-use Rattle.packet_blocks.proofs.reads_in.Reads as ReadsIn
-use Rattle.packet_blocks.proofs.read_in.Reads as ReadIn
-use Rattle.packet_blocks.proofs.read.Reads as Read
+use Rattle.packet_blocks.specs.Reading.{ReadsInto}
+use Rattle.packet_blocks.proofs.fill.Reads as Fill
+use Rattle.packet_blocks.proofs.unread.Reads as Unread
 use Rattle.determined.specs.Determines.{Determines}
-use Rattle.determined.proofs.Ways.{equal, two}
+use Rattle.determined.proofs.Ways.{two}
 
 -- an answer and the places beside it
-reads-as : {A E : Type 0} {o : A → Outcome Packet} → Determines (λ (a : A) (r : Filled) (e : E). Read (o a) r)
+pub reads-as : {A E : Type 0} {o : A → Outcome Packet} → Determines (λ (a : A) (r : Filled) (e : E). ReadsInto (o a) r)
 reads-as =
     record {
       result = λ a r q e f h k. two filledBy (saidAnswer-injective (r .answer) (q .answer) (h .answer ∙ sym (k .answer))) (h .places ∙ sym (k .places));
@@ -25,18 +23,10 @@ reads-as =
     filledBy : Answer → Fields → Filled
     filledBy x p = record { answer = x; «seq_no» = p .«seq_no»; count = p .count; numbers = p .numbers; sizes = p .sizes; payload = p .payload }
 
--- `packet_size(h)`
-pub packet-size : Determines (packet_size.Post (tt {0}))
-packet-size = equal
+-- `fill(bytes, len, tidy)`
+pub fill : (κs : Lfts 1) → Determines (Fill.Post κs)
+fill κs = reads-as
 
--- `reads_in(bytes, len)`
-pub reads-in : (κs : Lfts 1) → Determines (ReadsIn.Post κs)
-reads-in κs = equal
-
--- `read_in(bytes, len, tidy)`
-pub read-in : (κs : Lfts 1) → Determines (ReadIn.Post κs)
-read-in κs = reads-as
-
--- `read(data, tidy)`
-pub read : (κs : Lfts 1) → Determines (Read.Post κs)
-read κs = reads-as
+-- `unread(why)`
+pub unread : Determines (Unread.Post (tt {0}))
+unread = reads-as

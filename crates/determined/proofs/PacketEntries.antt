@@ -1,13 +1,10 @@
--- The functions that measure and write a packet's arrays. Assumes nothing.
+-- The functions that measure a packet's arrays. Assumes nothing.
 use contract.Lifetimes.{Lfts}
-use denote.Ref.{now}
-use Rattle.determined.proofs.Service.{writes}
 use Rattle.packet_entries.proofs.extent_of.Reads as extent_of
 use Rattle.packet_entries.proofs.sum_of.Reads as sum_of
 use Rattle.packet_entries.proofs.latest.Reads as Latest
 use Rattle.packet_entries.proofs.block_at.Reads as block_at
-use Rattle.packet_entries.proofs.write.Reads as Write
-use Rattle.determined.specs.Determines.{Determines, DeterminesLent}
+use Rattle.determined.specs.Determines.{Determines}
 use Rattle.determined.proofs.Ways.{equal}
 
 -- `extent_of(seq_no, count, numbers, sizes)`
@@ -25,7 +22,3 @@ latest κs = equal
 -- `block_at(numbers, sizes, payload, place)`
 pub block-at : (κs : Lfts 3) → Determines (block_at.Post κs)
 block-at κs = equal
-
--- `write(seq_no, count, numbers, sizes, payload, out)`
-pub write : (κs : Lfts 4) → DeterminesLent (λ e. now (e .1 .1 .1 .1 .1 .0)) (Write.Post κs)
-write κs = writes

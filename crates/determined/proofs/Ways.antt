@@ -1,6 +1,5 @@
 -- The ways in which contracts determine: by an equation for the result, for what the result says, or for what a lent place holds. Assumes nothing.
 use mathlib.Core.Path.{_≡_, refl, sym, ap, _∙_}
-use mathlib.Core.List.{List, [], _∷_}
 use mathlib.Mathlib.Logic.Function.Defs.{Injective}
 use denote.Ref.{RefT, now}
 use Rattle.model.specs.Said.{Said}
@@ -32,17 +31,6 @@ module _ {A E X : Type 0} {f : A → X} where
 -- a value of two parts
 pub two : {X Y R : Type 0} (make : X → Y → R) {x x′ : X} {y y′ : Y} → x ≡ x′ → y ≡ y′ → make x y ≡ make x′ y′
 two make e f = rw (e, f)
-
--- an answer and three arrays that are the same
-pub record Same {R X : Type 0} (r q : R) (n s p n′ s′ p′ : X) : Type 0 where
-  pub result : r ≡ q
-  pub numbers : n ≡ n′
-  pub sizes : s ≡ s′
-  pub payload : p ≡ p′
-
--- the three together
-pub same-three : {R X : Type 0} {r q : R} {n s p n′ s′ p′ : X} → Same r q n s p n′ s′ p′ → _≡_ {A = List X} (n ∷ s ∷ p ∷ []) (n′ ∷ s′ ∷ p′ ∷ [])
-same-three m = rw (m .numbers, m .sizes, m .payload)
 
 -- two refusals that say the same
 pub refusal-same : (e f : Refusal) {r q : Counted} {why : Said} → r ≡ Refused e → q ≡ Refused f → saidRefusal e ≡ why → saidRefusal f ≡ why → r ≡ q

@@ -27,7 +27,7 @@ pub within-facts : (p : DTVCCPacket) → validDTVCC p ≡ true → Within p
 unfolding validDTVCC fields.validFields
 within-facts p e = held.held-facts (fieldsOf p) e
 
--- "what a reader gives is valid", as the model has it
+-- so that the packet that it holds is within the limits [P1]
 pub held-valid : (p : DTVCCPacket) → Within p → Valid (packetOf p)
 held-valid p w = w .packet
 
@@ -38,13 +38,13 @@ entries-within p w places = held.held-within (fieldsOf p) w (places .payload)
 -- a packet laid over any places is what is then held, breaks no limit and keeps the places
 module _ (old : DTVCCPacket) (places : Places old) (p : Packet) (v : Valid p) where
   pub over-holds : packetOf (over old p) ≡ p
-  unfolding over fields.over
+  unfolding over fields.laidOver
   over-holds = held.over-holds (fieldsOf old) places p v
 
   pub over-valid : validDTVCC (over old p) ≡ true
-  unfolding over fields.over validDTVCC fields.validFields
+  unfolding over fields.laidOver validDTVCC fields.validFields
   over-valid = held.over-valid (fieldsOf old) places p v
 
   pub over-places : Places (over old p)
-  unfolding over fields.over
+  unfolding over fields.laidOver
   over-places = held.over-places (fieldsOf old) places p v

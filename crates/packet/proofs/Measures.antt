@@ -1,6 +1,6 @@
 -- What is measured of a packet, by each way out. Assumes nothing.
 use mathlib.Core.Path.{_≡_, refl, sym, ap, _∙_}
-use mathlib.Core.Bool.{false, cond}
+use mathlib.Core.Bool.{Bool, true, false, cond}
 use mathlib.Core.List.{[], _∷_}
 use Prim.Native.Nat.{ℕ, _-_, _≤_, _<_}
 use native.Mathlib.Omega.{arith}
@@ -11,6 +11,7 @@ use Rattle.model.specs.Lists.{every}
 use Rattle.model.specs.Said.{gave, refused, measured, accepted, badValue, badNumber}
 use Rattle.model.specs.Packet.{newPacket, packetLength, packetRoom}
 use Rattle.model.proofs.Packets.{Valid, length-empty}
+use Rattle.caption.proofs.Answers.{measure-bad, measure-good}
 use Rattle.packet_entries.specs.declared.Extent.{Extent}
 use Rattle.packet_entries.specs.declared.Extent.the-variants.{Of, Bad}
 use Rattle.packet_entries.specs.Fields.{validFields}
@@ -37,40 +38,45 @@ pub new-valid : (q : ℕ) → q ≤ 3 → Valid (record { sequence = q; blocks =
 unfolding every
 new-valid q h = record { sequence = h; blocks = refl; length = omega (arith, length-empty (record { sequence = q; blocks = [] }) refl) }
 
-module _ (p : DTVCCPacket) (e : Extent) (is : e ≡ extentOf p) where
-  pub sized : (l u : ℕ) → e ≡ Of l u → Sized (fieldsOf p) l u
-  sized l u q = walks.extent-sized (fieldsOf p) e is l u q
+module _ (p : DTVCCPacket) where
+  count-is : p .count ≡ length (packetOf p .blocks)
+  count-is = sym (blocks-count (fieldsOf p))
 
-  pub length-few : (l u : ℕ) → e ≡ Of l u → l ≤ 128
-  length-few l u q = length-small (fieldsOf p) l u (sized l u q)
+  -- what is counted, by what the test of the limits answered
+  module _ (v : Bool) (is : v ≡ validDTVCC p) (e : v ≡ true) where
+    pub count-measured : accepted (p .count ∷ []) ≡ measured (validDTVCC p) (length (packetOf p .blocks))
+    count-measured = measure-good _ _ is _ _ e count-is
 
-  module _ (places : Places p) where
-    pub invalid : e ≡ Bad → validDTVCC p ≡ false
-    unfolding validDTVCC validFields
-    invalid q = tests-agree (fieldsOf p) (places .payload) ∙ walks.extent-invalid (fieldsOf p) e is q
+    pub empty-measured : accepted (cond (eqb (p .count) 0) 1 0 ∷ []) ≡ measured (validDTVCC p) (cond (eqb (length (packetOf p .blocks)) 0) 1 0)
+    empty-measured = measure-good _ _ is _ _ e (ap (λ n. cond (eqb n 0) 1 0) count-is)
 
-    pub bad-measured : (n : ℕ) → e ≡ Bad → badValue ≡ measured (validDTVCC p) n
-    bad-measured n q = rw (invalid q)
+  -- what is measured, by the extent
+  module _ (x : Extent) (is : x ≡ extentOf p) where
+    sized : (l u : ℕ) → x ≡ Of l u → Sized (fieldsOf p) l u
+    sized l u q = walks.extent-sized (fieldsOf p) x is l u q
 
-    module _ (l u : ℕ) (q : e ≡ Of l u) where
-      pub good-measured : (n k : ℕ) → n ≡ k → accepted (n ∷ []) ≡ measured (validDTVCC p) k
+    pub length-few : (l u : ℕ) → x ≡ Of l u → l ≤ 128
+    length-few l u q = length-small (fieldsOf p) l u (sized l u q)
+
+    module _ (places : Places p) where
+      -- the extent tells whether a limit is broken
+      pub invalid : x ≡ Bad → false ≡ validDTVCC p
       unfolding validDTVCC validFields
-      good-measured n k m = rw (sized-valid (fieldsOf p) l u (sized l u q) (places .payload), m)
+      invalid q = sym (tests-agree (fieldsOf p) (places .payload) ∙ walks.extent-invalid (fieldsOf p) x is q)
 
-      length-is : l ≡ packetLength (packetOf p)
-      length-is = sym (sized-length (fieldsOf p) l u (sized l u q) (places .payload))
+      pub bad-measured : (n : ℕ) → x ≡ Bad → badValue ≡ measured (validDTVCC p) n
+      bad-measured n q = measure-bad _ _ (invalid q) n refl
 
-      count-is : p .count ≡ length (packetOf p .blocks)
-      count-is = sym (blocks-count (fieldsOf p))
+      module _ (l u : ℕ) (q : x ≡ Of l u) where
+        pub valid : true ≡ validDTVCC p
+        unfolding validDTVCC validFields
+        valid = sym (sized-valid (fieldsOf p) l u (sized l u q) (places .payload))
 
-      pub length-measured : accepted (l ∷ []) ≡ measured (validDTVCC p) (packetLength (packetOf p))
-      length-measured = good-measured l _ length-is
+        length-is : l ≡ packetLength (packetOf p)
+        length-is = sym (sized-length (fieldsOf p) l u (sized l u q) (places .payload))
 
-      pub room-measured : accepted ((128 - l) ∷ []) ≡ measured (validDTVCC p) (packetRoom (packetOf p))
-      room-measured = good-measured (128 - l) _ (ap (λ k. 128 - k) length-is)
+        pub length-measured : accepted (l ∷ []) ≡ measured (validDTVCC p) (packetLength (packetOf p))
+        length-measured = measure-good _ _ valid _ _ refl length-is
 
-      pub count-measured : accepted (p .count ∷ []) ≡ measured (validDTVCC p) (length (packetOf p .blocks))
-      count-measured = good-measured _ _ count-is
-
-      pub empty-measured : accepted (cond (eqb (p .count) 0) 1 0 ∷ []) ≡ measured (validDTVCC p) (cond (eqb (length (packetOf p .blocks)) 0) 1 0)
-      empty-measured = good-measured _ _ (ap (λ n. cond (eqb n 0) 1 0) count-is)
+        pub room-measured : accepted ((128 - l) ∷ []) ≡ measured (validDTVCC p) (packetRoom (packetOf p))
+        room-measured = measure-good _ _ valid _ _ refl (ap (λ k. 128 - k) length-is)

@@ -14,19 +14,17 @@ use Rattle.service.specs.declared.Service.{Service}
 use Rattle.packet.specs.declared.DTVCCPacket.{DTVCCPacket}
 use Rattle.packet.specs.declared.ServiceAt.{ServiceAt}
 use Rattle.packet.specs.declared.Place.the-variants.{Here, Nothing, Refused}
-use Rattle.packet_entries.specs.Fields.{validFields}
-use Rattle.packet_entries.specs.Entries.{entries, cut, usedBy}
-use Rattle.packet_entries.specs.Extent.{Sized, sumTo, blockAt}
+use Rattle.packet_entries.specs.Entries.{Entry, entries, cut, usedBy}
+use Rattle.packet_entries.specs.Extent.{sumTo, placedService}
 use Rattle.packet_entries.proofs.Entries.{entries-at, used-sum}
 use Rattle.packet_entries.proofs.Holds.{Within, used-fits, blocks-cut, blocks-count}
 use Rattle.packet_entries.proofs.Walks.{sum-few}
-use Rattle.packet_entries.proofs.Measures.{sized-within, sized-valid}
 use Rattle.packet_entries.proofs.Placed.{place-block}
 use Rattle.packet_pushes.proofs.Pushed.{used-parts, cut-drop}
 use Rattle.packet.specs.Packet.{packetOf, validDTVCC}
 use Rattle.packet.specs.Place.{Placed, saidPlace}
 use Rattle.packet.specs.Replies.{fieldsOf, entriesOf}
-use Rattle.packet.proofs.Holds.{Places}
+use Rattle.packet.proofs.Holds.{Places, within-facts, entries-within}
 
 -- the blocks at a place of a packet: one, or none behind the last
 abbrev pub blocksAt : ℕ → DTVCCPacket → Outcome (List Block)
@@ -48,13 +46,9 @@ entries-drop (suc i) (suc k) ns ss h =
     one-more : (i : ℕ) → 1 + i ≡ suc i
     one-more i = omega arith
 
-module _ (p : DTVCCPacket) (l u : ℕ) (s : Sized (fieldsOf p) l u) (places : Places p) (i : ℕ) where
+module _ (p : DTVCCPacket) (valid : validDTVCC p ≡ true) (places : Places p) (i : ℕ) where
   w : Within (fieldsOf p)
-  w = sized-within (fieldsOf p) l u s
-
-  valid : validDTVCC p ≡ true
-  unfolding validDTVCC validFields
-  valid = sized-valid (fieldsOf p) l u s (places .payload)
+  w = entries-within p (within-facts p valid) places
 
   pub place-none : (r : ServiceAt) → p .count ≤ i → r .place ≡ Nothing → r .service ≡ blank → Placed (blocksAt i p) r
   place-none r h a b =
@@ -72,19 +66,22 @@ module _ (p : DTVCCPacket) (l u : ℕ) (s : Sized (fieldsOf p) l u) (places : Pl
     before : usedBy (take i (entriesOf p)) ≡ from
     before = used-sum i (p .count) (p .numbers) (p .sizes) (omega arith) ∙ sym (sum-few (p .sizes) i (omega (arith, w .count)))
 
-    rest-at : drop i (entriesOf p) ≡ record { number = getD (p .numbers) i 0; size = k } ∷ entries (p .count - (i + 1)) (drop (i + 1) (p .numbers)) (drop (i + 1) (p .sizes))
+    abbrev rest : List Entry
+    rest = entries (p .count - (i + 1)) (drop (i + 1) (p .numbers)) (drop (i + 1) (p .sizes))
+
+    rest-at : drop i (entriesOf p) ≡ record { number = getD (p .numbers) i 0; size = k } ∷ rest
     rest-at = entries-drop i (p .count) (p .numbers) (p .sizes) (omega arith) ∙ entries-at (p .count) i (p .numbers) (p .sizes) there
 
     bytes-there : from + k ≤ length (p .payload)
     unfolding usedBy
     bytes-there =
-        let r : usedBy (drop i (entriesOf p)) ≡ k + usedBy (entries (p .count - (i + 1)) (drop (i + 1) (p .numbers)) (drop (i + 1) (p .sizes))) = ap usedBy rest-at in
+        let r : usedBy (drop i (entriesOf p)) ≡ k + usedBy rest = ap usedBy rest-at in
         omega (arith, before, used-parts i (entriesOf p), used-fits (fieldsOf p) w (places .payload))
 
-    pub place-here : (b : Service) → b ≡ blockAt i (p .numbers) (p .sizes) (p .payload) → Placed (blocksAt i p) (record { place = Here; service = b })
+    pub place-here : (b : Service) → b ≡ placedService i (p .numbers) (p .sizes) (p .payload) → Placed (blocksAt i p) (record { place = Here; service = b })
     unfolding cut
     place-here b e =
         let size : length (take k (drop from (p .payload))) ≡ k = length-take-le k (drop from (p .payload)) (rw length-drop (omega (arith, bytes-there))) in
-        let d : drop i (packetOf p .blocks) ≡ cut (record { number = getD (p .numbers) i 0; size = k } ∷ entries (p .count - (i + 1)) (drop (i + 1) (p .numbers)) (drop (i + 1) (p .sizes))) (drop from (p .payload)) =
+        let d : drop i (packetOf p .blocks) ≡ cut (record { number = getD (p .numbers) i 0; size = k } ∷ rest) (drop from (p .payload)) =
         ap (drop i) (blocks-cut (fieldsOf p)) ∙ cut-drop i (entriesOf p) (p .payload) ∙ rw (before, rest-at) in
         rw (valid, d) (record { place = refl; service = e ∙ place-block i (p .numbers) (p .sizes) (p .payload) (omega (arith, w .count)) size })

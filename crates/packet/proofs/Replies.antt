@@ -14,10 +14,11 @@ use Rattle.model.proofs.Pushing.{block-valid, run-valid}
 use Rattle.service.specs.declared.Service.{Service}
 use Rattle.service.specs.Service.{blockOf, validService}
 use Rattle.service.proofs.Services.{valid-block}
-use Rattle.packet_entries.specs.Fields.{fields}
+use Rattle.packet_entries.specs.Fields.{Arrays, fields}
 use Rattle.packet_entries.specs.Fields as places
 use Rattle.packet_blocks.specs.declared.Filled.{Filled}
-use Rattle.packet_blocks.specs.Reading.{Read, readAs}
+use Rattle.packet_blocks.specs.Reading.{ReadsInto}
+use Rattle.packet_moves.specs.Moves.{readAs}
 use Rattle.packet_blocks.specs.Reading as reading
 use Rattle.packet_pushes.specs.Pushing.{Stores}
 use Rattle.packet_pushes.specs.Pushing as pushes
@@ -42,8 +43,8 @@ unfolding readAs
 read-within tidy d = by-cond (Gives Valid) tidy (λ _. tidy-within d) (λ _. plain-within d)
 
 -- a packet that was read: its blocks are in their places, over zeros
-pub read-answer : (o : Outcome Packet) (r : Filled) (a : PacketAnswer) → Gives Valid o → a ≡ answerFrom r → Read o r → Answers o blank a
-unfolding over places.over
+pub read-answer : (o : Outcome Packet) (r : Filled) (a : PacketAnswer) → Gives Valid o → a ≡ answerFrom r → ReadsInto o r → Answers o blank a
+unfolding over places.laidOver
 read-answer (gave x) r a v is k =
     let same : packetAt (reading.fieldsOf r) ≡ over blank x = ap packetAt (k .places) in
     rw is (record { answer = k .answer; means = ap packetOf same ∙ over-holds blank blank-places x v; places = same })
@@ -52,25 +53,26 @@ read-answer (refused why) r a v is k =
     rw is (record { answer = k .answer; means = ap packetOf same; places = same })
 
 -- what a push left
-module _ (p : DTVCCPacket) (full : Places p) (r : Counted) (n s d : List ℕ) (a : PacketAnswer) (is : a ≡ answerOf (p .«seq_no») (p .count) r n s d) where
-  stored : (o : Outcome Packet) → Gives Valid o → Stores (mapped (places.over (fieldsOf p)) o) (fieldsOf p) r n s d → Answers o p a
-  unfolding Stores over places.over
+module _ (p : DTVCCPacket) (full : Places p) (r : Counted) (x : Arrays) (a : PacketAnswer)
+    (is : a ≡ answerOf (p .«seq_no») (p .count) r (x .numbers) (x .sizes) (x .payload)) where
+  stored : (o : Outcome Packet) → Gives Valid o → Stores (mapped (places.laidOver (fieldsOf p)) o) (fieldsOf p) r x → Answers o p a
+  unfolding Stores over places.laidOver
   stored (gave q) v (e, k) =
-      let same : packetAt (fields (p .«seq_no») (places.over (fieldsOf p) q .count) n s d) ≡ over p q = ap packetAt (sym k) in
+      let same : packetAt (fields (p .«seq_no») (places.laidOver (fieldsOf p) q .count) (x .numbers) (x .sizes) (x .payload)) ≡ over p q = ap packetAt (sym k) in
       rw (is, e) (record { answer = refl; means = ap packetOf same ∙ over-holds p full q v; places = same })
-  stored (refused why) v (e, q, m, x, y, z) = rw (is, q, x, y, z) (record { answer = m; means = refl; places = refl })
+  stored (refused why) v (e, q, m, k) = rw (is, q, k) (record { answer = m; means = refl; places = refl })
 
   within : validDTVCC p ≡ true → Valid (packetOf p)
   within v = within-facts p v .packet
 
-  pub run-stored : (needsRoom : Bool) (number : ℕ) (run : List ℕ) → pushes.Pushes (pushes.pushedRun needsRoom number run) (fieldsOf p) r n s d
+  pub run-stored : (needsRoom : Bool) (number : ℕ) (run : List ℕ) → pushes.Pushes (pushes.pushedRun needsRoom number run) (fieldsOf p) r x
       → Answers (checked (validDTVCC p) (pushRunBy needsRoom number run (packetOf p))) p a
   unfolding pushes.pushedRun validDTVCC places.validFields
   run-stored needsRoom number run k =
       stored (checked (validDTVCC p) (pushRunBy needsRoom number run (packetOf p)))
       (by-cond (Gives Valid) (validDTVCC p) (λ v. run-valid (packetOf p) (within v) needsRoom number run) (λ _. tt)) (k full)
 
-  pub block-stored : (b : Service) → pushes.Pushes (pushes.pushedBlock b) (fieldsOf p) r n s d
+  pub block-stored : (b : Service) → pushes.Pushes (pushes.pushedBlock b) (fieldsOf p) r x
       → Answers (checked (validDTVCC p && validService b) (pushBlock (blockOf b) (packetOf p))) p a
   unfolding pushes.pushedBlock validDTVCC places.validFields
   block-stored b k =

@@ -5,11 +5,10 @@ ghost use lib.ListN.{length, take, drop};
 ghost use lib.Dec.{eqb};
 ghost use Rattle.caption.specs.Answers.{saidCounted, saidTruth};
 ghost use Rattle.model.specs.Said.{gave, checked, measured};
-ghost use Rattle.model.specs.Packet.{packetSize, sequenceIn, readPacket, readTidy, newPacket, packetLength, packetRoom, writtenPacket, pushBlock, pushRun, pushRunSingle, pushRunBy};
+ghost use Rattle.model.specs.Packet.{packetSize, readPacket, readTidy, newPacket, packetLength, packetRoom, writtenPacket, pushBlock, pushRun, pushRunSingle, pushRunBy};
 ghost use Rattle.model.specs.Packet as model;
 ghost use Rattle.service.specs.Service.{Writes, blockOf, validService};
 ghost use Rattle.service.specs.Service as service;
-ghost use Rattle.packet_blocks.specs.Reading.{readAs};
 ghost use Rattle.packet.specs.Packet.{Answers, packetOf, blank, validDTVCC};
 ghost use Rattle.packet.specs.Place.{Placed};
 ghost use Rattle.packet.specs.Replies.{unreadFor, answerFrom, answerTo, extentOf, countAfter, answerOf};
@@ -50,146 +49,7 @@ pub struct ServiceAt {
     pub service: Service,
 }
 
-// What the first byte of a packet says: its sequence number, and how many bytes it has in all.
-pub struct Header {
-    pub seq_no: u8,
-    pub size: usize,
-}
-
-// How many bytes a packet whose first byte is `h` has in all.
-pub fn packet_size(h: u8) -> usize
-    ensures { λ r. ⌜ r ≡ packetSize h ⌝ }
-{
-    packet_blocks::packet_size(h)
-}
-
-// The header of a packet.
-pub fn parse_hdr_byte(byte: u8) -> Header
-    ensures { λ r. ⌜ r ≡ record { «seq_no» = sequenceIn byte; size = packetSize byte } ⌝ }
-{
-    Header {
-        seq_no: byte / 64 % 4,
-        size: packet_size(byte),
-    }
-}
-
-// Whether the first `len` bytes read as a packet; at most 128 are there.
-pub fn reads_in(bytes: &[u8; 128], len: usize) -> bool
-    ensures { λ r. ⌜ r ≡ model.reads (take len (now (bytes .entry))) ⌝ }
-{
-    packet_blocks::reads_in(bytes, len)
-}
-
-// A refusal, beside an empty packet.
-fn unread(why: Refusal) -> PacketAnswer
-    ensures { λ r. ⌜ r ≡ unreadFor why ⌝ }
-{
-    PacketAnswer {
-        answer: Answer::Refused(why),
-        packet: DTVCCPacket {
-            seq_no: 0,
-            count: 0,
-            numbers: [0u8; 63],
-            sizes: [0u8; 63],
-            payload: [0u8; 127],
-        },
-    }
-}
-
-// What is answered to a push, by how many blocks there then are.
-fn answer_to(r: Counted) -> Answer
-    ensures { λ a. ⌜ a ≡ answerTo r ⌝ }
-{
-    match r {
-        Counted::Refused(why) => Answer::Refused(why),
-        Counted::Count(_) => Answer::Accepted,
-    }
-}
-
-// The answer to a reading: the packet of the places that it filled.
-fn packet_of(r: Filled) -> PacketAnswer
-    ensures { λ a. ⌜ a ≡ answerFrom r ⌝ }
-{
-    let answer = r.answer;
-    let numbers = r.numbers;
-    let sizes = r.sizes;
-    let payload = r.payload;
-    PacketAnswer {
-        answer,
-        packet: DTVCCPacket {
-            seq_no: r.seq_no,
-            count: r.count,
-            numbers,
-            sizes,
-            payload,
-        },
-    }
-}
-
-// Reads a packet, plainly or tidily.
-fn read_packet(data: &[u8], tidy: bool) -> PacketAnswer
-    ensures { λ r. ⌜ Answers (readAs tidy (now («data» .entry))) blank r ⌝ }
-{
-    packet_of(packet_blocks::read(data, tidy))
-}
-
-// How many blocks there are after a push; one that is refused leaves as many as there were.
-fn count_after(r: Counted, before: usize) -> usize
-    ensures { λ n. ⌜ n ≡ countAfter r before ⌝ }
-{
-    match r {
-        Counted::Refused(_) => before,
-        Counted::Count(count) => count,
-    }
-}
-
-// The answer to a push into these places, which a refusal leaves as they were. It is built once: built for each answer, it would be copied.
-fn answered(
-    seq_no: u8,
-    before: usize,
-    r: Counted,
-    numbers: [u8; 63],
-    sizes: [u8; 63],
-    payload: [u8; 127],
-) -> PacketAnswer
-    ensures { λ a. ⌜ a ≡ answerOf «seq_no» before r numbers sizes payload ⌝ }
-{
-    PacketAnswer {
-        answer: answer_to(r),
-        packet: DTVCCPacket {
-            seq_no,
-            count: count_after(r, before),
-            numbers,
-            sizes,
-            payload,
-        },
-    }
-}
-
-// No block beside this answer.
-fn nowhere(place: Place) -> ServiceAt
-    ensures { λ r. ⌜ (r .place ≡ place) × (r .service ≡ service.blank) ⌝ }
-{
-    ServiceAt {
-        place,
-        service: Service {
-            number: 0,
-            len: 0,
-            payload: [0u8; 31],
-        },
-    }
-}
-
 impl DTVCCPacket {
-    // The extent of a packet that breaks no limit.
-    fn extent(self) -> Extent
-        ensures { λ r. ⌜ r ≡ extentOf self ⌝ }
-    {
-        let numbers = self.numbers;
-        let sizes = self.sizes;
-        packet_entries::extent_of(self.seq_no, self.count, &numbers, &sizes)
-    }
-
     // A packet without blocks.
     pub fn new(seq_no: u8) -> PacketAnswer
         ensures { λ r. ⌜ Answers (newPacket «seq_no») blank r ⌝ }
@@ -213,10 +73,10 @@ impl DTVCCPacket {
     pub fn sequence_no(self) -> Counted
         ensures { λ r. ⌜ saidCounted r ≡ measured (validDTVCC self) (self .«seq_no») ⌝ }
     {
-        match self.extent() {
-            Extent::Of { length: _, used: _ } => Counted::Count(self.seq_no as usize),
-            Extent::Bad => Counted::Refused(Refusal::BadValue),
+        if self.is_valid() {
+            return Counted::Count(self.seq_no as usize);
         }
+        Counted::Refused(Refusal::BadValue)
     }
 
     // How many bytes more the packet has room for.
@@ -243,44 +103,34 @@ impl DTVCCPacket {
     pub fn is_empty(self) -> Truth
         ensures { λ r. ⌜ saidTruth r ≡ measured (validDTVCC self) (cond (eqb (length (packetOf self .blocks)) 0) 1 0) ⌝ }
     {
-        match self.extent() {
-            Extent::Of { length: _, used: _ } => Truth::Is(self.count == 0),
-            Extent::Bad => Truth::Refused(Refusal::BadValue),
+        if self.is_valid() {
+            return Truth::Is(self.count == 0);
         }
+        Truth::Refused(Refusal::BadValue)
     }
 
     // How many blocks the packet has.
     pub fn service_count(self) -> Counted
         ensures { λ r. ⌜ saidCounted r ≡ measured (validDTVCC self) (length (packetOf self .blocks)) ⌝ }
     {
-        match self.extent() {
-            Extent::Of { length: _, used: _ } => Counted::Count(self.count),
-            Extent::Bad => Counted::Refused(Refusal::BadValue),
+        if self.is_valid() {
+            return Counted::Count(self.count);
         }
-    }
-
-    // Writes the packet to a lent output; answers how many bytes that is.
-    pub fn write(self, out: &mut [u8]) -> Counted
-        ensures { λ r. ⌜ Writes (validDTVCC self) (writtenPacket (packetOf self)) (now (out .entry)) r (now (out .exit)) ⌝ }
-    {
-        let numbers = self.numbers;
-        let sizes = self.sizes;
-        let payload = self.payload;
-        packet_entries::write(self.seq_no, self.count, &numbers, &sizes, &payload, out)
+        Counted::Refused(Refusal::BadValue)
     }
 
     // The block at a place.
     pub fn service(self, place: usize) -> ServiceAt
         ensures { λ r. ⌜ Placed (checked (validDTVCC self) (gave (take 1 (drop place (packetOf self .blocks))))) r ⌝ }
     {
+        let count = self.count;
         let numbers = self.numbers;
         let sizes = self.sizes;
         let payload = self.payload;
-        let extent = self.extent();
-        let Extent::Of { length: _, used: _ } = extent else {
+        if !self.is_valid() {
             return nowhere(Place::Refused(Refusal::BadValue));
-        };
-        if self.count <= place {
+        }
+        if count <= place {
             return nowhere(Place::Nothing);
         }
         ServiceAt {
@@ -298,27 +148,6 @@ impl DTVCCPacket {
         let mut payload = self.payload;
         let r = packet_pushes::push_block(
             service,
-            self.seq_no,
-            self.count,
-            &mut numbers,
-            &mut sizes,
-            &mut payload,
-        );
-        answered(self.seq_no, self.count, r, numbers, sizes, payload)
-    }
-
-    // Pushes a run to the latest block of its number, or as a new block: where there is no such block, or where it has no
-    // room and `needs_room` says that it has to.
-    fn push_run(self, needs_room: bool, service_no: u8, code: &[u8]) -> PacketAnswer
-        ensures { λ r. ⌜ Answers (checked (validDTVCC self) (pushRunBy «needs_room» «service_no» (now (code .entry)) (packetOf self))) self r ⌝ }
-    {
-        let mut numbers = self.numbers;
-        let mut sizes = self.sizes;
-        let mut payload = self.payload;
-        let r = packet_pushes::push_run(
-            needs_room,
-            service_no,
-            code,
             self.seq_no,
             self.count,
             &mut numbers,
@@ -346,20 +175,177 @@ impl DTVCCPacket {
     pub fn parse(data: &[u8]) -> PacketAnswer
         ensures { λ r. ⌜ Answers (readPacket (now («data» .entry))) blank r ⌝ }
     {
-        read_packet(data, false)
+        packet_of(packet_reading::read(data, false))
     }
 
     // Reads the packet that the first `len` bytes are, as `parse` does; at most 128 are there.
     pub fn parse_in(bytes: &[u8; 128], len: usize) -> PacketAnswer
         ensures { λ r. ⌜ Answers (readPacket (take len (now (bytes .entry)))) blank r ⌝ }
     {
-        packet_of(packet_blocks::read_in(bytes, len, false))
+        packet_of(packet_reading::read_in(bytes, len, false))
     }
 
     // Reads a packet whose length is what its header says, and passes each block whole.
     pub fn parse_tidy(data: &[u8]) -> PacketAnswer
         ensures { λ r. ⌜ Answers (readTidy (now («data» .entry))) blank r ⌝ }
     {
-        read_packet(data, true)
+        packet_of(packet_reading::read(data, true))
+    }
+
+    // Writes the packet to a lent output; answers how many bytes that is.
+    pub fn write(self, out: &mut [u8]) -> Counted
+        ensures { λ r. ⌜ Writes (validDTVCC self) (writtenPacket (packetOf self)) (now (out .entry)) r (now (out .exit)) ⌝ }
+    {
+        let numbers = self.numbers;
+        let sizes = self.sizes;
+        let payload = self.payload;
+        packet_writing::write(self.seq_no, self.count, &numbers, &sizes, &payload, out)
+    }
+
+    // Whether the packet breaks no limit.
+    pub fn is_valid(self) -> bool
+        ensures { λ r. ⌜ r ≡ validDTVCC self ⌝ }
+    {
+        match self.extent() {
+            Extent::Of { length: _, used: _ } => true,
+            Extent::Bad => false,
+        }
+    }
+
+    // The extent of a packet that breaks no limit.
+    fn extent(self) -> Extent
+        ensures { λ r. ⌜ r ≡ extentOf self ⌝ }
+    {
+        let numbers = self.numbers;
+        let sizes = self.sizes;
+        packet_entries::extent_of(self.seq_no, self.count, &numbers, &sizes)
+    }
+
+    // Pushes a run to the latest block of its number, or as a new block: where there is no such block, or where it has no
+    // room and `needs_room` says that it has to.
+    fn push_run(self, needs_room: bool, service_no: u8, code: &[u8]) -> PacketAnswer
+        ensures { λ r. ⌜ Answers (checked (validDTVCC self) (pushRunBy «needs_room» «service_no» (now (code .entry)) (packetOf self))) self r ⌝ }
+    {
+        let mut numbers = self.numbers;
+        let mut sizes = self.sizes;
+        let mut payload = self.payload;
+        let r = packet_pushes::push_run(
+            needs_room,
+            service_no,
+            code,
+            self.seq_no,
+            self.count,
+            &mut numbers,
+            &mut sizes,
+            &mut payload,
+        );
+        answered(self.seq_no, self.count, r, numbers, sizes, payload)
+    }
+}
+
+// How many bytes a packet whose first byte is `h` has in all.
+pub fn packet_size(h: u8) -> usize
+    ensures { λ r. ⌜ r ≡ packetSize h ⌝ }
+{
+    packet_moves::packet_size(h)
+}
+
+// Whether the first `len` bytes read as a packet; at most 128 are there.
+pub fn reads_in(bytes: &[u8; 128], len: usize) -> bool
+    ensures { λ r. ⌜ r ≡ model.reads (take len (now (bytes .entry))) ⌝ }
+{
+    packet_moves::reads_in(bytes, len)
+}
+
+// A refusal, beside an empty packet.
+fn unread(why: Refusal) -> PacketAnswer
+    ensures { λ r. ⌜ r ≡ unreadFor why ⌝ }
+{
+    PacketAnswer {
+        answer: Answer::Refused(why),
+        packet: DTVCCPacket {
+            seq_no: 0,
+            count: 0,
+            numbers: [0u8; 63],
+            sizes: [0u8; 63],
+            payload: [0u8; 127],
+        },
+    }
+}
+
+// The answer to a reading: the packet of the places that it filled.
+fn packet_of(r: Filled) -> PacketAnswer
+    ensures { λ a. ⌜ a ≡ answerFrom r ⌝ }
+{
+    let answer = r.answer;
+    let numbers = r.numbers;
+    let sizes = r.sizes;
+    let payload = r.payload;
+    PacketAnswer {
+        answer,
+        packet: DTVCCPacket {
+            seq_no: r.seq_no,
+            count: r.count,
+            numbers,
+            sizes,
+            payload,
+        },
+    }
+}
+
+// The answer to a push into these places, which a refusal leaves as they were. It is built once: built for each answer, it would be copied.
+fn answered(
+    seq_no: u8,
+    before: usize,
+    r: Counted,
+    numbers: [u8; 63],
+    sizes: [u8; 63],
+    payload: [u8; 127],
+) -> PacketAnswer
+    ensures { λ a. ⌜ a ≡ answerOf «seq_no» before r numbers sizes payload ⌝ }
+{
+    PacketAnswer {
+        answer: answer_to(r),
+        packet: DTVCCPacket {
+            seq_no,
+            count: count_after(r, before),
+            numbers,
+            sizes,
+            payload,
+        },
+    }
+}
+
+// What is answered to a push, by how many blocks there then are.
+fn answer_to(r: Counted) -> Answer
+    ensures { λ a. ⌜ a ≡ answerTo r ⌝ }
+{
+    match r {
+        Counted::Refused(why) => Answer::Refused(why),
+        Counted::Count(_) => Answer::Accepted,
+    }
+}
+
+// How many blocks there are after a push; one that is refused leaves as many as there were.
+fn count_after(r: Counted, before: usize) -> usize
+    ensures { λ n. ⌜ n ≡ countAfter r before ⌝ }
+{
+    match r {
+        Counted::Refused(_) => before,
+        Counted::Count(count) => count,
+    }
+}
+
+// No block beside this answer.
+fn nowhere(place: Place) -> ServiceAt
+    ensures { λ r. ⌜ (r .place ≡ place) × (r .service ≡ service.blank) ⌝ }
+{
+    ServiceAt {
+        place,
+        service: Service {
+            number: 0,
+            len: 0,
+            payload: [0u8; 31],
+        },
     }
 }

@@ -1,24 +1,18 @@
 // The blocks of a packet read from bytes into its places.
 ghost use mathlib.Core.Path.{_≡_};
-ghost use mathlib.Core.Bool.{false};
 ghost use Prim.Native.Nat.{_+_, _≤_};
 ghost use lib.ListN.{length, take, drop};
 ghost use lib.Seq.{sets};
 ghost use Rattle.caption.specs.Answers.{saidRefusal};
-ghost use Rattle.model.specs.Said.{refused, isGiven, mapped, lengthMismatch};
-ghost use Rattle.model.specs.Packet.{packetSize, plainMove, blocksFrom};
-ghost use Rattle.model.specs.Packet as model;
-ghost use Rattle.packet_blocks.specs.Reading.{moveBy, moveFor, wrongLength, readAs, keptFor, behind, soFar, packetWith, Laid, Stored, Read, Room, KeepRoom};
-use basics::MOST_PACKET;
-use basics::lesser;
+ghost use Rattle.model.specs.Said.{refused, mapped};
+ghost use Rattle.packet_entries.specs.Fields.{arraysBefore, arraysAfter};
+ghost use Rattle.packet_moves.specs.Moves.{keptFor, packetWith, blocksIn};
+ghost use Rattle.packet_blocks.specs.Reading.{soFar, Keeps, Stored, ReadsInto, Room, KeepRoom};
 use basics::put_bytes;
 use caption::Answer;
 use caption::Counted;
 use caption::Refusal;
 use service_headers::Head;
-
-// How far the plain reader moves past a null header, whatever its size.
-const NULL_MOVE: usize = 1;
 
 // An answer to reading, and the places of the packet beside it: zeros where it refuses.
 pub struct Filled {
@@ -30,82 +24,56 @@ pub struct Filled {
     pub payload: [u8; 127],
 }
 
-// How many bytes a packet whose first byte is `h` has in all.
-pub fn packet_size(h: u8) -> usize
-    ensures { λ r. ⌜ r ≡ packetSize h ⌝ }
-{
-    let n = (h % 64) as usize;
-    if n == 0 {
-        return 128;
-    }
-    2 * n
-}
-
-// How far a reader moves on past a block whose header says this.
-fn moved(tidy: bool, number: u8, start: usize, size: usize) -> usize
-    requires { ⌜ (start ≤ 2) × (size ≤ 31) ⌝ }
-    ensures { λ r. ⌜ r ≡ moveFor tidy number start size ⌝ }
-{
-    if tidy {
-        return start + size;
-    }
-    if number == 0 {
-        return NULL_MOVE;
-    }
-    if size == 0 {
-        return 1;
-    }
-    if number < 7 {
-        return 1 + size;
-    }
-    2 + size
-}
-
-// Whether the blocks of the first `end` bytes, from `at` on, read plainly.
-fn reads_from(bytes: &[u8; 128], at: usize, end: usize) -> bool
-    requires { ⌜ end ≤ length (now bytes) ⌝ }
-    ensures { λ r. ⌜ r ≡ isGiven (blocksFrom plainMove 0 (drop at (take end (now (bytes .entry))))) ⌝ }
-{
-    if end <= at {
-        return true;
-    }
-    let Head::Whole {
-        number,
-        start,
-        size,
-    } = service_headers::head_in(bytes, at, end)
-    else {
-        return false;
-    };
-    reads_from(bytes, at + moved(false, number, start, size), end)
-}
-
-// How many of the first `len` bytes there are.
-fn held(bytes: &[u8; 128], len: usize) -> usize
-    ensures { λ r. ⌜ r ≡ length (take len (now (bytes .entry))) ⌝ }
-{
-    let all = &bytes[..];
-    lesser(len, all.len())
-}
-
-// Whether the first `len` bytes read as a packet; at most 128 are there.
-pub fn reads_in(bytes: &[u8; 128], len: usize) -> bool
-    ensures { λ r. ⌜ r ≡ model.reads (take len (now (bytes .entry))) ⌝ }
-{
-    let n = held(bytes, len);
-    if n == 0 {
-        return false;
-    }
-    if packet_size(bytes[0]) < n {
-        return false;
-    }
-    reads_from(bytes, 1, n)
-}
-
 // How many blocks are stored, and how many bytes of payload they have.
 pub struct Kept {
     pub count: usize,
     pub used: usize,
+}
+
+// The packet of the blocks that the first `len` bytes have behind the header; at most 128 bytes are there, and their number is not looked at.
+pub fn fill(bytes: &[u8; 128], len: usize, tidy: bool) -> Filled
+    ensures { λ r. ⌜ ReadsInto (mapped (packetWith (now (bytes .entry))) (blocksIn (now (bytes .entry)) len tidy 1)) r ⌝ }
+{
+    let end = packet_moves::held(bytes, len);
+    let mut numbers = [0u8; 63];
+    let mut sizes = [0u8; 63];
+    let mut payload = [0u8; 127];
+    let r = read_blocks(
+        bytes,
+        1,
+        end,
+        tidy,
+        0,
+        0,
+        &mut numbers,
+        &mut sizes,
+        &mut payload,
+    );
+    match r {
+        Counted::Refused(why) => unread(why),
+        Counted::Count(count) => Filled {
+            answer: Answer::Accepted,
+            seq_no: bytes[0] / 64 % 4,
+            count,
+            numbers,
+            sizes,
+            payload,
+        },
+    }
+}
+
+// A refusal of reading, beside zeros.
+pub fn unread(why: Refusal) -> Filled
+    ensures { λ r. ⌜ ReadsInto (refused (saidRefusal why)) r ⌝ }
+{
+    Filled {
+        answer: Answer::Refused(why),
+        seq_no: 0,
+        count: 0,
+        numbers: [0u8; 63],
+        sizes: [0u8; 63],
+        payload: [0u8; 127],
+    }
 }
 
 // Lays bytes into a payload, from `at` on, four in a turn while four are left: most payloads are too short for a longer turn. Answers how many
@@ -151,7 +119,7 @@ fn keep_block(
     payload: &mut [u8; 127],
 ) -> Kept
     requires { ⌜ KeepRoom at from size (length (now bytes)) ⌝ }
-    ensures { λ r. ⌜ (r ≡ behind (keptFor number (take size (drop from (now (bytes .entry))))) at) × Laid (keptFor number (take size (drop from (now (bytes .entry))))) at (now (numbers .entry)) (now (sizes .entry)) (now (payload .entry)) (now (numbers .exit)) (now (sizes .exit)) (now (payload .exit)) ⌝ }
+    ensures { λ r. ⌜ Keeps (keptFor number (take size (drop from (now (bytes .entry))))) at r (arraysBefore numbers sizes payload) (arraysAfter numbers sizes payload) ⌝ }
 {
     let count = at.count;
     let used = at.used;
@@ -185,7 +153,7 @@ fn read_blocks(
     payload: &mut [u8; 127],
 ) -> Counted
     requires { ⌜ Room (soFar count used) at end × (end ≤ length (now bytes)) ⌝ }
-    ensures { λ r. ⌜ Stored (blocksFrom (moveBy tidy) 0 (drop at (take end (now (bytes .entry))))) (soFar count used) r (now (numbers .entry)) (now (sizes .entry)) (now (payload .entry)) (now (numbers .exit)) (now (sizes .exit)) (now (payload .exit)) ⌝ }
+    ensures { λ r. ⌜ Stored (blocksIn (now (bytes .entry)) end tidy at) (soFar count used) r (arraysBefore numbers sizes payload) (arraysAfter numbers sizes payload) ⌝ }
 {
     if end <= at {
         return Counted::Count(count);
@@ -212,7 +180,7 @@ fn read_blocks(
     );
     read_blocks(
         bytes,
-        at + moved(tidy, number, start, size),
+        at + packet_moves::moved(tidy, number, start as u8, size as u8),
         end,
         tidy,
         next.count,
@@ -221,95 +189,4 @@ fn read_blocks(
         sizes,
         payload,
     )
-}
-
-// Whether a reader refuses `actual` bytes where the header says `size`.
-fn wrong_length(tidy: bool, size: usize, actual: usize) -> bool
-    ensures { λ r. ⌜ r ≡ wrongLength tidy size actual ⌝ }
-{
-    if tidy {
-        return size != actual;
-    }
-    size < actual
-}
-
-// Why data of this length is refused.
-fn mismatch(expected: usize, actual: usize) -> Refusal
-    ensures { λ r. ⌜ saidRefusal r ≡ lengthMismatch expected actual ⌝ }
-{
-    Refusal::LengthMismatch { expected, actual }
-}
-
-// A refusal of reading, beside zeros.
-fn unread(why: Refusal) -> Filled
-    ensures { λ r. ⌜ Read (refused (saidRefusal why)) r ⌝ }
-{
-    Filled {
-        answer: Answer::Refused(why),
-        seq_no: 0,
-        count: 0,
-        numbers: [0u8; 63],
-        sizes: [0u8; 63],
-        payload: [0u8; 127],
-    }
-}
-
-// Reads the packet that the first `end` bytes are, whose length is not wrong.
-fn fill(bytes: &[u8; 128], end: usize, tidy: bool) -> Filled
-    requires { ⌜ Room (soFar 0 0) 1 end × (end ≤ length (now bytes)) ⌝ }
-    ensures { λ r. ⌜ Read (mapped (packetWith (now (bytes .entry))) (blocksFrom (moveBy tidy) 0 (drop 1 (take end (now (bytes .entry)))))) r ⌝ }
-{
-    let mut numbers = [0u8; 63];
-    let mut sizes = [0u8; 63];
-    let mut payload = [0u8; 127];
-    let r = read_blocks(
-        bytes,
-        1,
-        end,
-        tidy,
-        0,
-        0,
-        &mut numbers,
-        &mut sizes,
-        &mut payload,
-    );
-    match r {
-        Counted::Refused(why) => unread(why),
-        Counted::Count(count) => Filled {
-            answer: Answer::Accepted,
-            seq_no: bytes[0] / 64 % 4,
-            count,
-            numbers,
-            sizes,
-            payload,
-        },
-    }
-}
-
-// Reads the packet that the first `len` bytes are, plainly or tidily; at most 128 bytes are there.
-pub fn read_in(bytes: &[u8; 128], len: usize, tidy: bool) -> Filled
-    ensures { λ r. ⌜ Read (readAs tidy (take len (now (bytes .entry)))) r ⌝ }
-{
-    let n = held(bytes, len);
-    if n == 0 {
-        return unread(mismatch(1, 0));
-    }
-    let size = packet_size(bytes[0]);
-    if wrong_length(tidy, size, n) {
-        return unread(mismatch(size, n));
-    }
-    fill(bytes, n, tidy)
-}
-
-// Reads the packet that bytes are, as `read_in` does.
-pub fn read(data: &[u8], tidy: bool) -> Filled
-    ensures { λ r. ⌜ Read (readAs tidy (now («data» .entry))) r ⌝ }
-{
-    let n = data.len();
-    if MOST_PACKET < n {
-        return unread(mismatch(packet_size(data[0]), n));
-    }
-    let mut bytes = [0u8; 128];
-    put_bytes(&mut bytes, 0, data);
-    read_in(&bytes, n, tidy)
 }

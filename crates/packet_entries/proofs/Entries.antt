@@ -17,7 +17,7 @@ use Rattle.model.proofs.Blocks.{Carriable, facts-carriable, carriable-facts, bl
 use Rattle.service_headers.specs.Head.{lengthFor}
 use Rattle.service_headers.proofs.Heads.{length-by}
 use Rattle.packet_entries.specs.Fields.{blocksHeld, sumOf, numbersOf, sizesOf, payloadsOf}
-use Rattle.packet_entries.specs.Entries.{Entry, entries, cut, goodEntry, goodEntries, lengthsOf, usedBy}
+use Rattle.packet_entries.specs.Entries.{Entry, entries, cut, goodEntry, goodEntries, entryLengths, usedBy}
 
 -- as many entries as were asked for
 pub entries-length : (k : ℕ) (ns ss : List ℕ) → length (entries k ns ss) ≡ k
@@ -26,8 +26,8 @@ entries-length zero ns ss = refl
 entries-length (suc k) ns ss = ap suc (entries-length k (drop 1 ns) (drop 1 ss))
 
 -- no blocks have no lengths
-pub no-lengths : (k : ℕ) (ns ss : List ℕ) → k ≡ 0 → lengthsOf (entries k ns ss) ≡ 0
-unfolding lengthsOf entries
+pub no-lengths : (k : ℕ) (ns ss : List ℕ) → k ≡ 0 → entryLengths (entries k ns ss) ≡ 0
+unfolding entryLengths entries
 no-lengths zero ns ss e = refl
 no-lengths (suc k) ns ss e = absurd (omega arith)
 
@@ -88,15 +88,15 @@ pub length-most : (n k : ℕ) → lengthFor n k ≤ 2 + k
 length-most n k = rw (length-by n k) (by-test (eqb k 0) (λ e. rw e (omega arith)) (λ e. rw e (by-test (ltb n 7) (λ q. rw q (omega arith)) (λ q. rw q (omega arith)))))
 
 -- every block has a header besides its payload
-pub used-least : (es : List Entry) → goodEntries es ≡ true → usedBy es + length es ≤ lengthsOf es
-unfolding goodEntries usedBy lengthsOf
+pub used-least : (es : List Entry) → goodEntries es ≡ true → usedBy es + length es ≤ entryLengths es
+unfolding goodEntries usedBy entryLengths
 used-least [] ok = omega arith
 used-least (e ∷ es) ok =
     let g = both (goodEntry (e .number) (e .size)) (goodEntries es) ok in
     omega (arith, used-least es (g .1), length-least (e .number) (e .size) (good-facts _ _ (g .0) .filled))
 
-pub entries-two : (es : List Entry) → goodEntries es ≡ true → 2 * length es ≤ lengthsOf es
-unfolding goodEntries lengthsOf
+pub entries-two : (es : List Entry) → goodEntries es ≡ true → 2 * length es ≤ entryLengths es
+unfolding goodEntries entryLengths
 entries-two [] ok = omega arith
 entries-two (e ∷ es) ok =
     let g = both (goodEntry (e .number) (e .size)) (goodEntries es) ok in
@@ -162,13 +162,14 @@ cut-good (e ∷ es) d h ok =
     let f = both (carriable b) (every carriable (cut es (drop (e .size) d))) ok in
     let c = carriable-facts b (f .0) in
     let n : length (take (e .size) d) ≡ e .size = length-take-le (e .size) d (omega arith) in
-    and-both _ _ (facts-good _ _ (record { named = c .named; known = c .known; filled = omega (arith, c .filled); small = omega (arith, c .small) })) (cut-good es (drop (e .size) d) (rw length-drop (omega arith)) (f .1))
+    and-both _ _ (facts-good _ _ (record { named = c .named; known = c .known; filled = omega (arith, c .filled); small = omega (arith, c .small) }))
+    (cut-good es (drop (e .size) d) (rw length-drop (omega arith)) (f .1))
 
 pub block-lengths : (n k : ℕ) (p : List ℕ) → 1 ≤ k → length p ≡ k → blockLength (record { number = n; payload = p }) ≡ lengthFor n k
 block-lengths n k p h e = block-length (record { number = n; payload = p }) (omega arith) ∙ written-length (record { number = n; payload = p }) ∙ rw e (sym (length-for n k h))
 
-pub cut-lengths : (es : List Entry) (d : List ℕ) → goodEntries es ≡ true → usedBy es ≤ length d → blocksLength (cut es d) ≡ lengthsOf es
-unfolding cut usedBy goodEntries blocksLength lengthsOf
+pub cut-lengths : (es : List Entry) (d : List ℕ) → goodEntries es ≡ true → usedBy es ≤ length d → blocksLength (cut es d) ≡ entryLengths es
+unfolding cut usedBy goodEntries blocksLength entryLengths
 cut-lengths [] d ok h = refl
 cut-lengths (e ∷ es) d ok h =
     let g = both (goodEntry (e .number) (e .size)) (goodEntries es) ok in
@@ -214,8 +215,8 @@ laid-good (b ∷ bs) ok =
     let c = carriable-facts b (f .0) in
     and-both _ _ (facts-good _ _ (record { named = c .named; known = c .known; filled = c .filled; small = c .small })) (laid-good bs (f .1))
 
-pub laid-lengths : (bs : List Block) → every carriable bs ≡ true → lengthsOf (map entryOf bs) ≡ blocksLength bs
-unfolding lengthsOf every blocksLength
+pub laid-lengths : (bs : List Block) → every carriable bs ≡ true → entryLengths (map entryOf bs) ≡ blocksLength bs
+unfolding entryLengths every blocksLength
 laid-lengths [] ok = refl
 laid-lengths (b ∷ bs) ok =
     let f = both (carriable b) (every carriable bs) ok in

@@ -14,8 +14,8 @@ use Rattle.model.proofs.Cases.{by-test, both}
 use Rattle.model.proofs.Packets.{Valid, valid-facts, facts-valid, length-some, length-empty}
 use Rattle.model.proofs.Limits.{few-blocks}
 use Rattle.basics.proofs.Runs.{sets-front}
-use Rattle.packet_entries.specs.Fields.{Fields, Places, packetIn, sumOf, validFields, over, numbersOf, sizesOf, payloadsOf}
-use Rattle.packet_entries.specs.Entries.{Entry, entriesOf, cut, goodEntries, lengthsOf, usedBy, validAs, validEntries}
+use Rattle.packet_entries.specs.Fields.{Fields, Places, packetIn, sumOf, validFields, laidOver, numbersOf, sizesOf, payloadsOf}
+use Rattle.packet_entries.specs.Entries.{Entry, entriesOf, cut, goodEntries, entryLengths, usedBy, validAs, validEntries}
 use Rattle.packet_entries.proofs.Entries.{entries-length, held-cut, used-all, used-least, cut-length, cut-carriable, cut-good, cut-lengths, entryOf, entries-laid, cut-laid, laid-good, laid-lengths, payloads-length}
 
 -- places within the limits, as facts of their entries
@@ -23,15 +23,15 @@ pub record Within (p : Fields) : Type 0 where
   pub sequence : p .«seq_no» ≤ 3
   pub count : p .count ≤ 63
   pub good : goodEntries (entriesOf p) ≡ true
-  pub lengths : lengthsOf (entriesOf p) ≤ 127
+  pub lengths : entryLengths (entriesOf p) ≤ 127
 
 pub within-facts : (p : Fields) → validEntries p ≡ true → Within p
 unfolding validAs
 within-facts p e =
     let es : List Entry = entriesOf p in
-    let a = both (leb (p .«seq_no») 3) (leb (p .count) 63 && (goodEntries es && leb (lengthsOf es) 127)) e in
-    let b = both (leb (p .count) 63) (goodEntries es && leb (lengthsOf es) 127) (a .1) in
-    let c = both (goodEntries es) (leb (lengthsOf es) 127) (b .1) in
+    let a = both (leb (p .«seq_no») 3) (leb (p .count) 63 && (goodEntries es && leb (entryLengths es) 127)) e in
+    let b = both (leb (p .count) 63) (goodEntries es && leb (entryLengths es) 127) (a .1) in
+    let c = both (goodEntries es) (leb (entryLengths es) 127) (b .1) in
     record { sequence = leb-true _ _ (a .0); count = leb-true _ _ (b .0); good = c .0; lengths = leb-true _ _ (c .1) }
 
 pub facts-within : (p : Fields) → Within p → validEntries p ≡ true
@@ -50,16 +50,16 @@ module _ (p : Fields) (w : Within p) (full : length (p .payload) ≡ 127) where
   pub used-fits : usedBy (entriesOf p) ≤ length (p .payload)
   used-fits = omega (arith, used-least (entriesOf p) (w .good), w .lengths)
 
-  pub lengths-held : blocksLength (packetIn p .blocks) ≡ lengthsOf (entriesOf p)
+  pub lengths-held : blocksLength (packetIn p .blocks) ≡ entryLengths (entriesOf p)
   lengths-held = ap blocksLength (blocks-cut p) ∙ cut-lengths (entriesOf p) (p .payload) (w .good) used-fits
 
-  pub length-held : packetLength (packetIn p) ≡ cond (eqb (p .count) 0) 0 (1 + lengthsOf (entriesOf p))
+  pub length-held : packetLength (packetIn p) ≡ cond (eqb (p .count) 0) 0 (1 + entryLengths (entriesOf p))
   length-held =
       by-test (eqb (p .count) 0)
       (λ e. rw e (length-empty (packetIn p) (blocks-count p ∙ eqb-true _ _ e)))
       (λ e. rw e (length-some (packetIn p) (omega (arith, blocks-count p, eqb-false (p .count) 0 e)) ∙ ap (λ n. 1 + n) lengths-held))
 
-  -- "what a reader gives is valid", as the model has it
+  -- so that the packet that they hold is within the limits [P1]
   pub held-valid : Valid (packetIn p)
   held-valid =
       record {
@@ -107,7 +107,7 @@ held-within p h full =
     let es : List Entry = entriesOf p in
     let fit : usedBy es ≤ length (p .payload) = omega (arith, used-all (p .count) (p .numbers) (p .sizes), h .used) in
     let good : goodEntries es ≡ true = cut-good es (p .payload) fit (rw (blocks-cut p) at (h .packet .blocks)) in
-    let same : blocksLength (packetIn p .blocks) ≡ lengthsOf es = ap blocksLength (blocks-cut p) ∙ cut-lengths es (p .payload) good fit in
+    let same : blocksLength (packetIn p .blocks) ≡ entryLengths es = ap blocksLength (blocks-cut p) ∙ cut-lengths es (p .payload) good fit in
     record { sequence = h .packet .sequence; count = h .count; good = good; lengths = omega (arith, blocks-short (packetIn p) (h .packet)) }
 
 agree : (a b : Bool) → (a ≡ true → b ≡ true) → (b ≡ true → a ≡ true) → a ≡ b
@@ -124,8 +124,8 @@ tests-agree p full =
 
 -- a packet laid over any places
 module _ (old : Fields) (places : Places old) (p : Packet) (v : Valid p) where
-  entries-are : entriesOf (over old p) ≡ map entryOf (p .blocks)
-  unfolding over
+  entries-are : entriesOf (laidOver old p) ≡ map entryOf (p .blocks)
+  unfolding laidOver
   entries-are =
       let few = few-blocks p v in
       let n : sets (old .numbers) 0 (numbersOf (p .blocks)) ≡ numbersOf (p .blocks) ++ drop (length (numbersOf (p .blocks))) (old .numbers) =
@@ -135,19 +135,22 @@ module _ (old : Fields) (places : Places old) (p : Packet) (v : Valid p) where
       rw (n, s) (entries-laid (p .blocks) _ _)
 
   payloads-fit : length (payloadsOf (p .blocks)) ≤ length (old .payload)
-  payloads-fit = omega (arith, payloads-length (p .blocks), used-least (map entryOf (p .blocks)) (laid-good (p .blocks) (v .blocks)), laid-lengths (p .blocks) (v .blocks), blocks-short p v, places .payload)
+  payloads-fit =
+      let used = used-least (map entryOf (p .blocks)) (laid-good (p .blocks) (v .blocks)) in
+      omega (arith, payloads-length (p .blocks), used, laid-lengths (p .blocks) (v .blocks), blocks-short p v, places .payload)
 
   -- it is what is then held
-  pub over-holds : packetIn (over old p) ≡ p
-  unfolding over
+  pub over-holds : packetIn (laidOver old p) ≡ p
+  unfolding laidOver
   over-holds =
-      let f : sets (old .payload) 0 (payloadsOf (p .blocks)) ≡ payloadsOf (p .blocks) ++ drop (length (payloadsOf (p .blocks))) (old .payload) = sets-front (old .payload) (payloadsOf (p .blocks)) payloads-fit in
-      let e : packetIn (over old p) .blocks ≡ p .blocks = blocks-cut (over old p) ∙ rw (entries-are, f) (cut-laid (p .blocks) _) in
+      let f : sets (old .payload) 0 (payloadsOf (p .blocks)) ≡ payloadsOf (p .blocks) ++ drop (length (payloadsOf (p .blocks))) (old .payload) =
+      sets-front (old .payload) (payloadsOf (p .blocks)) payloads-fit in
+      let e : packetIn (laidOver old p) .blocks ≡ p .blocks = blocks-cut (laidOver old p) ∙ rw (entries-are, f) (cut-laid (p .blocks) _) in
       ap (λ (bs : List Block). record { sequence = p .sequence; blocks = bs }) e
 
   -- and its entries are within the limits
-  pub over-within : Within (over old p)
-  unfolding over
+  pub over-within : Within (laidOver old p)
+  unfolding laidOver
   over-within =
       record {
         sequence = v .sequence;
@@ -156,10 +159,10 @@ module _ (old : Fields) (places : Places old) (p : Packet) (v : Valid p) where
         lengths = rw (entries-are, laid-lengths (p .blocks) (v .blocks)) (blocks-short p v);
       }
 
-  pub over-places : Places (over old p)
-  unfolding over
+  pub over-places : Places (laidOver old p)
+  unfolding laidOver
   over-places = record { numbers = rw length-sets (places .numbers); sizes = rw length-sets (places .sizes); payload = rw length-sets (places .payload) }
 
   -- so that it breaks none
-  pub over-valid : validFields (over old p) ≡ true
-  over-valid = within-valid (over old p) over-within (over-places .payload)
+  pub over-valid : validFields (laidOver old p) ≡ true
+  over-valid = within-valid (laidOver old p) over-within (over-places .payload)

@@ -2,5 +2,4 @@ pub mod Entries
 pub mod Holds
 pub mod Walks
 pub mod Measures
-pub mod Writes
 pub mod Placed

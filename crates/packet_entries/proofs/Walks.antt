@@ -15,7 +15,7 @@ use Rattle.packet_entries.specs.declared.Extent.{Extent}
 use Rattle.packet_entries.specs.declared.Extent.the-variants.{Of, Bad}
 use Rattle.packet_entries.specs.declared.Found.the-variants.{At, Nothing}
 use Rattle.packet_entries.specs.Fields.{Fields, sumOf}
-use Rattle.packet_entries.specs.Entries.{Entry, entries, entriesOf, goodEntry, goodEntries, lengthsOf, usedBy, validAs, validEntries}
+use Rattle.packet_entries.specs.Entries.{Entry, entries, entriesOf, goodEntry, goodEntries, entryLengths, usedBy, validAs, validEntries}
 use Rattle.packet_entries.specs.Extent.{lengthWith, walked, extentAs, Sized, latestIn, latestOf, sumTo}
 use Rattle.packet_entries.proofs.Entries.{entries-at, good-facts, length-most}
 
@@ -63,7 +63,7 @@ pub record Going (count : ℕ) (ns ss : List ℕ) (lengths used i : ℕ) : Type 
   pub found : walked (entries count ns ss) ≡ more lengths used (walked (entries (count - i) (drop i ns) (drop i ss)))
 
 walked-good : (e : Entry) (es : List Entry) → goodEntry (e .number) (e .size) ≡ true → walked (e ∷ es) ≡ more (lengthFor (e .number) (e .size)) (e .size) (walked es)
-unfolding walked goodEntries lengthsOf usedBy
+unfolding walked goodEntries entryLengths usedBy
 walked-good e es g = rw g (by-test (goodEntries es) (λ q. rw q) (λ q. rw q))
 
 walked-bad : (e : Entry) (es : List Entry) → goodEntry (e .number) (e .size) ≡ false → walked (e ∷ es) ≡ Bad
@@ -88,11 +88,12 @@ module _ (count : ℕ) (ns ss : List ℕ) where
           short = g .short;
           lengths-few = omega (arith, g .lengths-few, length-most (getD ns i 0) (getD ss i 0), k .small);
           used-few = omega (arith, g .used-few, k .small);
-          found = g .found ∙ ap (more lengths used) (ap walked (entries-at count i ns ss h) ∙ walked-good _ _ (sym e ∙ q)) ∙ rw m (more-more lengths used _ (getD ss i 0) (walked (entries (count - (i + 1)) (drop (i + 1) ns) (drop (i + 1) ss))));
+          found = g .found ∙ ap (more lengths used) (ap walked (entries-at count i ns ss h) ∙ walked-good _ _ (sym e ∙ q))
+              ∙ rw m (more-more lengths used _ (getD ss i 0) (walked (entries (count - (i + 1)) (drop (i + 1) ns) (drop (i + 1) ss))));
         })
 
     pub going-last : count ≤ i → Of lengths used ≡ walked (entries count ns ss)
-    unfolding entries walked goodEntries lengthsOf usedBy
+    unfolding entries walked goodEntries entryLengths usedBy
     going-last h = let z : count - i ≡ 0 = omega (arith, g .within) in sym (g .found ∙ rw z (ap₂ Of (add-zero lengths) (add-zero used)))
 
     -- one block more still fits
@@ -157,7 +158,7 @@ bad-parts : (b : Bool) (l u : ℕ) → cond b (Of l u) Bad ≡ Bad → b ≡ fal
 bad-parts false l u e = refl
 bad-parts true l u e = let z : _≡_ {A = ℕ} 0 1 = cc in absurd (omega arith)
 
-walked-of : (es : List Entry) (l u : ℕ) → walked es ≡ Of l u → (goodEntries es ≡ true) × (lengthsOf es ≡ l) × (usedBy es ≡ u)
+walked-of : (es : List Entry) (l u : ℕ) → walked es ≡ Of l u → (goodEntries es ≡ true) × (entryLengths es ≡ l) × (usedBy es ≡ u)
 unfolding walked
 walked-of es l u e = of-parts (goodEntries es) _ _ l u e
 
@@ -181,7 +182,7 @@ module _ (q k : ℕ) (es : List Entry) where
     extent-bad z = simp (le-leb _ _ a, le-leb _ _ b, walked-not es (sym is ∙ z))
 
     module _ (l u : ℕ) (z : e ≡ Of l u) where
-      sums : (goodEntries es ≡ true) × (lengthsOf es ≡ l) × (usedBy es ≡ u)
+      sums : (goodEntries es ≡ true) × (entryLengths es ≡ l) × (usedBy es ≡ u)
       sums = walked-of es l u (sym is ∙ z)
 
       pub extent-long : 127 < l → Bad ≡ extentAs q k es

@@ -1,9 +1,8 @@
 -- The places of a packet by their numbers and sizes alone, as the code goes over them. This is for the functions and the proofs of this crate and
--- of `pushes`: no public contract of `packet` reaches it, and `tests-agree` says that its test is that of `Fields`. Assumes nothing.
-use mathlib.Core.Path.{_≡_}
+-- of `packet_pushes`: no public contract of `packet` reaches it, and `tests-agree` says that its test is that of `Fields`. Assumes nothing.
 use mathlib.Core.Bool.{Bool, true, _&&_}
 use mathlib.Core.List.{List, [], _∷_}
-use Prim.Native.Nat.{ℕ, zero, suc, _+_, _≤_}
+use Prim.Native.Nat.{ℕ, zero, suc, _+_}
 use lib.Dec.{leb}
 use lib.ListN.{getD, take, drop}
 use Rattle.model.specs.Block.{Block}
@@ -39,9 +38,9 @@ goodEntries [] = true
 goodEntries (e ∷ es) = goodEntry (e .number) (e .size) && goodEntries es
 
 -- the sum of the blocks' lengths
-unfoldable pub lengthsOf : List Entry → ℕ
-lengthsOf [] = 0
-lengthsOf (e ∷ es) = lengthFor (e .number) (e .size) + lengthsOf es
+unfoldable pub entryLengths : List Entry → ℕ
+entryLengths [] = 0
+entryLengths (e ∷ es) = lengthFor (e .number) (e .size) + entryLengths es
 
 -- the sum of their payloads' lengths
 unfoldable pub usedBy : List Entry → ℕ
@@ -50,15 +49,8 @@ usedBy (e ∷ es) = e .size + usedBy es
 
 -- the test of a packet's limits, by its sequence number, its count and its entries
 unfoldable pub validAs : ℕ → ℕ → List Entry → Bool
-validAs q k es = leb q 3 && (leb k 63 && (goodEntries es && leb (lengthsOf es) 127))
+validAs q k es = leb q 3 && (leb k 63 && (goodEntries es && leb (entryLengths es) 127))
 
 -- the same of places
 abbrev pub validEntries : Fields → Bool
 validEntries p = validAs (p .«seq_no») (p .count) (entriesOf p)
-
--- entries that a packet may be written from
-pub record Written (es : List Entry) (count bytes : ℕ) : Type 0 where
-  pub few : count ≤ 63
-  pub there : usedBy es ≤ bytes
-  pub good : goodEntries es ≡ true
-  pub short : lengthsOf es ≤ 127

@@ -6,7 +6,7 @@ use mathlib.Core.Option.{Option, none, some}
 use Prim.Native.Nat.{ℕ, zero, suc, _+_, _-_, _*_, _≤_, _<_}
 use native.Mathlib.Omega.{arith}
 use lib.Dec.{eqb, ltb}
-use lib.ListN.{length, take, getD, set}
+use lib.ListN.{length, take, getD}
 use borrow.Author.Tests.{eq-eqb, ne-eqb, lt-ltb, le-ltb, eqb-true}
 use Rattle.caption.specs.declared.Refusal.{Refusal}
 use Rattle.caption.specs.declared.Counted.{Counted}
@@ -23,30 +23,33 @@ use Rattle.service.specs.Service.{blockOf, validService}
 use Rattle.service.proofs.Services.{valid-number, valid-len, valid-null, payload-length}
 use Rattle.packet_entries.specs.declared.Found.{Found}
 use Rattle.packet_entries.specs.declared.Found.the-variants.{At, Nothing}
-use Rattle.packet_entries.specs.Fields.{Fields, Places, fields, packetIn, over, blockFrom, validFields}
-use Rattle.packet_entries.specs.Entries.{entriesOf, lengthsOf, validEntries}
+use Rattle.packet_entries.specs.Fields.{Fields, Arrays, Places, fields, arraysOf, packetIn, laidOver, blockFrom, validFields}
+use Rattle.packet_entries.specs.Entries.{entriesOf, entryLengths, validEntries}
 use Rattle.packet_entries.specs.Extent.{Sized, latestIn}
 use Rattle.packet_entries.specs.Extent as extent
 use Rattle.packet_entries.proofs.Entries.{entries-length, no-lengths, entries-two, block-lengths, length-least, length-most, used-least, good-at}
 use Rattle.packet_entries.proofs.Holds.{Within, blocks-count, tests-agree}
 use Rattle.packet_entries.proofs.Walks.{latest-few}
 use Rattle.packet_entries.proofs.Measures.{sized-within, sized-valid, sized-length}
-use Rattle.packet_blocks.specs.Reading.{Laid}
-use Rattle.packet_pushes.specs.Pushing.{Stores, RoomAt, grownOver, pushedNew, pushedAt, pushedBlock, pushedRun}
+use Rattle.packet_blocks.specs.Reading.{LaidIn}
+use Rattle.packet_pushes.specs.Pushing.{Stores, Extends, RoomAt, pushedNew, pushedAt, pushedBlock, pushedRun}
 use Rattle.packet_pushes.proofs.Pushed.{size-held, number-held, append-as, before-within, extend-as}
 
 -- a refusal leaves all places as they were; what is given is what they then hold
-refuses : (o : Outcome Fields) (f : Fields) (why : Refusal) → o ≡ refused (saidRefusal why) → Stores o f (Refused why) (f .numbers) (f .sizes) (f .payload)
-unfolding Stores
-refuses o f why e = rw e (why, refl, refl, refl, refl, refl)
+abbrev Refuses : Outcome Fields → Fields → Refusal → Type 0
+Refuses o f why = Stores o f (Refused why) (arraysOf f)
 
-gives : (o : Outcome Fields) (f g : Fields) (k : ℕ) (n s p : List ℕ) → o ≡ gave g → g ≡ fields (f .«seq_no») k n s p → Stores o f (Count k) n s p
+refuses : (o : Outcome Fields) (f : Fields) (why : Refusal) → o ≡ refused (saidRefusal why) → Refuses o f why
 unfolding Stores
-gives o f g k n s p e q = rw (e, q) (refl, refl)
+refuses o f why e = rw e (why, refl, refl, refl)
+
+gives : (o : Outcome Fields) (f g : Fields) (k : ℕ) (a : Arrays) → o ≡ gave g → g ≡ fields (f .«seq_no») k (a .numbers) (a .sizes) (a .payload) → Stores o f (Count k) a
+unfolding Stores
+gives o f g k a e q = rw (e, q) (refl, refl)
 
 -- one outcome for another
-pub same-stores : (o o′ : Outcome Fields) (f : Fields) (r : Counted) (n s p : List ℕ) → o ≡ o′ → Stores o′ f r n s p → Stores o f r n s p
-same-stores o o′ f r n s p e a = rw e a
+pub same-stores : (o o′ : Outcome Fields) (f : Fields) (r : Counted) (x : Arrays) → o ≡ o′ → Stores o′ f r x → Stores o f r x
+same-stores o o′ f r x e a = rw e a
 
 -- the place of the latest block, in the model's words
 abbrev placeOf : Found → Option ℕ
@@ -79,7 +82,7 @@ module _ (p : Fields) (n u : ℕ) (z : Sized p n u) where
   w = sized-within p n u z
 
   abbrev l : ℕ
-  l = lengthsOf (entriesOf p)
+  l = entryLengths (entriesOf p)
 
   pub found-there : (m i : ℕ) (found : Found) → found ≡ extent.latestOf (p .count) (p .numbers) m → found ≡ At i → i < p .count
   found-there m i found is q = latest-within (p .count) (p .numbers) m i (sym (latest-few (p .numbers) m (p .count) (w .count)) ∙ sym is ∙ q)
@@ -122,12 +125,12 @@ module _ (p : Fields) (n u : ℕ) (z : Sized p n u) where
 
     -- a run as a new block
     module _ (number : ℕ) (run : List ℕ) where
-      pub new-null : number ≡ 0 → (why : Refusal) → saidRefusal why ≡ readOnly → Stores (pushedNew number run p) p (Refused why) (p .numbers) (p .sizes) (p .payload)
+      pub new-null : number ≡ 0 → (why : Refusal) → saidRefusal why ≡ readOnly → Refuses (pushedNew number run p) p why
       unfolding pushedNew pushNew
       new-null e why m = refuses _ p why (simp (eq-eqb number 0 e) (ap refused (sym m)))
 
       module _ (named : number ≡ 0 → ⊥) where
-        pub new-long : 31 < length run → (why : Refusal) → saidRefusal why ≡ wouldOverflow (length run - 31) → Stores (pushedNew number run p) p (Refused why) (p .numbers) (p .sizes) (p .payload)
+        pub new-long : 31 < length run → (why : Refusal) → saidRefusal why ≡ wouldOverflow (length run - 31) → Refuses (pushedNew number run p) p why
         unfolding pushedNew pushNew
         new-long h why m = refuses _ p why (simp (ne-eqb number 0 named, lt-ltb _ _ h) (ap refused (sym m)))
 
@@ -135,55 +138,61 @@ module _ (p : Fields) (n u : ℕ) (z : Sized p n u) where
           length-is : blockLength (blockFrom number run) ≡ k
           length-is = block-lengths number (length run) run some refl ∙ sym e
 
-          pub new-over : 128 - n < k → (why : Refusal) → saidRefusal why ≡ wouldOverflow (k - (128 - n)) → Stores (pushedNew number run p) p (Refused why) (p .numbers) (p .sizes) (p .payload)
+          pub new-over : 128 - n < k → (why : Refusal) → saidRefusal why ≡ wouldOverflow (k - (128 - n)) → Refuses (pushedNew number run p) p why
           unfolding pushedNew pushNew
           new-over h why m = refuses _ p why (simp (ne-eqb number 0 named, le-ltb _ _ small, length-is, room-is, lt-ltb _ _ h) (ap refused (sym m)))
 
-          pub new-fits : k ≤ 128 - n → (n₁ s₁ p₁ : List ℕ) → Laid (blockFrom number run ∷ []) (record { count = p .count; used = u }) (p .numbers) (p .sizes) (p .payload) n₁ s₁ p₁
-              → Stores (pushedNew number run p) p (Count (p .count + 1)) n₁ s₁ p₁
+          pub new-fits : k ≤ 128 - n → (x : Arrays) → LaidIn (blockFrom number run ∷ []) (record { count = p .count; used = u }) (arraysOf p) x
+              → Stores (pushedNew number run p) p (Count (p .count + 1)) x
           unfolding pushedNew pushNew
-          new-fits h n₁ s₁ p₁ a = gives _ p _ _ n₁ s₁ p₁ (simp (ne-eqb number 0 named, le-ltb _ _ small, length-is, room-is, le-ltb _ _ h)) (append-as p n u z places number run n₁ s₁ p₁ a)
+          new-fits h x a =
+              gives _ p _ _ x (simp (ne-eqb number 0 named, le-ltb _ _ small, length-is, room-is, le-ltb _ _ h)) (append-as p n u z places number run x a)
 
     -- a run to the block at place i
     module _ (i : ℕ) (there : i < p .count) (run : List ℕ) where
       block-room : blockRoom (blockAt (packetIn p) i) ≡ 31 - getD (p .sizes) i 0
       block-room = ap (λ k. 31 - k) (size-held p w places i there)
 
-      pub at-over : 128 - n < length run → (why : Refusal) → saidRefusal why ≡ wouldOverflow (length run - (128 - n)) → Stores (pushedAt i run p) p (Refused why) (p .numbers) (p .sizes) (p .payload)
+      pub at-over : 128 - n < length run → (why : Refusal) → saidRefusal why ≡ wouldOverflow (length run - (128 - n)) → Refuses (pushedAt i run p) p why
       unfolding pushedAt pushAt
       at-over h why m = refuses _ p why (simp (room-is, lt-ltb _ _ h) (ap refused (sym m)))
 
       module _ (fits : length run ≤ 128 - n) (left : ℕ) (e : left ≡ 31 - getD (p .sizes) i 0) where
-        pub at-full : left < length run → (why : Refusal) → saidRefusal why ≡ wouldOverflow (length run - left) → Stores (pushedAt i run p) p (Refused why) (p .numbers) (p .sizes) (p .payload)
+        pub at-full : left < length run → (why : Refusal) → saidRefusal why ≡ wouldOverflow (length run - left) → Refuses (pushedAt i run p) p why
         unfolding pushedAt pushAt
         at-full h why m = refuses _ p why (simp (room-is, le-ltb _ _ fits, block-room, ← e, lt-ltb _ _ h) (ap refused (sym m)))
 
-        pub at-fits : length run ≤ left → (s₁ d₁ : List ℕ) → s₁ ≡ set (p .sizes) i (getD (p .sizes) i 0 + length run) → d₁ ≡ grownOver u (extent.sumTo (i + 1) (p .sizes)) run (p .payload)
-            → Stores (pushedAt i run p) p (Count (p .count)) (p .numbers) s₁ d₁
+        pub at-fits : length run ≤ left → (s₁ d₁ : List ℕ) → Extends u i run (p .sizes) (p .payload) s₁ d₁
+            → Stores (pushedAt i run p) p (Count (p .count)) (record { numbers = p .numbers; sizes = s₁; payload = d₁ })
         unfolding pushedAt pushAt
-        at-fits h s₁ d₁ a b = gives _ p _ _ (p .numbers) s₁ d₁ (simp (room-is, le-ltb _ _ fits, block-room, ← e, le-ltb _ _ h)) (extend-as p n u z i there places run s₁ d₁ a b)
+        at-fits h s₁ d₁ a =
+            gives _ p _ _ (record { numbers = p .numbers; sizes = s₁; payload = d₁ }) (simp (room-is, le-ltb _ _ fits, block-room, ← e, le-ltb _ _ h))
+            (extend-as p n u z i there places run s₁ d₁ a)
 
     -- a run pushed to the packet, in the order of the refusals
     module _ (needsRoom : Bool) (number : ℕ) (run : List ℕ) where
-      pub run-number : 63 < number → (why : Refusal) → saidRefusal why ≡ badNumber → Stores (pushedRun needsRoom number run p) p (Refused why) (p .numbers) (p .sizes) (p .payload)
+      pub run-number : 63 < number → (why : Refusal) → saidRefusal why ≡ badNumber → Refuses (pushedRun needsRoom number run p) p why
       unfolding pushedRun pushRunBy
       run-number h why m = refuses _ p why (rw valid (simp (lt-ltb _ _ h) (ap refused (sym m))))
 
       module _ (known : number ≤ 63) where
-        pub run-empty : length run ≡ 0 → (why : Refusal) → saidRefusal why ≡ badRun → Stores (pushedRun needsRoom number run p) p (Refused why) (p .numbers) (p .sizes) (p .payload)
+        pub run-empty : length run ≡ 0 → (why : Refusal) → saidRefusal why ≡ badRun → Refuses (pushedRun needsRoom number run p) p why
         unfolding pushedRun pushRunBy
         run-empty e why m = refuses _ p why (rw valid (simp (le-ltb _ _ known, eq-eqb _ _ e) (ap refused (sym m))))
 
         module _ (some : length run ≡ 0 → ⊥) (found : Found) (is : found ≡ extent.latestOf (p .count) (p .numbers) number) where
-          by-place : pushedRun needsRoom number run p ≡ mapped (over p) (pushRunAt needsRoom number run (packetIn p) (placeOf found))
+          by-place : pushedRun needsRoom number run p ≡ mapped (laidOver p) (pushRunAt needsRoom number run (packetIn p) (placeOf found))
           unfolding pushedRun pushRunBy
-          by-place = rw valid (simp (le-ltb _ _ known, ne-eqb _ _ some) (ap (λ o. mapped (over p) (pushRunAt needsRoom number run (packetIn p) o)) (latest-held p w places number ∙ ap placeOf (sym is))))
+          by-place =
+              let same : latest number (packetIn p) ≡ placeOf found = latest-held p w places number ∙ ap placeOf (sym is) in
+              rw valid (simp (le-ltb _ _ known, ne-eqb _ _ some) (ap (λ o. mapped (laidOver p) (pushRunAt needsRoom number run (packetIn p) o)) same))
 
           pub run-none : found ≡ Nothing → pushedRun needsRoom number run p ≡ pushedNew number run p
           unfolding pushRunAt pushedNew
           run-none q = by-place ∙ rw q
 
-          module _ (i : ℕ) (q : found ≡ At i) (there : i < p .count) (left : ℕ) (e : left ≡ 31 - getD (p .sizes) i 0) (lacks : Bool) (a : lacks ≡ (needsRoom && ltb left (length run))) where
+          module _ (i : ℕ) (q : found ≡ At i) (there : i < p .count) (left : ℕ) (e : left ≡ 31 - getD (p .sizes) i 0) (lacks : Bool)
+              (a : lacks ≡ (needsRoom && ltb left (length run))) where
             lacks-is : (needsRoom && ltb (31 - length (blockAt (packetIn p) i .payload)) (length run)) ≡ lacks
             lacks-is = ap (λ k. needsRoom && ltb k (length run)) (ap (λ k. 31 - k) (size-held p w places i there) ∙ sym e) ∙ sym a
 
@@ -195,7 +204,7 @@ module _ (p : Fields) (n u : ℕ) (z : Sized p n u) where
             unfolding pushRunAt pushedAt
             run-at t = by-place ∙ rw (q, lacks-is, t)
 
-    pub service-invalid : (s : Service) → validService s ≡ false → (why : Refusal) → saidRefusal why ≡ badValue → Stores (pushedBlock s p) p (Refused why) (p .numbers) (p .sizes) (p .payload)
+    pub service-invalid : (s : Service) → validService s ≡ false → (why : Refusal) → saidRefusal why ≡ badValue → Refuses (pushedBlock s p) p why
     unfolding pushedBlock
     service-invalid s e why m = refuses _ p why (rw (valid, e) (ap refused (sym m)))
 
@@ -204,7 +213,7 @@ module _ (p : Fields) (n u : ℕ) (z : Sized p n u) where
       payload-is : length (take (s .len) (s .payload)) ≡ s .len
       payload-is = payload-length s (validService s) refl full v
 
-      pub block-empty : s .len ≡ 0 → (why : Refusal) → saidRefusal why ≡ emptyService → Stores (pushedBlock s p) p (Refused why) (p .numbers) (p .sizes) (p .payload)
+      pub block-empty : s .len ≡ 0 → (why : Refusal) → saidRefusal why ≡ emptyService → Refuses (pushedBlock s p) p why
       unfolding pushedBlock pushBlock
       block-empty e why m =
           let empty : length (blockOf s .payload) ≡ 0 = payload-is ∙ e in
@@ -226,10 +235,10 @@ module _ (p : Fields) (places : Places p) (fails : validEntries p ≡ false) (wh
   bad : validFields p ≡ false
   bad = tests-agree p (places .payload) ∙ fails
 
-  pub run-invalid : (needsRoom : Bool) (number : ℕ) (run : List ℕ) → Stores (pushedRun needsRoom number run p) p (Refused why) (p .numbers) (p .sizes) (p .payload)
+  pub run-invalid : (needsRoom : Bool) (number : ℕ) (run : List ℕ) → Refuses (pushedRun needsRoom number run p) p why
   unfolding pushedRun
   run-invalid needsRoom number run = refuses _ p why (rw bad (ap refused (sym m)))
 
-  pub block-invalid : (s : Service) → Stores (pushedBlock s p) p (Refused why) (p .numbers) (p .sizes) (p .payload)
+  pub block-invalid : (s : Service) → Refuses (pushedBlock s p) p why
   unfolding pushedBlock
   block-invalid s = refuses _ p why (rw bad (ap refused (sym m)))

@@ -10,15 +10,15 @@ use lib.Seq.{sets, length-take-le, drop-drop, getD-take, map-set-same, take-set-
 use Rattle.model.specs.Block.{Block, withRun}
 use Rattle.model.specs.Packet.{noBlock, withBlocks, blockAt, extended}
 use Rattle.basics.proofs.Runs.{sets-front, sets-append, sets-own, sets-behind}
-use Rattle.packet_entries.specs.Fields.{Fields, Places, fields, packetIn, over, numbersOf, sizesOf, payloadsOf, blockFrom}
+use Rattle.packet_entries.specs.Fields.{Fields, Arrays, Places, fields, arraysOf, packetIn, laidOver, numbersOf, sizesOf, payloadsOf, blockFrom}
 use Rattle.packet_entries.specs.Entries.{Entry, entriesOf, cut, usedBy}
 use Rattle.packet_entries.specs.Extent.{Sized, sumTo}
 use Rattle.packet_entries.proofs.Entries.{used-sum, entries-numbers, entries-sizes, cut-numbers, cut-sizes, cut-payloads}
 use Rattle.packet_blocks.proofs.Reading.{map-append, payloads-append}
 use Rattle.packet_entries.proofs.Holds.{Within, within-facts, used-fits, blocks-cut, blocks-count}
 use Rattle.packet_entries.proofs.Walks.{sum-few}
-use Rattle.packet_blocks.specs.Reading.{Laid}
-use Rattle.packet_pushes.specs.Pushing.{grownOver}
+use Rattle.packet_blocks.specs.Reading.{LaidIn}
+use Rattle.packet_pushes.specs.Pushing.{Extends}
 
 module _ (p : Fields) (w : Within p) (places : Places p) where
   abbrev used : ℕ
@@ -26,19 +26,23 @@ module _ (p : Fields) (w : Within p) (places : Places p) where
 
   -- what stands in the three arrays
   pub numbers-held : numbersOf (packetIn p .blocks) ≡ take (p .count) (p .numbers)
-  numbers-held = ap (λ (bs : List Block). numbersOf bs) (blocks-cut p) ∙ cut-numbers (entriesOf p) (p .payload) ∙ entries-numbers (p .count) (p .numbers) (p .sizes) (omega (arith, w .count, places .numbers))
+  numbers-held =
+      ap (λ (bs : List Block). numbersOf bs) (blocks-cut p) ∙ cut-numbers (entriesOf p) (p .payload)
+      ∙ entries-numbers (p .count) (p .numbers) (p .sizes) (omega (arith, w .count, places .numbers))
 
   pub sizes-held : sizesOf (packetIn p .blocks) ≡ take (p .count) (p .sizes)
-  sizes-held = ap (λ (bs : List Block). sizesOf bs) (blocks-cut p) ∙ cut-sizes (entriesOf p) (p .payload) (used-fits p w (places .payload)) ∙ entries-sizes (p .count) (p .numbers) (p .sizes) (omega (arith, w .count, places .sizes))
+  sizes-held =
+      ap (λ (bs : List Block). sizesOf bs) (blocks-cut p) ∙ cut-sizes (entriesOf p) (p .payload) (used-fits p w (places .payload))
+      ∙ entries-sizes (p .count) (p .numbers) (p .sizes) (omega (arith, w .count, places .sizes))
 
   pub payloads-held : payloadsOf (packetIn p .blocks) ≡ take used (p .payload)
   payloads-held = ap (λ (bs : List Block). payloadsOf bs) (blocks-cut p) ∙ cut-payloads (entriesOf p) (p .payload)
 
   -- a block behind the others
   pub appended : (n k : ℕ) (run : List ℕ) → length run ≡ k
-      → over p (withBlocks (packetIn p .blocks ++ (record { number = n; payload = run } ∷ [])) (packetIn p))
+      → laidOver p (withBlocks (packetIn p .blocks ++ (record { number = n; payload = run } ∷ [])) (packetIn p))
       ≡ record { «seq_no» = p .«seq_no»; count = p .count + 1; numbers = set (p .numbers) (p .count) n; sizes = set (p .sizes) (p .count) k; payload = sets (p .payload) used run }
-  unfolding over flatMap
+  unfolding laidOver flatMap
   appended n k run e =
       let b : Block = record { number = n; payload = run } in
       let c : length (packetIn p .blocks ++ (b ∷ [])) ≡ p .count + 1 = rw (length-append, blocks-count p) in
@@ -51,7 +55,8 @@ module _ (p : Fields) (w : Within p) (places : Places p) where
       rw (c, ns, ss, ds)
 
 -- blocks of which one takes a run: its payload grows, and those behind it move up
-grown : (run : List ℕ) (bs : List Block) (i : ℕ) → i < length bs → payloadsOf (set bs i (withRun run (getD bs i noBlock))) ≡ payloadsOf (take (suc i) bs) ++ (run ++ payloadsOf (drop (suc i) bs))
+grown : (run : List ℕ) (bs : List Block) (i : ℕ) → i < length bs
+    → payloadsOf (set bs i (withRun run (getD bs i noBlock))) ≡ payloadsOf (take (suc i) bs) ++ (run ++ payloadsOf (drop (suc i) bs))
 unfolding flatMap
 grown run [] i h = absurd (omega arith)
 grown run (b ∷ bs) zero h = simp (append-nil, append-assoc)
@@ -103,7 +108,7 @@ module _ (p : Fields) (w : Within p) (places : Places p) (i : ℕ) (there : i < 
 
   -- the block at place i takes a run
   pub grown-over : (run : List ℕ)
-      → over p (extended i run (packetIn p))
+      → laidOver p (extended i run (packetIn p))
       ≡ record {
         «seq_no» = p .«seq_no»;
         count = p .count;
@@ -111,7 +116,7 @@ module _ (p : Fields) (w : Within p) (places : Places p) (i : ℕ) (there : i < 
         sizes = set (p .sizes) i (getD (p .sizes) i 0 + length run);
         payload = sets (sets (p .payload) before run) (before + length run) (take (usedBy (entriesOf p) - before) (drop before (p .payload)));
       }
-  unfolding over
+  unfolding laidOver
   grown-over run =
       let bs : List Block = packetIn p .blocks in
       let b : Block = withRun run (getD bs i noBlock) in
@@ -125,7 +130,8 @@ module _ (p : Fields) (w : Within p) (places : Places p) (i : ℕ) (there : i < 
       let q : usedBy (drop (suc i) (entriesOf p)) ≡ usedBy (entriesOf p) - before = omega arith in
       let ds : payloadsOf (set bs i b) ≡ take before (p .payload) ++ (run ++ take (usedBy (entriesOf p) - before) (drop before (p .payload))) =
       grown run bs i (omega (arith, blocks-count p))
-      ∙ rw (blocks-cut p, cut-take (suc i) (entriesOf p) (p .payload), cut-drop (suc i) (entriesOf p) (p .payload), cut-payloads (take (suc i) (entriesOf p)) (p .payload), cut-payloads (drop (suc i) (entriesOf p)) (drop before (p .payload)), q) in
+      ∙ rw (blocks-cut p, cut-take (suc i) (entriesOf p) (p .payload), cut-drop (suc i) (entriesOf p) (p .payload))
+      (rw (cut-payloads (take (suc i) (entriesOf p)) (p .payload), cut-payloads (drop (suc i) (entriesOf p)) (drop before (p .payload)), q)) in
       let fs : sets (p .payload) 0 (payloadsOf (set bs i b)) ≡ sets (sets (p .payload) before run) (before + length run) (take (usedBy (entriesOf p) - before) (drop before (p .payload))) =
       rw ds (sets-behind (p .payload) _ before (omega (arith, used-fits p w (places .payload))) ∙ sets-append run _ (p .payload) before) in
       rw (c, ns, ss, fs)
@@ -135,10 +141,11 @@ module _ (p : Fields) (n u : ℕ) (s : Sized p n u) where
   w : Within p
   w = within-facts p (s .valid)
 
-  pub append-as : Places p → (number : ℕ) (run n₁ s₁ p₁ : List ℕ) → Laid (blockFrom number run ∷ []) (record { count = p .count; used = u }) (p .numbers) (p .sizes) (p .payload) n₁ s₁ p₁
-      → over p (withBlocks (packetIn p .blocks ++ (blockFrom number run ∷ [])) (packetIn p)) ≡ fields (p .«seq_no») (p .count + 1) n₁ s₁ p₁
+  pub append-as : Places p → (number : ℕ) (run : List ℕ) (x : Arrays) → LaidIn (blockFrom number run ∷ []) (record { count = p .count; used = u }) (arraysOf p) x
+      → laidOver p (withBlocks (packetIn p .blocks ++ (blockFrom number run ∷ [])) (packetIn p))
+      ≡ fields (p .«seq_no») (p .count + 1) (x .numbers) (x .sizes) (x .payload)
   unfolding flatMap
-  append-as places number run n₁ s₁ p₁ l =
+  append-as places number run x l =
       appended p w places number (length run) run refl
       ∙ rw (l .numbers, l .sizes, l .payload, append-nil run, s .used-is)
 
@@ -149,6 +156,6 @@ module _ (p : Fields) (n u : ℕ) (s : Sized p n u) where
     pub before-within : sumTo (i + 1) (p .sizes) ≤ u
     before-within = omega (arith, before-is, s .used-is, used-parts (suc i) (entriesOf p))
 
-    pub extend-as : Places p → (run s₁ d₁ : List ℕ) → s₁ ≡ set (p .sizes) i (getD (p .sizes) i 0 + length run) → d₁ ≡ grownOver u (sumTo (i + 1) (p .sizes)) run (p .payload)
-        → over p (extended i run (packetIn p)) ≡ fields (p .«seq_no») (p .count) (p .numbers) s₁ d₁
-    extend-as places run s₁ d₁ a b = grown-over p w places i there run ∙ rw (a, b, s .used-is, before-is)
+    pub extend-as : Places p → (run s₁ d₁ : List ℕ) → Extends u i run (p .sizes) (p .payload) s₁ d₁
+        → laidOver p (extended i run (packetIn p)) ≡ fields (p .«seq_no») (p .count) (p .numbers) s₁ d₁
+    extend-as places run s₁ d₁ a = grown-over p w places i there run ∙ rw (a .size, a .bytes, s .used-is, before-is)

@@ -6,21 +6,21 @@ use lib.ListN.{take, drop}
 use borrow.Author.Tests.{eq-eqb, ne-eqb}
 use Rattle.model.specs.Block.{blockIn, partIn}
 use Rattle.service_headers.specs.declared.Head.the-variants.{Whole, Short}
-use Rattle.service_headers.specs.Head.{headOf}
+use Rattle.service_headers.specs.Head.{blockHead}
 use Rattle.service_headers.proofs.Heads.{headed, head-short}
 
 module _ (d : List ℕ) where
   -- none where bytes are missing
-  pub part-short : (k : ℕ) → headOf d ≡ Short k → [] ≡ partIn d
+  pub part-short : (k : ℕ) → blockHead d ≡ Short k → [] ≡ partIn d
   unfolding partIn
   part-short k e = simp (head-short d k e .0)
 
   -- none where the number is 0
-  pub part-null : (n st sz : ℕ) → headOf d ≡ Whole n st sz → n ≡ 0 → [] ≡ partIn d
+  pub part-null : (n st sz : ℕ) → blockHead d ≡ Whole n st sz → n ≡ 0 → [] ≡ partIn d
   unfolding partIn blockIn
   part-null n st sz e z = let h = headed d n st sz e in simp (h .whole, h .number, eq-eqb n 0 z)
 
   -- else the payload
-  pub part-some : (n st sz : ℕ) → headOf d ≡ Whole n st sz → (n ≡ 0 → ⊥) → take sz (drop st d) ≡ partIn d
+  pub part-some : (n st sz : ℕ) → blockHead d ≡ Whole n st sz → (n ≡ 0 → ⊥) → take sz (drop st d) ≡ partIn d
   unfolding partIn blockIn
   part-some n st sz e z = let h = headed d n st sz e in simp (h .whole, h .number, ne-eqb n 0 z, h .start, h .size)

@@ -11,6 +11,7 @@ use lib.Seq.{sets, take-at, length-take-le}
 use borrow.Author.Tests.{eq-eqb, ne-eqb, le-leb, lt-leb, lt-ltb, le-ltb, leb-true, eqb-true}
 use Rattle.caption.specs.declared.Counted.{Counted}
 use Rattle.caption.specs.Answers.{saidAnswer, saidCounted}
+use Rattle.caption.proofs.Answers.{measure-good}
 use Rattle.model.specs.Said.{Said, Outcome, gave, refused, checked, measured, putInto, accepted, badValue, badNumber, badRun, readOnly, wouldOverflow, lengthMismatch, outShort}
 use Rattle.model.specs.Block.{Block, validBlock, newBlock, readBlock, blockIn, pushToBlock, withRun, writtenHeader, writtenBlock, blockLength}
 use Rattle.model.proofs.Cases.{by-test, both}
@@ -18,7 +19,7 @@ use Rattle.model.proofs.Blocks.{written-length}
 use Rattle.service.specs.declared.Service.{Service}
 use Rattle.service.specs.declared.ServiceAnswer.{ServiceAnswer}
 use Rattle.service_headers.specs.declared.Head.the-variants.{Whole, Short}
-use Rattle.service_headers.specs.Head.{headOf, lengthFor}
+use Rattle.service_headers.specs.Head.{blockHead, lengthFor}
 use Rattle.service.specs.Service.{Answers, Writes, blockOf, over, blank, validService}
 use Rattle.basics.proofs.Runs.{sets-front, sets-behind}
 use Rattle.service_headers.proofs.Heads.{headed, head-short, length-of, laid-block}
@@ -134,14 +135,6 @@ module _ (s : Service) (v : Bool) (is : v ≡ validService s) where
   pub small-len : v ≡ true → s .len ≤ 31
   small-len e = valid-len s (sym is ∙ e)
 
-  -- a number asked of a block that breaks a limit
-  pub measure-bad : (n : ℕ) → v ≡ false → badValue ≡ measured (validService s) n
-  measure-bad n e = rw (← is, e)
-
-  -- and of one that breaks none
-  pub measure-good : (n k : ℕ) → v ≡ true → n ≡ k → accepted (n ∷ []) ≡ measured (validService s) k
-  measure-good n k e q = rw (← is, e, q)
-
   module _ (places : length (s .payload) ≡ 31) where
     -- the payload is as long as the block says
     pub payload-length : v ≡ true → length (take (s .len) (s .payload)) ≡ s .len
@@ -149,11 +142,11 @@ module _ (s : Service) (v : Bool) (is : v ≡ validService s) where
 
     -- its room
     pub measure-room : v ≡ true → accepted ((31 - s .len) ∷ []) ≡ measured (validService s) (31 - length (take (s .len) (s .payload)))
-    measure-room e = measure-good _ _ e (ap (λ n. 31 - n) (sym (payload-length e)))
+    measure-room e = measure-good _ _ is _ _ e (ap (λ n. 31 - n) (sym (payload-length e)))
 
     -- whether it is empty
     pub measure-empty : v ≡ true → accepted (cond (eqb (s .len) 0) 1 0 ∷ []) ≡ measured (validService s) (cond (eqb (length (take (s .len) (s .payload))) 0) 1 0)
-    measure-empty e = measure-good _ _ e (ap (λ n. cond (eqb n 0) 1 0) (sym (payload-length e)))
+    measure-empty e = measure-good _ _ is _ _ e (ap (λ n. cond (eqb n 0) 1 0) (sym (payload-length e)))
 
     -- how long it is written
     pub payload-written : v ≡ true → length (writtenBlock (blockOf s)) ≡ cond (ltb (s .number) 7) 1 2 + s .len
@@ -165,7 +158,7 @@ module _ (s : Service) (v : Bool) (is : v ≡ validService s) where
 
     -- its length
     pub measure-length : (n : ℕ) → v ≡ true → n ≡ lengthFor (s .number) (s .len) → accepted (n ∷ []) ≡ measured (validService s) (blockLength (blockOf s))
-    measure-length n e q = measure-good _ _ e (q ∙ length-for e)
+    measure-length n e q = measure-good _ _ is _ _ e (q ∙ length-for e)
 
     -- a run pushed, in the order of the refusals
     module _ (run : List ℕ) where
@@ -247,21 +240,21 @@ module _ (s : Service) (v : Bool) (is : v ≡ validService s) where
 -- a block read
 module _ (d : List ℕ) where
   -- bytes missing
-  pub parse-short : (k : ℕ) → headOf d ≡ Short k → readBlock d ≡ refused (lengthMismatch k (length d))
+  pub parse-short : (k : ℕ) → blockHead d ≡ Short k → readBlock d ≡ refused (lengthMismatch k (length d))
   unfolding readBlock
   parse-short k e = let h = head-short d k e in simp (h .0, h .1)
 
   -- number 0
-  pub parse-null : (n st sz : ℕ) → headOf d ≡ Whole n st sz → n ≡ 0 → readBlock d ≡ gave (record { number = 0; payload = [] })
+  pub parse-null : (n st sz : ℕ) → blockHead d ≡ Whole n st sz → n ≡ 0 → readBlock d ≡ gave (record { number = 0; payload = [] })
   unfolding readBlock blockIn
   parse-null n st sz e z = let h = headed d n st sz e in simp (h .whole, h .number, z)
 
   -- any other number
-  pub parse-some : (n st sz : ℕ) → headOf d ≡ Whole n st sz → (n ≡ 0 → ⊥)
+  pub parse-some : (n st sz : ℕ) → blockHead d ≡ Whole n st sz → (n ≡ 0 → ⊥)
       → readBlock d ≡ gave (record { number = n; payload = take sz (drop st d) })
   unfolding readBlock blockIn
   parse-some n st sz e z = let h = headed d n st sz e in simp (h .whole, h .number, ne-eqb n 0 z, h .start, h .size)
 
   -- its payload is as long as the header says
-  pub part-length : (n st sz : ℕ) → headOf d ≡ Whole n st sz → length (take sz (drop st d)) ≡ sz
+  pub part-length : (n st sz : ℕ) → blockHead d ≡ Whole n st sz → length (take sz (drop st d)) ≡ sz
   part-length n st sz e = length-take-le sz (drop st d) (rw length-drop (omega (arith, headed d n st sz e .fits)))

@@ -29,26 +29,6 @@ pub struct ServiceAnswer {
     pub service: Service,
 }
 
-// The payload of the block at the front of `data`, as a part of `data`; empty where there is none.
-pub fn payload_of(data: &[u8]) -> &[u8]
-    ensures { λ r. ⌜ now r ≡ partIn (now («data» .entry)) ⌝ }
-{
-    let head = service_headers::read_head(data, 0);
-    let Head::Whole {
-        number,
-        start,
-        size,
-    } = head
-    else {
-        return &data[0..0];
-    };
-    if number == 0 {
-        return &data[0..0];
-    }
-    let end = start + size;
-    &data[start..end]
-}
-
 impl Service {
     // A block without payload.
     pub fn new(service_no: u8) -> ServiceAnswer
@@ -73,22 +53,6 @@ impl Service {
                 payload,
             },
         }
-    }
-
-    // Whether the block breaks no limit.
-    pub fn is_valid(self) -> bool
-        ensures { λ r. ⌜ r ≡ validService self ⌝ }
-    {
-        if MOST_NUMBER < self.number {
-            return false;
-        }
-        if MOST_PAYLOAD < self.len {
-            return false;
-        }
-        if self.number == 0 {
-            return self.len == 0;
-        }
-        true
     }
 
     // The number of the block.
@@ -224,6 +188,42 @@ impl Service {
         put_bytes(out, start, &payload[0..len]);
         Counted::Count(total)
     }
+
+    // Whether the block breaks no limit.
+    pub fn is_valid(self) -> bool
+        ensures { λ r. ⌜ r ≡ validService self ⌝ }
+    {
+        if MOST_NUMBER < self.number {
+            return false;
+        }
+        if MOST_PAYLOAD < self.len {
+            return false;
+        }
+        if self.number == 0 {
+            return self.len == 0;
+        }
+        true
+    }
+}
+
+// The payload of the block at the front of `data`, as a part of `data`; empty where there is none.
+pub fn payload_of(data: &[u8]) -> &[u8]
+    ensures { λ r. ⌜ now r ≡ partIn (now («data» .entry)) ⌝ }
+{
+    let head = service_headers::read_head(data, 0);
+    let Head::Whole {
+        number,
+        start,
+        size,
+    } = head
+    else {
+        return &data[0..0];
+    };
+    if number == 0 {
+        return &data[0..0];
+    }
+    let end = start + size;
+    &data[start..end]
 }
 
 // A refusal, with the block as it was.

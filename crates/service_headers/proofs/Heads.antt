@@ -16,7 +16,7 @@ use Rattle.model.proofs.Blocks.{header-one, header-two, header-bare, header-wri
 use Rattle.model.proofs.Limits.{all-there}
 use Rattle.service_headers.specs.declared.Head.{Head}
 use Rattle.service_headers.specs.declared.Head.the-variants.{Whole, Short}
-use Rattle.service_headers.specs.Head.{headOf, HeadBy, lengthFor}
+use Rattle.service_headers.specs.Head.{blockHead, HeadBy, lengthFor}
 use Rattle.basics.proofs.Runs.{sets-append}
 
 -- the header's own length
@@ -48,40 +48,40 @@ written-most n start e = rw e (by-cond (λ k. k ≤ 2) (ltb n 7) (λ _. omega ar
 -- bytes of this many that begin so
 module _ (d : List ℕ) (n h second start : ℕ) (is : length d ≡ n) (first : h ≡ getD d 0 0) (e : start ≡ headerLength h) where
   -- the header is cut
-  pub head-cut : n < start → Short start ≡ headOf d
-  unfolding headOf isShort needed
+  pub head-cut : n < start → Short start ≡ blockHead d
+  unfolding blockHead isShort needed
   head-cut k = rw (← first, ← e, is) (simp (lt-ltb _ _ k))
 
   module _ (k : start ≤ n) where
     -- the body is cut
-    pub body-cut : n < start + h % 32 → Short (start + h % 32) ≡ headOf d
-    unfolding headOf isShort needed
+    pub body-cut : n < start + h % 32 → Short (start + h % 32) ≡ blockHead d
+    unfolding blockHead isShort needed
     body-cut m = rw (← first, ← e, is) (simp (le-ltb _ _ k, lt-ltb _ _ m))
 
     module _ (m : start + h % 32 ≤ n) where
       -- two bytes: the second gives the number
-      pub head-two : (2 ≤ n → second ≡ getD d 1 0) → start ≡ 2 → Whole (second % 64) start (h % 32) ≡ headOf d
-      unfolding headOf isShort needed numberIn
+      pub head-two : (2 ≤ n → second ≡ getD d 1 0) → start ≡ 2 → Whole (second % 64) start (h % 32) ≡ blockHead d
+      unfolding blockHead isShort needed numberIn
       head-two next t = rw (← first, ← e, is, ← next (omega arith)) (simp (le-ltb _ _ k, le-ltb _ _ m, eq-eqb _ _ t))
 
       -- one byte: its top bits do
-      pub head-one : (start ≡ 2 → ⊥) → Whole (h / 32 % 8) start (h % 32) ≡ headOf d
-      unfolding headOf isShort needed numberIn
+      pub head-one : (start ≡ 2 → ⊥) → Whole (h / 32 % 8) start (h % 32) ≡ blockHead d
+      unfolding blockHead isShort needed numberIn
       head-one t = rw (← first, ← e, is) (simp (le-ltb _ _ k, le-ltb _ _ m, ne-eqb _ _ t))
 
 -- bytes from a place on, of which the header is told by the first two
 module _ (d : List ℕ) (at : ℕ) (r : Head) where
   -- nothing there
-  pub none-at : length d ≤ at → HeadBy 0 0 0 r → r ≡ headOf (drop at d)
+  pub none-at : length d ≤ at → HeadBy 0 0 0 r → r ≡ blockHead (drop at d)
   none-at h by = rw (drop-of-length-le d h) (by [] refl refl (λ _. refl))
 
   -- some
-  pub some-at : (h second n : ℕ) → length d - at ≡ n → h ≡ getD d at 0 → (2 ≤ n → second ≡ getD d (at + 1) 0) → HeadBy h second n r → r ≡ headOf (drop at d)
+  pub some-at : (h second n : ℕ) → length d - at ≡ n → h ≡ getD d at 0 → (2 ≤ n → second ≡ getD d (at + 1) 0) → HeadBy h second n r → r ≡ blockHead (drop at d)
   some-at h second n is first next by =
       by (drop at d) (length-drop at d ∙ is) (first ∙ sym (getD-drop at d 0 0 ∙ rw add-zero)) (λ k. next k ∙ sym (getD-drop at d 1 0))
 
   -- one
-  pub one-at : (h second n : ℕ) → length d - at ≡ n → n ≡ 1 → h ≡ getD d at 0 → HeadBy h second 1 r → r ≡ headOf (drop at d)
+  pub one-at : (h second n : ℕ) → length d - at ≡ n → n ≡ 1 → h ≡ getD d at 0 → HeadBy h second 1 r → r ≡ blockHead (drop at d)
   one-at h second n is one first by = some-at h second 1 (is ∙ one) first (λ k. absurd (omega arith)) by
 
 -- the first `end` bytes, from a place on
@@ -90,11 +90,11 @@ module _ (b : List ℕ) (at end n : ℕ) (r : Head) (most : n ≡ min end (lengt
   so-many = length-take end b ∙ sym most
 
   -- nothing there
-  pub none-in : n ≤ at → HeadBy 0 0 0 r → r ≡ headOf (drop at (take end b))
+  pub none-in : n ≤ at → HeadBy 0 0 0 r → r ≡ blockHead (drop at (take end b))
   none-in h by = none-at (take end b) at r (omega (arith, so-many)) by
 
   -- some: where there is a second, it stands behind the first
-  pub some-in : length b ≡ 128 → at < n → HeadBy (getD b at 0) (getD b ((at + 1) % 128) 0) (n - at) r → r ≡ headOf (drop at (take end b))
+  pub some-in : length b ≡ 128 → at < n → HeadBy (getD b at 0) (getD b ((at + 1) % 128) 0) (n - at) r → r ≡ blockHead (drop at (take end b))
   some-in is h by =
       some-at (take end b) at r (getD b at 0) (getD b ((at + 1) % 128) 0) (n - at) (rw so-many) (sym (getD-take end b at 0 (omega arith)))
       (λ k. let e : (at + 1) % 128 ≡ at + 1 = omega arith in rw e (sym (getD-take end b (at + 1) 0 (omega arith)))) by
@@ -164,14 +164,14 @@ short-parts false k n st sz k′ e = let z : _≡_ {A = ℕ} 0 1 = cc in absurd 
 
 module _ (d : List ℕ) where
   -- a whole header is so
-  pub headed : (n st sz : ℕ) → headOf d ≡ Whole n st sz → Headed d n st sz
-  unfolding headOf
+  pub headed : (n st sz : ℕ) → blockHead d ≡ Whole n st sz → Headed d n st sz
+  unfolding blockHead
   headed n st sz e =
       let w = whole-parts (isShort d) _ _ _ _ n st sz e in
       let m = all-there d (not-short d (w .0)) in
       record { whole = w .0; number = w .1; start = w .2; size = w .3; fits = omega (arith, m, w .2, w .3); some = omega (arith, header-least (getD d 0 0), w .2); small = omega (arith, w .3) }
 
   -- a short one misses bytes
-  pub head-short : (k : ℕ) → headOf d ≡ Short k → (isShort d ≡ true) × (needed d ≡ k)
-  unfolding headOf
+  pub head-short : (k : ℕ) → blockHead d ≡ Short k → (isShort d ≡ true) × (needed d ≡ k)
+  unfolding blockHead
   head-short k e = short-parts (isShort d) _ _ _ _ k e

@@ -9,13 +9,13 @@ use Rattle.model.specs.Block.{headerLength, blockSize, numberIn, needed, isShor
 use Rattle.service_headers.specs.declared.Head.{Head}
 use Rattle.service_headers.specs.declared.Head.the-variants.{Whole, Short}
 
--- "On reading, bytes missing give 1 with the count needed"; else the number, where the payload starts and its size
-unfoldable pub headOf : List ℕ → Head
-headOf d = cond (isShort d) (Short (needed d)) (Whole (numberIn d) (headerLength (getD d 0 0)) (blockSize (getD d 0 0)))
+-- how many bytes are wanted, where some are missing [B4]; else the number, where the payload starts and its size
+unfoldable pub blockHead : List ℕ → Head
+blockHead d = cond (isShort d) (Short (needed d)) (Whole (numberIn d) (headerLength (getD d 0 0)) (blockSize (getD d 0 0)))
 
 -- an answer is the header of all bytes that are so many and begin so; without a second byte any may stand for it
 abbrev pub HeadBy : ℕ → ℕ → ℕ → Head → Type 0
-HeadBy first second n r = (d : List ℕ) → length d ≡ n → first ≡ getD d 0 0 → (2 ≤ n → second ≡ getD d 1 0) → r ≡ headOf d
+HeadBy first second n r = (d : List ℕ) → length d ≡ n → first ≡ getD d 0 0 → (2 ≤ n → second ≡ getD d 1 0) → r ≡ blockHead d
 
 -- the length of a block by its number and the size of its payload, for which any bytes may stand
 abbrev pub lengthFor : ℕ → ℕ → ℕ

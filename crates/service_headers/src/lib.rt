@@ -1,13 +1,13 @@
 // The header of a block, read and written.
 ghost use mathlib.Core.Path.{_≡_};
-ghost use Prim.Native.Nat.{_%_, min};
+ghost use Prim.Native.Nat.{_%_};
 ghost use lib.ListN.{take, drop};
 ghost use lib.Seq.{sets};
 ghost use mathlib.Core.Bool.{cond};
 ghost use lib.Dec.{ltb};
 ghost use Rattle.caption.specs.Answers.{saidRefusal};
 ghost use Rattle.model.specs.Block.{headerLength, writtenHeader};
-ghost use Rattle.service_headers.specs.Head.{headOf, HeadBy, lengthFor, saidShort};
+ghost use Rattle.service_headers.specs.Head.{blockHead, HeadBy, lengthFor, saidShort};
 use basics::lesser;
 use caption::Refusal;
 
@@ -65,7 +65,7 @@ fn head_by(h: u8, second: u8, n: usize) -> Head
 
 // The header of the block that begins at `at`.
 pub fn read_head(data: &[u8], at: usize) -> Head
-    ensures { λ r. ⌜ r ≡ headOf (drop at (now («data» .entry))) ⌝ }
+    ensures { λ r. ⌜ r ≡ blockHead (drop at (now («data» .entry))) ⌝ }
 {
     let len = data.len();
     if len <= at {
@@ -80,7 +80,7 @@ pub fn read_head(data: &[u8], at: usize) -> Head
 
 // The header of the block that begins at `at`, of the first `end` bytes.
 pub fn head_in(bytes: &[u8; 128], at: usize, end: usize) -> Head
-    ensures { λ r. ⌜ r ≡ headOf (drop at (take end (now (bytes .entry)))) ⌝ }
+    ensures { λ r. ⌜ r ≡ blockHead (drop at (take end (now (bytes .entry)))) ⌝ }
 {
     let all = &bytes[..];
     let n = lesser(end, all.len());

@@ -1,19 +1,23 @@
 -- The bytes that are left fall with each block; what is stored and what the call of itself stores join to what `Stored` says. Assumes nothing.
 use mathlib.Core.Path.{_≡_}
+use mathlib.Core.Bool.{Bool}
 use Prim.Native.Nat.{_+_, _-_, _≤_, ℕ, _<_}
 use native.Mathlib.Omega.{arith}
 use denote.Ref.{now}
 use lib.ListN.{length}
 use borrow.Author.Needs.{needs}
-use Rattle.packet_blocks.specs.Reading.{moveFor, soFar, KeepRoom}
-use Rattle.packet_blocks.proofs.Reading.{reach, stored-none, stored-short, stored-next, head-room, move-within, keep-room, room-next}
+use Rattle.packet_moves.specs.Moves.{moveFor}
+use Rattle.packet_moves.proofs.Moves.{head-room, reach, move-within}
+use Rattle.packet_blocks.specs.declared.Kept.{Kept}
+use Rattle.packet_blocks.specs.Reading.{soFar, KeepRoom}
+use Rattle.packet_blocks.proofs.Reading.{stored-none, stored-short, stored-next, keep-room, room-next}
 use borrow.Fn.Kinds.{In}
 use borrow.Fn.PlainCycle.{Measures, is, falls, and}
 use Rattle.packet_blocks.proofs.read_blocks.Reads as read-blocks
 use Rattle.packet_blocks.proofs.read_blocks.Kinds as read-blocks-kinds
 use Rattle.packet_blocks.proofs.+read_blocks.Lts-read_blocks as read-blocks-lts
 use Rattle.packet_blocks.proofs.keep_block.Reads as keep-block-reads
-use Rattle.packet_blocks.proofs.moved.Reads as moved-reads
+use Rattle.packet_moves.proofs.moved.Reads as moved-reads
 use Rattle.service_headers.proofs.head_in.Reads as head-in-reads
 use Rattle.service_headers.proofs.short_of.Reads as short-of-reads
 use Rattle.packet_blocks.proofs.+read_blocks.{statement}
@@ -49,20 +53,49 @@ read-blocks-claims t = (
 abbrev Headed-at : ℕ → Type 0
 Headed-at t = read-blocks-lts.After-head (read-blocks-claims t) (read-blocks-at t) read-blocks.Post
 
-keeps : (t : ℕ) (c : Headed-at t) → (let s = c .before .before .before .before in KeepRoom (soFar (s .args .count) (s .args .used)) (s .args .at + c .head .given .0 .1 .0) (c .head .given .0 .1 .1 .0) (length (now (s .args .bytes))))
+-- where it begins, where the bytes end, and how the reader moves
+abbrev Here : (t : ℕ) → Headed-at t → ℕ
+Here t c = c .before .before .before .before .args .at
+
+abbrev End : (t : ℕ) → Headed-at t → ℕ
+End t c = c .before .before .before .before .args .end
+
+abbrev Tidy : (t : ℕ) → Headed-at t → Bool
+Tidy t c = c .before .before .before .before .args .tidy
+
+-- what is kept so far
+abbrev At : (t : ℕ) → Headed-at t → Kept
+At t c = soFar (c .before .before .before .before .args .count) (c .before .before .before .before .args .used)
+
+-- the number that the header gives, where the payload starts and its size
+abbrev N : (t : ℕ) → Headed-at t → ℕ
+N t c = c .head .given .0 .0
+
+abbrev St : (t : ℕ) → Headed-at t → ℕ
+St t c = c .head .given .0 .1 .0
+
+abbrev Sz : (t : ℕ) → Headed-at t → ℕ
+Sz t c = c .head .given .0 .1 .1 .0
+
+-- the payload is there, and has room
+keeps : (t : ℕ) (c : Headed-at t) → KeepRoom (At t c) (Here t c + St t c) (Sz t c) (length (now (c .before .before .before .before .args .bytes)))
 keeps t c =
     let s = c .before .before .before .before in
-    keep-room _ _ (s .pre .1 .1) (s .args .tidy) _ (c .before .before .before .if1 .left) _ (c .before .before .head-in .ensures) _ _ _ (c .head .given .1) _ (s .pre .1 .0)
+    keep-room _ _ (s .pre .1 .1) (Tidy t c) _ (c .before .before .before .if1 .left) _ (c .before .before .head-in .ensures) _ _ _ (c .head .given .1) _ (s .pre .1 .0)
 
-reaches : (t : ℕ) (c : Headed-at t) → (let s = c .before .before .before .before in s .args .at + c .head .given .0 .1 .0 + c .head .given .0 .1 .1 .0 ≤ s .args .end)
+reaches : (t : ℕ) (c : Headed-at t) → Here t c + St t c + Sz t c ≤ End t c
 reaches t c =
     let s = c .before .before .before .before in
-    reach _ _ (s .pre .1 .1) (s .args .tidy) _ (c .before .before .before .if1 .left) _ (c .before .before .head-in .ensures) _ _ _ (c .head .given .1)
+    reach _ _ (s .pre .1 .1) (Tidy t c) _ (c .before .before .before .if1 .left) _ (c .before .before .head-in .ensures) _ _ _ (c .head .given .1)
 
-within : (t : ℕ) (c : Headed-at t) (m : ℕ) → (let s = c .before .before .before .before in m ≡ moveFor (s .args .tidy) (c .head .given .0 .0) (c .head .given .0 .1 .0) (c .head .given .0 .1 .1 .0) → (s .args .at + m ≤ s .args .end) × (1 ≤ m))
+small : (t : ℕ) (c : Headed-at t) → (St t c ≤ 2) × (Sz t c ≤ 31)
+small t c = head-room _ _ _ _ _ (c .before .before .head-in .ensures) (c .head .given .1)
+
+-- the next place is within the bytes, and further on
+within : (t : ℕ) (c : Headed-at t) (m : ℕ) → m ≡ moveFor (Tidy t c) (N t c) (St t c) (Sz t c) → (Here t c + m ≤ End t c) × (1 ≤ m)
 within t c m e =
     let s = c .before .before .before .before in
-    move-within _ _ (s .pre .1 .1) (s .args .tidy) _ (c .before .before .before .if1 .left) _ (c .before .before .head-in .ensures) _ _ _ (c .head .given .1) m e
+    move-within _ _ (s .pre .1 .1) (Tidy t c) _ (c .before .before .before .if1 .left) _ (c .before .before .head-in .ensures) _ _ _ (c .head .given .1) m e
 
 read-blocks-returns : (t : ℕ) → read-blocks-lts.Need-returns (read-blocks-claims t) (read-blocks-at t) read-blocks.Post
 read-blocks-returns t c = search (needs, stored-none)
@@ -91,8 +124,14 @@ read-blocks-add-keep-block t c = omega (arith, reaches t (c .before), c .before 
 read-blocks-keep-block-requires : (t : ℕ) → read-blocks-lts.Need-keep-block-requires (read-blocks-claims t) (read-blocks-at t) read-blocks.Post
 read-blocks-keep-block-requires t c κs = keeps t (c .before .before .before .before)
 
+read-blocks-cast-moved : (t : ℕ) → read-blocks-lts.Need-cast-moved (read-blocks-claims t) (read-blocks-at t) read-blocks.Post
+read-blocks-cast-moved t c = omega (arith, small t (c .before .before .before .before .before) .0)
+
+read-blocks-cast-moved-2 : (t : ℕ) → read-blocks-lts.Need-cast-moved-2 (read-blocks-claims t) (read-blocks-at t) read-blocks.Post
+read-blocks-cast-moved-2 t c = omega (arith, small t (c .before .before .before .before .before) .1)
+
 read-blocks-moved-requires : (t : ℕ) → read-blocks-lts.Need-moved-requires (read-blocks-claims t) (read-blocks-at t) read-blocks.Post
-read-blocks-moved-requires t c κs = let h = c .before .before .before .before .before in head-room _ _ _ _ _ (h .before .before .head-in .ensures) (h .head .given .1)
+read-blocks-moved-requires t c κs = search needs
 
 read-blocks-add-read-blocks : (t : ℕ) → read-blocks-lts.Need-add-read-blocks (read-blocks-claims t) (read-blocks-at t) read-blocks.Post
 read-blocks-add-read-blocks t c = omega (arith, within t (c .before .before .before .before .before .before) (c .moved .result) (c .moved .ensures) .0)
@@ -103,14 +142,19 @@ read-blocks-read-blocks-requires t c κs = let m = c .before .before .before in
     let h = k .before .before .before .before .before in
     let s = h .before .before .before .before in
     let w = within t h (m .moved .result) (m .moved .ensures) in
-    (omega (arith, w .0, w .1), (room-next _ _ (s .pre .1 .1) (s .args .tidy) _ (h .before .before .before .if1 .left) _ (h .before .before .head-in .ensures) _ _ _ (h .head .given .1) _ (m .moved .ensures) _ _ (k .keep-block .ensures .0) (s .pre .1 .0), s .pre .1 .1))
+    let i = h .before .before in
+    let room = room-next _ _ (s .pre .1 .1) (s .args .tidy) _ (i .before .if1 .left) _ (i .head-in .ensures) _ _ _ (h .head .given .1) _ (m .moved .ensures) _ _
+    (k .keep-block .ensures .0) (s .pre .1 .0) in
+    (omega (arith, w .0, w .1), (room, s .pre .1 .1))
 
 read-blocks-returns-3 : (t : ℕ) → read-blocks-lts.Need-returns-3 (read-blocks-claims t) (read-blocks-at t) read-blocks.Post
 read-blocks-returns-3 t c = let m = c .before .before .before .before in
     let k = m .before in
     let h = k .before .before .before .before .before in
     let s = h .before .before .before .before in
-    stored-next _ _ (s .pre .1 .1) (s .args .tidy) _ (h .before .before .before .if1 .left) _ (h .before .before .head-in .ensures) _ _ _ (h .head .given .1) _ (m .moved .ensures) _ _ (k .keep-block .ensures .0) _ _ _ _ _ _ _ _ _ _ (k .keep-block .ensures .1) (c .read-blocks .ensures)
+    let i = h .before .before in
+    stored-next _ _ (s .pre .1 .1) (s .args .tidy) _ (i .before .if1 .left) _ (i .head-in .ensures) _ _ _ (h .head .given .1) _ (m .moved .ensures) _ _
+    (k .keep-block .ensures .0) _ _ _ _ (k .keep-block .ensures .1) (c .read-blocks .ensures)
 
 pub +read-blocks-spec : {M : Type 1} → statement M
 +read-blocks-spec = close μ-read-blocks λ t. read-blocks-lts.spec (read-blocks-claims t)
@@ -125,6 +169,8 @@ pub +read-blocks-spec : {M : Type 1} → statement M
     (read-blocks-returns-2 t)
     (read-blocks-add-keep-block t)
     (read-blocks-keep-block-requires t)
+    (read-blocks-cast-moved t)
+    (read-blocks-cast-moved-2 t)
     (read-blocks-moved-requires t)
     (read-blocks-add-read-blocks t)
     (read-blocks-read-blocks-requires t)

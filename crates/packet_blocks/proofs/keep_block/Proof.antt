@@ -18,10 +18,10 @@ part-length : (c : tie.Start) → length (P c) ≡ c .args .size
 part-length c = part-of (now (c .args .bytes)) (c .args .from) (c .args .size) (c .pre .there)
 
 returns : tie.Need-returns
-returns c = keep-null _ _ _ _ _ _ (c .if1 .taken)
+returns c = keep-null _ _ _ _ (c .if1 .taken)
 
 returns-2 : tie.Need-returns-2
-returns-2 c = keep-empty _ _ _ _ _ _ (c .before .if1 .left) (part-length (c .before .before) ∙ c .if2 .taken)
+returns-2 c = keep-empty _ _ _ _ (c .before .if1 .left) (part-length (c .before .before) ∙ c .if2 .taken)
 
 add-end : tie.Need-add-end
 add-end c = search needs
@@ -54,7 +54,10 @@ add-t26 : tie.Need-add-t26
 add-t26 c = search needs
 
 returns-3 : tie.Need-returns-3
-returns-3 c = let s = c .before .before .before .before .before .before in keep-some _ (P s) _ _ _ _ (s .args .size) _ (c .before .before .before .before .before .if1 .left) (c .before .before .before .before .if2 .left) (part-length s) (c .put-payload .ensures ∙ rw add-sub-cancel-left)
+returns-3 c =
+    let t = c .before .before .before .before in
+    let s = t .before .before in
+    keep-some _ (P s) _ _ (s .args .size) _ (t .before .if1 .left) (t .if2 .left) (part-length s) (c .put-payload .ensures ∙ rw add-sub-cancel-left)
 
 pub keep-block-spec : {M : Type 1} → statement M
 keep-block-spec =

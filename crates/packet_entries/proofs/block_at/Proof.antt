@@ -56,7 +56,8 @@ returns-2 c =
     let f = l .before in
     let s = f .before in
     let w = s .before in
-    place-is _ _ _ _ (w .before .before .if1 .left) _ _ _ _ _ (w .wide .ensures .0) (s .sum-of .ensures) (full (c .before .before .before .before .before)) (f .lesser .ensures) (l .lesser2 .ensures) (c .before .before .put-bytes .ensures)
+    place-is _ _ _ _ (w .before .before .if1 .left) _ _ _ _ _ (w .wide .ensures .0) (s .sum-of .ensures)
+    (full (c .before .before .before .before .before)) (f .lesser .ensures) (l .lesser2 .ensures) (c .before .before .put-bytes .ensures)
 
 pub block-at-spec : {M : Type 1} → statement M
 block-at-spec =

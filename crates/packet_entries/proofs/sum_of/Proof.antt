@@ -42,7 +42,8 @@ loop-again : tie.Need-loop-again Inv-loop μ-loop
 loop-again c =
     let l = c .before .before .before .loop in
     let s = c .before .before .before .before .before in
-    (omega arith, l .inv .1, omega (arith, c .wide .ensures .1), omega (arith, l .inv .3, c .wide .ensures .0, sum-at (s .args .sizes .now) (s .args .count) (l .i) (c .before .before .loop-test .taken)))
+    let sum = sum-at (s .args .sizes .now) (s .args .count) (l .i) (c .before .before .loop-test .taken) in
+    (omega arith, l .inv .1, omega (arith, c .wide .ensures .1), omega (arith, l .inv .3, c .wide .ensures .0, sum))
 
 returns-2 : tie.Need-returns-2 Inv-loop μ-loop
 returns-2 c = omega (arith, c .before .loop .inv .3, sum-done (c .before .before .before .args .sizes .now) (c .before .before .before .args .count) (c .before .loop .i) (c .loop-test .left))

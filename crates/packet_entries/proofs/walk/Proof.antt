@@ -26,13 +26,19 @@ good-entry-requires : tie.Need-good-entry-requires Inv-loop μ-loop
 good-entry-requires c κs = search needs
 
 returns : tie.Need-returns Inv-loop μ-loop
-returns c = let l = c .before .before .before .before .before in going-bad _ _ _ _ _ _ (l .loop .inv) _ (c .before .before .before .before .loop-test .taken) (c .before .good-entry .ensures) (not-true _ (c .if1 .taken))
+returns c =
+    let t = c .before .before .before .before in
+    going-bad _ _ _ _ _ _ (t .before .loop .inv) _ (t .loop-test .taken) (c .before .good-entry .ensures) (not-true _ (c .if1 .taken))
 
 block-length-requires : tie.Need-block-length-requires Inv-loop μ-loop
 block-length-requires c κs = search needs
 
 add-lengths : tie.Need-add-lengths Inv-loop μ-loop
-add-lengths c = let l = c .before .before .before .before .before .before in omega (arith, going-room _ _ _ _ _ _ (l .loop .inv) _ (c .block-length .result) (c .before .before .before .before .before .loop-test .taken) (c .before .before .good-entry .ensures) (not-false _ (c .before .if1 .left)) (c .block-length .ensures))
+add-lengths c =
+    let t = c .before .before .before .before .before in
+    let good = not-false _ (c .before .if1 .left) in
+    let room = going-room _ _ _ _ _ _ (t .before .loop .inv) _ (c .block-length .result) (t .loop-test .taken) (c .before .before .good-entry .ensures) good (c .block-length .ensures) in
+    omega (arith, room)
 
 wide-requires : tie.Need-wide-requires Inv-loop μ-loop
 wide-requires c κs = search needs
@@ -47,7 +53,9 @@ loop-less : tie.Need-loop-less Inv-loop μ-loop
 loop-less c = omega arith
 
 loop-again : tie.Need-loop-again Inv-loop μ-loop
-loop-again c = let l = c .before .before .before .before .before .before .before in going-next _ _ _ _ _ _ (l .loop .inv) _ _ _ (c .before .before .before .before .before .before .loop-test .taken) (c .before .before .before .good-entry .ensures) (not-false _ (c .before .before .if1 .left)) (c .before .block-length .ensures) (c .wide .ensures .0)
+loop-again c =
+    let t = c .before .before .before .before .before .before in
+    going-next _ _ _ _ _ _ (t .before .loop .inv) _ _ _ (t .loop-test .taken) (c .before .before .before .good-entry .ensures) (not-false _ (c .before .before .if1 .left)) (c .before .block-length .ensures) (c .wide .ensures .0)
 
 returns-2 : tie.Need-returns-2 Inv-loop μ-loop
 returns-2 c = going-last _ _ _ _ _ _ (c .before .loop .inv) (c .loop-test .left)

@@ -41,7 +41,9 @@ put-bytes-requires-2 : tie.Need-put-bytes-requires-2
 put-bytes-requires-2 c κs = search needs
 
 returns : tie.Need-returns
-returns c = (refl, c .put-bytes2 .ensures ∙ rw (c .before .before .before .before .put-bytes .ensures, c .before .before .before .before .before .before .before .sum-of .ensures))
+returns c =
+    let b = c .before .before .before .before in
+    record { size = refl; bytes = c .put-bytes2 .ensures ∙ rw (b .put-bytes .ensures, b .before .before .before .sum-of .ensures) }
 
 pub extend-spec : {M : Type 1} → statement M
 extend-spec =

@@ -36,13 +36,24 @@ sub-t20 : tie.Need-sub-t20
 sub-t20 c = search needs
 
 returns-2 : tie.Need-returns-2
-returns-2 c = λ places. let s = c .before .before .before .before .before in at-full (P s) _ _ (s .pre .0) places _ (s .pre .1) _ (c .before .before .before .if1 .left) _ (c .before .block-room .ensures) (c .if2 .taken) _ refl
+returns-2 c = λ places.
+    let i = c .before .before .before in
+    let s = i .before .before in
+    at-full (P s) _ _ (s .pre .0) places _ (s .pre .1) _ (i .if1 .left) _ (c .before .block-room .ensures) (c .if2 .taken) _ refl
 
 extend-requires : tie.Need-extend-requires
-extend-requires c κs = let s = c .before .before .before .before .before .before .before in at-room (P s) _ _ (s .pre .0) _ _ _ (s .pre .1) (c .before .before .before .before .before .if1 .left) (c .before .before .before .block-room .ensures) (c .before .before .if2 .left)
+extend-requires c κs =
+    let b = c .before .before .before in
+    let i = b .before .before in
+    let s = i .before .before in
+    at-room (P s) _ _ (s .pre .0) _ _ _ (s .pre .1) (i .if1 .left) (b .block-room .ensures) (c .before .before .if2 .left)
 
 returns-3 : tie.Need-returns-3
-returns-3 c = λ places. let s = c .before .before .before .before .before .before .before .before in at-fits (P s) _ _ (s .pre .0) places _ (s .pre .1) _ (c .before .before .before .before .before .before .if1 .left) _ (c .before .before .before .before .block-room .ensures) (c .before .before .before .if2 .left) _ _ (c .extend .ensures .0) (c .extend .ensures .1)
+returns-3 c = λ places.
+    let f = c .before .before .before in
+    let i = f .before .before .before in
+    let s = i .before .before in
+    at-fits (P s) _ _ (s .pre .0) places _ (s .pre .1) _ (i .if1 .left) _ (f .before .block-room .ensures) (f .if2 .left) _ _ (c .extend .ensures)
 
 pub push-at-spec : {M : Type 1} → statement M
 push-at-spec =

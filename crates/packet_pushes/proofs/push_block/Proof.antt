@@ -44,13 +44,18 @@ enum-told : tie.Need-enum-told
 enum-told c = search needs
 
 returns : tie.Need-returns
-returns c = λ places. let e = c .before .before in let s = c .before .before .before .before .before .before in block-invalid (P s) places (extent-invalid (P s) _ (e .extent-of .ensures) (c .enum-told .given .1)) _ refl _
+returns c = λ places.
+    let e = c .before .before in
+    let s = e .before .before .before .before in
+    block-invalid (P s) places (extent-invalid (P s) _ (e .extent-of .ensures) (c .enum-told .given .1)) _ refl _
 
 is-valid-requires : tie.Need-is-valid-requires
 is-valid-requires c κs = search needs
 
 returns-2 : tie.Need-returns-2
-returns-2 c = λ places. let e = c .before .before .before in service-invalid (P (start e)) _ _ (sized e) places _ (sym (c .before .is-valid .ensures) ∙ not-true _ (c .if1 .taken)) _ refl
+returns-2 c = λ places.
+    let e = c .before .before .before in
+    service-invalid (P (start e)) _ _ (sized e) places _ (sym (c .before .is-valid .ensures) ∙ not-true _ (c .if1 .taken)) _ refl
 
 returns-3 : tie.Need-returns-3
 returns-3 c = λ places. let e = c .before .before .before .before in block-empty (P (start e)) _ _ (sized e) places _ (valid (c .before)) (full (start e)) (c .if2 .taken) _ refl
@@ -62,13 +67,27 @@ part-push-new-start : tie.Need-part-push-new-start
 part-push-new-start c = search needs
 
 part-push-new-end : tie.Need-part-push-new-end
-part-push-new-end c = let x = c .before .before in let s = start (x .before .before .before) in let p : s .args .service .len ≤ length (s .args .service .payload) = omega (arith, valid-len (s .args .service) (valid x), full s) in p
+part-push-new-end c =
+    let x = c .before .before in
+    let s = start (x .before .before .before) in
+    let p : s .args .service .len ≤ length (s .args .service .payload) = omega (arith, valid-len (s .args .service) (valid x), full s) in
+    p
 
 push-new-requires : tie.Need-push-new-requires
-push-new-requires c κs = let x = c .before .before .before .before .before .before in let e = x .before .before .before in let r = block-run (P (start e)) _ _ (sized e) ((start e) .args .service) (valid x) (full (start e)) (c .before .before .before .before .before .if2 .left) in (sized e, rw sub-zero (r .0), r .1)
+push-new-requires c κs =
+    let f = c .before .before .before .before .before in
+    let x = f .before in
+    let e = x .before .before .before in
+    let r = block-run (P (start e)) _ _ (sized e) ((start e) .args .service) (valid x) (full (start e)) (f .if2 .left) in
+    (sized e, rw sub-zero (r .0), r .1)
 
 returns-4 : tie.Need-returns-4
-returns-4 c = λ places. let x = c .before .before .before .before .before .before .before in let e = x .before .before .before in same-stores _ _ _ _ _ _ _ (block-new (P (start e)) _ _ (sized e) places ((start e) .args .service) (valid x) (full (start e)) (c .before .before .before .before .before .before .if2 .left)) (rw sub-zero at (c .push-new .ensures places))
+returns-4 c = λ places.
+    let f = c .before .before .before .before .before .before in
+    let x = f .before in
+    let e = x .before .before .before in
+    same-stores _ _ _ _ _ (block-new (P (start e)) _ _ (sized e) places ((start e) .args .service) (valid x) (full (start e)) (f .if2 .left))
+    (rw sub-zero at (c .push-new .ensures places))
 
 pub push-block-spec : {M : Type 1} → statement M
 push-block-spec =

@@ -1,5 +1,6 @@
 -- The tests of `pushNew` in its order; a run that fits is stored as a block. Assumes nothing.
 use mathlib.Core.Path.{refl}
+use Prim.Native.Nat.{_≤_}
 use native.Mathlib.Omega.{arith}
 use denote.Ref.{now}
 use Rattle.packet_entries.specs.Fields.{Fields, fields}
@@ -11,6 +12,13 @@ use Rattle.packet_pushes.proofs.push_new.Tie as tie
 
 abbrev P : tie.Start → Fields
 P c = fields (c .args .seq-no) (c .args .at .count) (now (c .args .numbers)) (now (c .args .sizes)) (now (c .args .payload))
+
+-- where the run fits there are fewer than 63 blocks
+few : (c : tie.Else3) → c .before .before .before .before .before .args .at .count ≤ 62
+few c =
+    let i = c .before .before in
+    let s = i .before .before .before in
+    new-room (P s) _ _ (s .pre .0) (s .args .service-no) _ _ (s .pre .1) (i .if2 .left) (c .before .block-length .ensures) (c .if3 .left)
 
 returns : tie.Need-returns
 returns c = λ places. let s = c .before .before in new-null (P s) _ _ (s .pre .0) places _ _ (c .if1 .taken) _ refl
@@ -34,16 +42,23 @@ sub-t18 : tie.Need-sub-t18
 sub-t18 c = search needs
 
 returns-3 : tie.Need-returns-3
-returns-3 c = λ places. let s = c .before .before .before .before .before in new-over (P s) _ _ (s .pre .0) places _ _ (c .before .before .before .if1 .left) (s .pre .1) (c .before .before .if2 .left) _ (c .before .block-length .ensures) (c .if3 .taken) _ refl
+returns-3 c = λ places.
+    let i = c .before .before in
+    let s = i .before .before .before in
+    new-over (P s) _ _ (s .pre .0) places _ _ (i .before .if1 .left) (s .pre .1) (i .if2 .left) _ (c .before .block-length .ensures) (c .if3 .taken) _ refl
 
 put-entry-requires : tie.Need-put-entry-requires
-put-entry-requires c κs = let s = c .before .before .before .before .before .before .before .before in (new-room (P s) _ _ (s .pre .0) (s .args .service-no) _ _ (s .pre .1) (c .before .before .before .before .before .if2 .left) (c .before .before .before .before .block-length .ensures) (c .before .before .before .if3 .left), c .before .before .before .before .before .if2 .left)
+put-entry-requires c κs = let f = c .before .before .before in (few f, f .before .before .if2 .left)
 
 add-t24 : tie.Need-add-t24
-add-t24 c = let s = c .before .before .before .before .before .before .before .before .before in omega (arith, new-room (P s) _ _ (s .pre .0) (s .args .service-no) _ _ (s .pre .1) (c .before .before .before .before .before .before .if2 .left) (c .before .before .before .before .before .block-length .ensures) (c .before .before .before .before .if3 .left))
+add-t24 c = omega (arith, few (c .before .before .before .before))
 
 returns-4 : tie.Need-returns-4
-returns-4 c = λ places. let s = c .before .before .before .before .before .before .before .before .before in new-fits (P s) _ _ (s .pre .0) places _ _ (c .before .before .before .before .before .before .before .if1 .left) (s .pre .1) (c .before .before .before .before .before .before .if2 .left) _ (c .before .before .before .before .before .block-length .ensures) (c .before .before .before .before .if3 .left) _ _ _ (c .put-entry .ensures)
+returns-4 c = λ places.
+    let f = c .before .before .before .before in
+    let i = f .before .before in
+    let s = i .before .before .before in
+    new-fits (P s) _ _ (s .pre .0) places _ _ (i .before .if1 .left) (s .pre .1) (i .if2 .left) _ (f .before .block-length .ensures) (f .if3 .left) _ (c .put-entry .ensures)
 
 pub push-new-spec : {M : Type 1} → statement M
 push-new-spec =

@@ -30,7 +30,8 @@ few c = within-facts (P (start c)) (sized c .valid) .count
 abbrev ext : tie.After-latest → tie.After-extent
 ext c = c .before .before .before .before .before
 
-new-room : (c : tie.After-latest) → Sized (P (start (ext c))) ((ext c) .extent .given .0 .0) ((ext c) .extent .given .0 .1 .0) × (1 ≤ length (now ((start (ext c)) .args .code))) × ((start (ext c)) .args .service-no ≤ 63)
+new-room : (c : tie.After-latest)
+    → Sized (P (start (ext c))) ((ext c) .extent .given .0 .0) ((ext c) .extent .given .0 .1 .0) × (1 ≤ length (now ((start (ext c)) .args .code))) × ((start (ext c)) .args .service-no ≤ 63)
 new-room c = (sized (ext c), omega (arith, c .before .before .if2 .left), c .before .before .before .if1 .left)
 
 -- and that it is one of the packet's
@@ -47,7 +48,10 @@ enum-told : tie.Need-enum-told
 enum-told c = search needs
 
 returns : tie.Need-returns
-returns c = λ places. let e = c .before .before in let s = c .before .before .before .before .before .before in run-invalid (P s) places (extent-invalid (P s) _ (e .extent-of .ensures) (c .enum-told .given .1)) _ refl _ _ _
+returns c = λ places.
+    let e = c .before .before in
+    let s = e .before .before .before .before in
+    run-invalid (P s) places (extent-invalid (P s) _ (e .extent-of .ensures) (c .enum-told .given .1)) _ refl _ _ _
 
 returns-2 : tie.Need-returns-2
 returns-2 c = λ places. let e = c .before .before in run-number (P (start e)) _ _ (sized e) places _ _ _ (c .if1 .taken) _ refl
@@ -68,7 +72,13 @@ push-new-requires : tie.Need-push-new-requires
 push-new-requires c κs = new-room (c .before .before .before .before .before)
 
 returns-4 : tie.Need-returns-4
-returns-4 c = λ places. let t = c .before .before .before .before .before .before in let e = ext t in same-stores _ _ _ _ _ _ _ (run-none (P (start e)) _ _ (sized e) places _ _ _ (t .before .before .before .if1 .left) (t .before .before .if2 .left) _ (t .latest .ensures) (c .before .before .before .before .enum-told2 .given .1)) (c .push-new .ensures places)
+returns-4 c = λ places.
+    let n = c .before .before .before .before in
+    let t = n .before .before in
+    let i = t .before .before in
+    let e = ext t in
+    same-stores _ _ _ _ _ (run-none (P (start e)) _ _ (sized e) places _ _ _ (i .before .if1 .left) (i .if2 .left) _ (t .latest .ensures) (n .enum-told2 .given .1))
+    (c .push-new .ensures places)
 
 element-copy-out-block-room : tie.Need-element-copy-out-block-room
 element-copy-out-block-room c = let f = c .before in omega (arith, there f, few (ext (f .before .before)))
@@ -83,13 +93,33 @@ push-new-requires-2 : tie.Need-push-new-requires-2
 push-new-requires-2 c κs = new-room (c .before .before .before .before .before .before .before .before .before .before)
 
 returns-5 : tie.Need-returns-5
-returns-5 c = λ places. let f = c .before .before .before .before .before .before .before .before .before in let t = f .before .before in let e = ext t in same-stores _ _ _ _ _ _ _ (run-full (P (start e)) _ _ (sized e) places _ _ _ (t .before .before .before .if1 .left) (t .before .before .if2 .left) _ (t .latest .ensures) _ (f .found .given .1) (there f) _ (c .before .before .before .before .before .before .block-room .ensures) _ (c .before .before .before .before .before .lacks-room .ensures) (c .before .before .before .before .if3 .taken)) (c .push-new2 .ensures places)
+returns-5 c = λ places.
+    let j = c .before .before .before .before in
+    let k = j .before in
+    let f = k .before .before .before .before in
+    let t = f .before .before in
+    let i = t .before .before in
+    let e = ext t in
+    same-stores _ _ _ _ _
+    (run-full (P (start e)) _ _ (sized e) places _ _ _ (i .before .if1 .left) (i .if2 .left) _ (t .latest .ensures) _ (f .found .given .1) (there f) _
+    (k .before .block-room .ensures) _ (k .lacks-room .ensures) (j .if3 .taken))
+    (c .push-new2 .ensures places)
 
 push-at-requires : tie.Need-push-at-requires
 push-at-requires c κs = let f = c .before .before .before .before .before .before .before .before in (sized (ext (f .before .before)), there f)
 
 returns-6 : tie.Need-returns-6
-returns-6 c = λ places. let f = c .before .before .before .before .before .before .before .before .before in let t = f .before .before in let e = ext t in same-stores _ _ _ _ _ _ _ (run-at (P (start e)) _ _ (sized e) places _ _ _ (t .before .before .before .if1 .left) (t .before .before .if2 .left) _ (t .latest .ensures) _ (f .found .given .1) (there f) _ (c .before .before .before .before .before .before .block-room .ensures) _ (c .before .before .before .before .before .lacks-room .ensures) (c .before .before .before .before .if3 .left)) (c .push-at .ensures places)
+returns-6 c = λ places.
+    let j = c .before .before .before .before in
+    let k = j .before in
+    let f = k .before .before .before .before in
+    let t = f .before .before in
+    let i = t .before .before in
+    let e = ext t in
+    same-stores _ _ _ _ _
+    (run-at (P (start e)) _ _ (sized e) places _ _ _ (i .before .if1 .left) (i .if2 .left) _ (t .latest .ensures) _ (f .found .given .1) (there f) _
+    (k .before .block-room .ensures) _ (k .lacks-room .ensures) (j .if3 .left))
+    (c .push-at .ensures places)
 
 pub push-run-spec : {M : Type 1} → statement M
 push-run-spec =

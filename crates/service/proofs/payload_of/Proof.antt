@@ -8,7 +8,7 @@ use native.Mathlib.Omega.{arith}
 use denote.Ref.{now}
 use borrow.Author.Needs.{needs}
 use Rattle.service_headers.specs.declared.Head.the-variants.{Whole}
-use Rattle.service_headers.specs.Head.{headOf}
+use Rattle.service_headers.specs.Head.{blockHead}
 use Rattle.service_headers.proofs.Heads.{Headed, headed}
 use Rattle.service.proofs.Parts.{part-short, part-null, part-some}
 use Rattle.service.proofs.payload_of.Statement.{statement}
@@ -27,7 +27,7 @@ abbrev Sz : tie.After-head → ℕ
 Sz c = c .head .given .0 .1 .1 .0
 
 -- the header is whole, with these values
-is : (c : tie.After-head) → headOf (D c) ≡ Whole (c .head .given .0 .0) (St c) (Sz c)
+is : (c : tie.After-head) → blockHead (D c) ≡ Whole (c .head .given .0 .0) (St c) (Sz c)
 is c = sym (c .before .before .read-head .ensures) ∙ c .head .given .1
 
 -- what follows of that

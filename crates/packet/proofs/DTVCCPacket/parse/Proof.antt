@@ -1,15 +1,20 @@
 -- It is the reader with the plain rules. Assumes nothing.
-use Rattle.packet_blocks.specs.Reading.{readAs}
+use mathlib.Core.Bool.{false}
+use Rattle.packet_moves.specs.Moves.{readAs}
+use Rattle.packet.proofs.Replies.{read-within, read-answer}
 use borrow.Author.Needs.{needs}
 use Rattle.packet.proofs.DTVCCPacket.parse.Statement.{statement}
 use Rattle.packet.proofs.DTVCCPacket.parse.Tie as tie
 
-read-packet-requires : tie.Need-read-packet-requires
-read-packet-requires c κs = search needs
+read-requires : tie.Need-read-requires
+read-requires c κs = search needs
+
+packet-of-requires : tie.Need-packet-of-requires
+packet-of-requires c κs = search needs
 
 returns : tie.Need-returns
 unfolding readAs
-returns c = c .read-packet .ensures
+returns c = read-answer _ _ _ (read-within false _) (c .packet-of .ensures) (c .before .read .ensures)
 
 pub parse-spec : {M : Type 1} → statement M
-parse-spec = tie.close (tie.spec read-packet-requires returns)
+parse-spec = tie.close (tie.spec read-requires packet-of-requires returns)

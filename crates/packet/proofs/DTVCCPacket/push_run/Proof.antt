@@ -15,7 +15,9 @@ answered-requires : tie.Need-answered-requires
 answered-requires c κs = search needs
 
 returns : tie.Need-returns
-returns c = let s = c .before .before .before .before .before .before .before .before .before in run-stored (s .args .self) (places s) _ _ _ _ _ (c .answered .ensures) _ _ _ (c .before .push-run .ensures)
+returns c =
+    let s = c .before .before .before .before .before .before .before .before .before in
+    run-stored (s .args .self) (places s) _ _ _ (c .answered .ensures) _ _ _ (c .before .push-run .ensures)
 
 pub push-run-spec : {M : Type 1} → statement M
 push-run-spec = tie.close (tie.spec push-run-requires answered-requires returns)

@@ -15,7 +15,9 @@ answered-requires : tie.Need-answered-requires
 answered-requires c κs = search needs
 
 returns : tie.Need-returns
-returns c = let s = c .before .before .before .before .before .before .before .before in block-stored (s .args .self) (places s) _ _ _ _ _ (c .answered .ensures) _ (c .before .push-block .ensures)
+returns c =
+    let s = c .before .before .before .before .before .before .before .before in
+    block-stored (s .args .self) (places s) _ _ _ (c .answered .ensures) _ (c .before .push-block .ensures)
 
 pub push-service-spec : {M : Type 1} → statement M
 push-service-spec = tie.close (tie.spec push-block-requires answered-requires returns)

@@ -1,6 +1,7 @@
 -- `Service::free_space` meets its contract: within the limits the payload is as long as `len` says, so that 31 less `len` is the room. Assumes nothing.
 use borrow.Author.Needs.{needs}
-use Rattle.service.proofs.Services.{small-len, measure-bad, measure-room}
+use Rattle.caption.proofs.Answers.{measure-bad}
+use Rattle.service.proofs.Services.{small-len, measure-room}
 use Rattle.service.proofs.Service.free_space.Statement.{statement}
 use Rattle.service.proofs.Service.free_space.Tie as tie
 

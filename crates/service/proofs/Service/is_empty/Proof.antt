@@ -1,6 +1,7 @@
 -- `Service::is_empty` meets its contract: within the limits the payload is as long as `len` says. Assumes nothing.
 use borrow.Author.Needs.{needs}
-use Rattle.service.proofs.Services.{measure-bad, measure-empty}
+use Rattle.caption.proofs.Answers.{measure-bad}
+use Rattle.service.proofs.Services.{measure-empty}
 use Rattle.service.proofs.Service.is_empty.Statement.{statement}
 use Rattle.service.proofs.Service.is_empty.Tie as tie
 

@@ -1,7 +1,8 @@
 -- `Service::len` meets its contract: within the limits the length of the block follows from its number and its `len` alone. Assumes nothing.
 use native.Mathlib.Omega.{arith}
 use borrow.Author.Needs.{needs}
-use Rattle.service.proofs.Services.{small-len, measure-bad, measure-length}
+use Rattle.caption.proofs.Answers.{measure-bad}
+use Rattle.service.proofs.Services.{small-len, measure-length}
 use Rattle.service.proofs.Service.len.Statement.{statement}
 use Rattle.service.proofs.Service.len.Tie as tie
 

@@ -1,6 +1,6 @@
 -- `Service::number` meets its contract: it answers 11 where the test of the limits fails, and the number where it passes. Assumes nothing.
 use borrow.Author.Needs.{needs}
-use Rattle.service.proofs.Services.{measure-bad, measure-good}
+use Rattle.caption.proofs.Answers.{measure-bad, measure-good}
 use Rattle.service.proofs.Service.number.Statement.{statement}
 use Rattle.service.proofs.Service.number.Tie as tie
 

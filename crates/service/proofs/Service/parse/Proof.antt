@@ -10,7 +10,7 @@ use lib.Seq.{sets}
 use denote.Ref.{now}
 use borrow.Author.Needs.{needs}
 use Rattle.service_headers.specs.declared.Head.the-variants.{Whole}
-use Rattle.service_headers.specs.Head.{headOf}
+use Rattle.service_headers.specs.Head.{blockHead}
 use Rattle.service_headers.proofs.Heads.{Headed, headed}
 use Rattle.service.proofs.Services.{refuses, gives, blank-places, parse-short, parse-null, parse-some, part-length, laid-as}
 use Rattle.service.proofs.Service.parse.Statement.{statement}
@@ -33,7 +33,7 @@ abbrev Sz : tie.After-head → ℕ
 Sz c = c .head .given .0 .1 .1 .0
 
 -- the header is whole, with these values
-is : (c : tie.After-head) → headOf (D c) ≡ Whole (N c) (St c) (Sz c)
+is : (c : tie.After-head) → blockHead (D c) ≡ Whole (N c) (St c) (Sz c)
 is c = sym (c .before .before .read-head .ensures) ∙ c .head .given .1
 
 -- what follows of that
