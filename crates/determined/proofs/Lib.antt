@@ -18,7 +18,6 @@ pub mod ParserGather
 pub mod Parser
 pub mod WriterFrames
 pub mod WriterTurns
-pub mod Queues
 pub mod WriterSending
 pub mod WriterBuilding
 pub mod Writer

@@ -3,3 +3,4 @@ pub mod Written
 pub mod Decodes
 pub mod Encodes
 pub mod Exact
+pub mod Row

@@ -1,2 +1,4 @@
 pub mod Slot
 pub mod Walk
+pub mod Row
+pub mod Steps

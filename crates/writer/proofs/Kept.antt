@@ -9,7 +9,7 @@ use Rattle.model.proofs.Cases.{both, and-both}
 use Rattle.model.proofs.MuxStates as model
 use Rattle.model.proofs.MuxStates.{fresh-mux, flush-mux, write-valid}
 use Rattle.writer_turns.specs.Queue.{pairBytes, queueOver}
-use Rattle.queues.specs.Written.{validSending}
+use Rattle.slots.specs.Row.{validSending}
 use Rattle.writer.specs.Writer.{means, inOrder, validWriter, fresh, stored, emptied, moved}
 use Rattle.writer.specs.Making.{withPadding}
 use Rattle.writer.proofs.Valid.{Shaped, Ok, Order, order-facts, facts-order, facts-valid, valid-order, valid-ok, valid-mux}

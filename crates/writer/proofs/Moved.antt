@@ -17,7 +17,7 @@ use Rattle.writer_turns.proofs.Queues.{over-queue, over-sized}
 use Rattle.writer_turns.proofs.Steps.{not-not}
 use Rattle.slots.specs.Slot.{noSlot, writtenLength, writtenBytes, slotPacket, writtenSlot}
 use Rattle.slots.specs.declared.Slot.{Slot}
-use Rattle.queues.specs.Written.{validSending}
+use Rattle.slots.specs.Row.{validSending}
 use Rattle.writer.specs.Writer.{means, laidIn, moved}
 use Rattle.writer_sending.proofs.Triples.{leftFrom}
 use Rattle.writer_sending.proofs.Sends.{slotPackets}

@@ -24,7 +24,7 @@ use Rattle.basics.proofs.Runs.{sets-front}
 use Rattle.slots.specs.Slot.{slotWith, writtenBytes, slotPacket, writtenSlot}
 use Rattle.slots.proofs.Written.{slot-reads, facts-written}
 use Rattle.slots.specs.declared.Slot.{Slot}
-use Rattle.queues.specs.Written.{validSending}
+use Rattle.slots.specs.Row.{validSending}
 use Rattle.writer.specs.Writer.{means, stored, emptied}
 use Rattle.writer.specs.Making as making
 use Rattle.writer.specs.Making.{withPadding, withFields}

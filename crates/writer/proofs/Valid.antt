@@ -17,8 +17,8 @@ use Rattle.slots.specs.Slot.{noSlot, writtenLength, writtenBytes, slotPacket, w
 use Rattle.slots.specs.Walk.{Carries}
 use Rattle.slots.proofs.Written.{carried, carried-storable}
 use Rattle.slots.specs.declared.Slot.{Slot}
-use Rattle.queues.specs.Written.{validSending, validSlots}
-use Rattle.queues.proofs.Written.{and-false}
+use Rattle.slots.specs.Row.{validSending, validSlots}
+use Rattle.slots.proofs.Row.{and-false}
 use Rattle.writer.specs.Writer.{means, inOrder, validWriter}
 use Rattle.writer_sending.proofs.Triples.{Held, left-length}
 use Rattle.writer_sending.proofs.Sends.{slotPackets}

@@ -13,7 +13,7 @@ use Rattle.writer_turns.specs.Queue.{queueOf, queueOver}
 use Rattle.writer_turns.specs.declared.PairQueue.{PairQueue}
 use Rattle.slots.specs.Slot.{slotWith, writtenLength, writtenBytes, slotPacket, writtenSlot}
 use Rattle.slots.specs.declared.Slot.{Slot}
-use Rattle.queues.specs.Written.{validSending}
+use Rattle.slots.specs.Row.{validSending}
 use Rattle.writer.specs.declared.CCDataWriter.{CCDataWriter}
 
 -- the multiplexer that a state is: two bytes leave with each triple of the packet being sent

@@ -3,7 +3,7 @@ use mathlib.Core.Path.{_≡_}
 use Prim.Native.Nat.{_-_, min}
 use native.Mathlib.Omega.{arith}
 use lib.ListN.{length}
-use Rattle.queues.proofs.Written.{length-mapped}
+use Rattle.slots.proofs.Row.{length-mapped}
 use Rattle.writer_sending.proofs.Queues.{Summing, summing-none, summing-more, summing-done}
 use borrow.Author.Needs.{needs}
 use Rattle.writer_sending.proofs.bytes_left.Statement.{statement}

@@ -5,7 +5,7 @@ use Prim.Native.Nat.{_-_, _≤_}
 use native.Mathlib.Omega.{arith}
 use lib.ListN.{length}
 use borrow.Author.Needs.{needs}
-use Rattle.queues.proofs.Written.{length-mapped}
+use Rattle.slots.proofs.Row.{length-mapped}
 use Rattle.writer_sending.proofs.Queues.{Moving, moving-first, moving-none, moving-more, moving-done}
 use Rattle.writer_sending.proofs.move_down.Statement.{statement}
 use Rattle.writer_sending.proofs.move_down.Tie as tie

@@ -3,7 +3,7 @@ use mathlib.Core.Path.{_≡_, refl}
 use Prim.Native.Nat.{_-_}
 use native.Mathlib.Omega.{arith}
 use lib.ListN.{length}
-use Rattle.queues.proofs.Written.{length-mapped}
+use Rattle.slots.proofs.Row.{length-mapped}
 use Rattle.writer_sending.proofs.Queues.{Running, running-more, running-within, running-last}
 use borrow.Author.Needs.{needs}
 use Rattle.writer_sending.proofs.send.Statement.{statement}

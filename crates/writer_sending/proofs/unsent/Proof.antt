@@ -4,7 +4,7 @@ use Prim.Native.Nat.{_-_}
 use native.Mathlib.Omega.{arith}
 use lib.ListN.{length}
 use Rattle.writer_sending.specs.Slots.{triplesLeft}
-use Rattle.queues.proofs.Written.{length-mapped}
+use Rattle.slots.proofs.Row.{length-mapped}
 use Rattle.writer_sending.proofs.Queues.{Summing, summing-none, summing-more, summing-done}
 use borrow.Author.Needs.{needs}
 use Rattle.writer_sending.proofs.unsent.Statement.{statement}

@@ -1,6 +1,6 @@
 -- `writer::CCDataWriter::flush` meets its contract. Assumes nothing.
 use mathlib.Core.Path.{sym}
-use Rattle.queues.proofs.Written.{length-mapped}
+use Rattle.slots.proofs.Row.{length-mapped}
 use Rattle.writer.proofs.Stored.{flushed-is}
 use Rattle.writer.proofs.Calls.{refused-value, flushes}
 use borrow.Author.Needs.{needs}

@@ -1,7 +1,7 @@
 -- `writer::CCDataWriter::is_valid` meets its contract: one law of `Valid` for each way out. Assumes nothing.
 use native.Mathlib.Omega.{arith}
 use Rattle.writer.proofs.Valid.{over-first, over-second, by-slots}
-use Rattle.queues.proofs.Written.{length-mapped}
+use Rattle.slots.proofs.Row.{length-mapped}
 use borrow.Author.Needs.{needs}
 use Rattle.writer.proofs.CCDataWriter.is_valid.Statement.{statement}
 use Rattle.writer.proofs.CCDataWriter.is_valid.Tie as tie

@@ -1,6 +1,6 @@
 -- `writer::CCDataWriter::make` meets its contract: one law of `Calls` for each way out. Assumes nothing.
 use mathlib.Core.List.{[]}
-use Rattle.queues.proofs.Written.{length-mapped}
+use Rattle.slots.proofs.Row.{length-mapped}
 use Rattle.writer.proofs.Valid.{Shaped}
 use Rattle.writer.proofs.Calls.{made, wrote-rate, wrote-short, wrote-done, wrote-value, unmade-makes}
 use borrow.Author.Needs.{needs}

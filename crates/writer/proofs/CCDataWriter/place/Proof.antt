@@ -2,7 +2,7 @@
 use mathlib.Core.Path.{sym, _∙_}
 use mathlib.Core.Bool.{true, false, false≢true}
 use native.Mathlib.Omega.{arith}
-use Rattle.queues.proofs.Written.{length-mapped}
+use Rattle.slots.proofs.Row.{length-mapped}
 use Rattle.writer.proofs.Valid.{Shaped, valid-ok}
 use Rattle.writer.proofs.Packs.{counted-given, counted-refused, refused-both, refused-packet, accepted-empty, refused-full, accepted-packet, written-bytes, unplaced-stores}
 use borrow.Author.Needs.{needs}

@@ -1,5 +1,5 @@
 -- `writer::CCDataWriter::queue_pair` meets its contract: one law of `Calls` for each way out. Assumes nothing.
-use Rattle.queues.proofs.Written.{length-mapped}
+use Rattle.slots.proofs.Row.{length-mapped}
 use Rattle.writer.proofs.Valid.{Shaped}
 use Rattle.writer.proofs.Calls.{pushed-first, pushed-second, refused-value}
 use borrow.Author.Needs.{needs}

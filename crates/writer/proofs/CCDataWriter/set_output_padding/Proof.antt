@@ -1,6 +1,6 @@
 -- `writer::CCDataWriter::set_output_padding` meets its contract. Assumes nothing.
 use mathlib.Core.Path.{refl}
-use Rattle.queues.proofs.Written.{length-mapped}
+use Rattle.slots.proofs.Row.{length-mapped}
 use Rattle.writer.proofs.Calls.{refused-value, switched}
 use borrow.Author.Needs.{needs}
 use Rattle.writer.proofs.CCDataWriter.set_output_padding.Statement.{statement}

@@ -1,8 +1,8 @@
--- `queues::slots_written` meets its contract: one law of `Written` for each way out. Assumes nothing.
-use Rattle.queues.proofs.Written.{over-packets, bad-sending, all-packets}
+-- `slots::slots_written` meets its contract: one law of `Row` for each way out. Assumes nothing.
+use Rattle.slots.proofs.Row.{over-packets, bad-sending, all-packets}
 use borrow.Author.Needs.{needs}
-use Rattle.queues.proofs.slots_written.Statement.{statement}
-use Rattle.queues.proofs.slots_written.Tie as tie
+use Rattle.slots.proofs.slots_written.Statement.{statement}
+use Rattle.slots.proofs.slots_written.Tie as tie
 
 returns : tie.Need-returns
 returns c = search (needs, over-packets)

@@ -1,21 +1,21 @@
--- `queues::row_written` meets its contract: the first four slots, and then the others. Assumes nothing.
+-- `slots::row_written` meets its contract: the first four slots, and then the others. Assumes nothing.
 use mathlib.Core.Path.{_≡_, refl, _∙_}
 use native.Mathlib.Omega.{arith}
 use lib.ListN.{length}
 use borrow.Author.Tests.{not-true}
 use borrow.Author.Needs.{needs}
-use Rattle.queues.specs.Steps.{writtenIf}
-use Rattle.queues.proofs.Written.{length-mapped, test-passes, row-short, row-fails, row-rest}
+use Rattle.slots.specs.Steps.{writtenIf}
+use Rattle.slots.proofs.Row.{length-mapped, test-passes, row-short, row-fails, row-rest}
 use Prim.Native.Nat.{ℕ, _<_}
 use borrow.Fn.Kinds.{In}
 use borrow.Fn.PlainCycle.{Measures, is, falls, and}
-use Rattle.queues.proofs.row_written.Reads as row-written
-use Rattle.queues.proofs.row_written.Kinds as row-written-kinds
-use Rattle.queues.proofs.+row_written.Lts-row_written as row-written-lts
-use Rattle.queues.proofs.four_written.Reads as four-written-reads
-use Rattle.queues.proofs.others_written.Reads as others-written-reads
-use Rattle.queues.proofs.+row_written.{statement}
-use Rattle.queues.proofs.+row_written.Tie.{close}
+use Rattle.slots.proofs.row_written.Reads as row-written
+use Rattle.slots.proofs.row_written.Kinds as row-written-kinds
+use Rattle.slots.proofs.+row_written.Lts-row_written as row-written-lts
+use Rattle.slots.proofs.four_written.Reads as four-written-reads
+use Rattle.slots.proofs.others_written.Reads as others-written-reads
+use Rattle.slots.proofs.+row_written.{statement}
+use Rattle.slots.proofs.+row_written.Tie.{close}
 
 abbrev μ-row-written : Measures 0 row-written-kinds.ps ℕ
 μ-row-written κs a = a .1 .1 .1 .0

@@ -1,14 +1,14 @@
--- `queues::others_written` meets its contract: what is left of the queue decides. Assumes nothing.
+-- `slots::others_written` meets its contract: what is left of the queue decides. Assumes nothing.
 use mathlib.Core.Path.{_≡_, refl, sym, _∙_}
 use Prim.Native.Nat.{_-_, _≤_}
 use native.Mathlib.Omega.{arith}
 use lib.ListN.{length, take, drop}
 use Rattle.model.specs.Lists.{every}
 use Rattle.slots.specs.Slot.{writtenSlot}
-use Rattle.queues.proofs.Written.{length-mapped, written-next, written-not, written-all}
+use Rattle.slots.proofs.Row.{length-mapped, written-next, written-not, written-all}
 use borrow.Author.Needs.{needs}
-use Rattle.queues.proofs.others_written.Statement.{statement}
-use Rattle.queues.proofs.others_written.Tie as tie
+use Rattle.slots.proofs.others_written.Statement.{statement}
+use Rattle.slots.proofs.others_written.Tie as tie
 
 abbrev Inv-loop : tie.InvT-loop
 Inv-loop count packets i₀ i = (i ≤ count) × (every writtenSlot (drop i (take count packets)) ≡ every writtenSlot (drop 4 (take count packets)))

@@ -1,8 +1,8 @@
--- `queues::four_written` meets its contract: each test passes or decides. Assumes nothing.
-use Rattle.queues.proofs.Written.{test-fails, test-passes}
+-- `slots::four_written` meets its contract: each test passes or decides. Assumes nothing.
+use Rattle.slots.proofs.Row.{test-fails, test-passes}
 use borrow.Author.Needs.{needs}
-use Rattle.queues.proofs.four_written.Statement.{statement}
-use Rattle.queues.proofs.four_written.Tie as tie
+use Rattle.slots.proofs.four_written.Statement.{statement}
+use Rattle.slots.proofs.four_written.Tie as tie
 
 written-if-requires : tie.Need-written-if-requires
 written-if-requires c κs = search needs

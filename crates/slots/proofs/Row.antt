@@ -11,11 +11,11 @@ use lib.ListN.{length, take, drop, getD, length-map}
 use lib.Seq.{take-take, slice-cons, slice-empty}
 use Rattle.model.specs.Lists.{every}
 use Rattle.model.proofs.Cases.{by-test, both}
 use Rattle.slots.specs.Slot.{noSlot, writtenLength, writtenSlot}
 use Rattle.slots.proofs.Written.{carried}
-use Rattle.queues.specs.Written.{validSending, validSlots}
-use Rattle.queues.specs.Steps.{writtenIf, sendsWhole}
+use Rattle.slots.specs.Row.{validSending, validSlots}
+use Rattle.slots.specs.Steps.{writtenIf, sendsWhole}
 use Rattle.slots.specs.declared.Slot.{Slot}
 
 -- the length of an array of slots, from what owning it tells
 pub length-mapped : (X Y : Type 0) (f : X → Y) (l : List X) (n : ℕ) → length (map f l) ≡ n → length l ≡ n

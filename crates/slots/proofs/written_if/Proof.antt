@@ -1,7 +1,7 @@
--- `queues::written_if` meets its contract: a slot that is not taken passes. Assumes nothing.
+-- `slots::written_if` meets its contract: a slot that is not taken passes. Assumes nothing.
 use borrow.Author.Needs.{needs}
-use Rattle.queues.proofs.written_if.Statement.{statement}
-use Rattle.queues.proofs.written_if.Tie as tie
+use Rattle.slots.proofs.written_if.Statement.{statement}
+use Rattle.slots.proofs.written_if.Tie as tie
 
 is-written-requires : tie.Need-is-written-requires
 is-written-requires c κs = search needs

@@ -1,9 +1,9 @@
--- `queues::sends_whole` meets its contract: the tests are those of the definition. Assumes nothing.
+-- `slots::sends_whole` meets its contract: the tests are those of the definition. Assumes nothing.
 use borrow.Author.Tests.{eq-eqb, ne-eqb, le-leb, lt-leb}
-use Rattle.queues.specs.Steps.{sendsWhole}
+use Rattle.slots.specs.Steps.{sendsWhole}
 use borrow.Author.Needs.{needs}
-use Rattle.queues.proofs.sends_whole.Statement.{statement}
-use Rattle.queues.proofs.sends_whole.Tie as tie
+use Rattle.slots.proofs.sends_whole.Statement.{statement}
+use Rattle.slots.proofs.sends_whole.Tie as tie
 
 returns : tie.Need-returns
 unfolding sendsWhole

@@ -1,2 +1,0 @@
-pub mod Written
-pub mod Steps
