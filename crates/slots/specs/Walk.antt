@@ -8,7 +8,7 @@ use lib.Dec.{eqb, leb, ltb}
 use lib.ListN.{length, getD, take, drop}
 use Rattle.model.specs.Packet.{packetLength}
 use Rattle.model.specs.Mux.{started, packetTriples}
-use Rattle.slots.specs.Slot.{writtenLength, writtenBytes, slotPacket}
+use Rattle.slots.specs.Slot.{writtenLength, writtenBytes, readSlot}
 use Rattle.slots.specs.declared.Slot.{Slot}
 
 -- "Written: numbers 0 to 6 one header byte, 7 to 63 two (0xE0 + size, then the number)": the bytes of a block whose first two are these; 0
@@ -41,5 +41,5 @@ pub record Carries (s : Slot) : Type 0 where
   pub some : 1 ≤ s .len
   pub most : s .len ≤ 128
   pub whole : length (writtenBytes s) ≡ writtenLength s
-  pub triples : packetTriples (slotPacket s) ≡ started (writtenBytes s)
-  pub measured : packetLength (slotPacket s) ≡ s .len
+  pub triples : packetTriples (readSlot s) ≡ started (writtenBytes s)
+  pub measured : packetLength (readSlot s) ≡ s .len

@@ -15,7 +15,7 @@ use Rattle.model.proofs.Cases.{by-test, both}
 use Rattle.model.proofs.MuxStates.{mux-facts}
 use Rattle.writer_turns.proofs.Queues.{over-queue, over-sized}
 use Rattle.writer_turns.proofs.Steps.{not-not}
-use Rattle.slots.specs.Slot.{noSlot, writtenLength, writtenBytes, slotPacket, writtenSlot}
+use Rattle.slots.specs.Slot.{noSlot, writtenLength, writtenBytes, readSlot, writtenSlot}
 use Rattle.slots.specs.declared.Slot.{Slot}
 use Rattle.slots.specs.Row.{validSending}
 use Rattle.writer.specs.Writer.{means, laidIn, moved}
@@ -124,7 +124,7 @@ module _ (w : CCDataWriter) (ok : Ok w) (m : ℕ) where
       means-moved =
           let f = mux-facts x v in
           let ps : slotPackets (take (length (sends .packets)) (sets (w .packets) 0 slots)) ≡ sends .packets =
-          rw slots-front (sym (drop-map slotPacket next (take (w .«packet_count») (w .packets))) ∙ sym (rw taken-length at (ended .back))) in
+          rw slots-front (sym (drop-map readSlot next (take (w .«packet_count») (w .packets))) ∙ sym (rw taken-length at (ended .back))) in
           let ts : leftFrom (cond none 0 at) (writtenBytes rest) ≡ sends .sending =
           by-test none (λ e. let z : length (sends .sending) ≡ 0 = eqb-true (length (sends .sending)) 0 e in rw e (sym (none-in (sends .sending) z))) (λ e. rw e (sym (tail .same))) in
           ap means moved-is

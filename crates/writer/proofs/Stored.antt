@@ -21,7 +21,7 @@ use Rattle.writer_turns.specs.Queue.{pairsOf, queueOf, pairBytes, queueOver}
 use Rattle.writer_turns.proofs.Queues.{over-same, over-queue, over-sized}
 use Rattle.writer_turns.proofs.Steps.{not-not}
 use Rattle.basics.proofs.Runs.{sets-front}
-use Rattle.slots.specs.Slot.{slotWith, writtenBytes, slotPacket, writtenSlot}
+use Rattle.slots.specs.Slot.{slotWith, writtenBytes, readSlot, writtenSlot}
 use Rattle.slots.proofs.Written.{slot-reads, facts-written}
 use Rattle.slots.specs.declared.Slot.{Slot}
 use Rattle.slots.specs.Row.{validSending}
@@ -89,7 +89,7 @@ module _ (p : Packet) (k : storable p ≡ true) where
       rw (sets-front (replicate 128 0) (writtenPacket p) (h .most)) (take-at (writtenPacket p) (drop (length (writtenPacket p)) (replicate 128 0)) n (omega (arith, h .even)))
 
   -- its slot reads as it
-  slot-packet : slotPacket (slotOf p) ≡ p
+  slot-packet : readSlot (slotOf p) ≡ p
   slot-packet = slot-reads (slotOf p) p (limits .0) (limits .1) refl slot-bytes
 
   -- and is a written packet
@@ -117,7 +117,7 @@ behind-storable (p ∷ ps) qs e = behind-storable ps qs (both (storable p) (ever
 -- packets behind packets
 packets-append : (l m : List Slot) → slotPackets (l ++ m) ≡ slotPackets l ++ slotPackets m
 packets-append [] m = refl
-packets-append (s ∷ l) m = ap (λ (ps : List Packet). slotPacket s ∷ ps) (packets-append l m)
+packets-append (s ∷ l) m = ap (λ (ps : List Packet). readSlot s ∷ ps) (packets-append l m)
 
 module _ (w : CCDataWriter) (o : Order w) where
   -- as many packets as are counted
@@ -127,7 +127,7 @@ module _ (w : CCDataWriter) (o : Order w) where
   -- in the model too
   pub packets-length : length (means w .packets) ≡ w .«packet_count»
   unfolding means
-  packets-length = length-map (take (w .«packet_count») (w .packets)) slotPacket ∙ taken-length
+  packets-length = length-map (take (w .«packet_count») (w .packets)) readSlot ∙ taken-length
 
   -- the packets behind those that were there
   pub packets-more : (ps : List Packet) → drop (w .«packet_count») (means w .packets ++ ps) ≡ ps

@@ -13,7 +13,7 @@ use Rattle.model.specs.Mux.{storable, validMux}
 use Rattle.model.proofs.Cases.{by-test, both, and-both}
 use Rattle.model.proofs.MuxStates.{facts-mux}
 use Rattle.writer_turns.proofs.Queues.{Sized, queue-length}
-use Rattle.slots.specs.Slot.{noSlot, writtenLength, writtenBytes, slotPacket, writtenSlot}
+use Rattle.slots.specs.Slot.{noSlot, writtenLength, writtenBytes, readSlot, writtenSlot}
 use Rattle.slots.specs.Walk.{Carries}
 use Rattle.slots.proofs.Written.{carried, carried-storable}
 use Rattle.slots.specs.declared.Slot.{Slot}
@@ -107,7 +107,7 @@ module _ (w : CCDataWriter) where
     order-mux o =
         let ok = order-ok o in
         let n : length (slotPackets (take (w .«packet_count») (w .packets))) ≡ w .«packet_count» =
-        length-map (take (w .«packet_count») (w .packets)) slotPacket ∙ length-take-le (w .«packet_count») (w .packets) (o .packets) in
+        length-map (take (w .«packet_count») (w .packets)) readSlot ∙ length-take-le (w .«packet_count») (w .packets) (o .packets) in
         facts-mux (means w) (record {
           packets = omega (arith, n, ok .few);
           stored = all-storable (take (w .«packet_count») (w .packets)) (o .slots);

@@ -61,130 +61,7 @@ pub enum Micros {
     Refused(Refusal),
 }
 
-// What pushing a pair answers, and the queues after it.
-pub struct Pushed {
-    pub answer: Answer,
-    pub field1: PairQueue,
-    pub field2: PairQueue,
-}
-
-// What pushing a packet answers, and whether it is stored, in which slot.
-pub struct Placed {
-    pub answer: Answer,
-    pub stored: bool,
-    pub slot: Slot,
-}
-
 impl CCDataWriter {
-    // The frame at budgets of `pairs` and `triples`, and what it leaves.
-    fn build(self, pairs: usize, triples: usize) -> Made
-        ensures { λ r. ⌜ r ≡ builtFrom pairs triples self ⌝ }
-    {
-        let slots = self.packets;
-        let slot = self.sending;
-        let field1 = self.field1;
-        let field2 = self.field2;
-        writer_building::build(
-            self.output_cea608_padding,
-            self.output_padding,
-            pairs,
-            triples,
-            field1,
-            field2,
-            self.field2_next,
-            slots,
-            self.packet_count,
-            slot,
-            self.sent,
-        )
-    }
-
-    // What is made where no frame is written.
-    fn unmade(self, answer: Counted) -> Made
-        ensures { λ r. ⌜ r ≡ unmadeOf self answer ⌝ }
-    {
-        let slot = self.sending;
-        let field1 = self.field1;
-        let field2 = self.field2;
-        Made {
-            answer,
-            frame: Frame {
-                bytes: [0; 95],
-                len: 0,
-            },
-            field1,
-            field2,
-            field2_next: self.field2_next,
-            slot,
-            sent: self.sent,
-            next: 0,
-        }
-    }
-
-    // The frame at a rate, for an output of `room` bytes, and what it leaves.
-    fn make(self, valid: bool, rate: Framerate, room: usize) -> Made
-        requires { ⌜ valid ≡ validWriter self ⌝ }
-        ensures { λ r. ⌜ Makes rate room self r ⌝ }
-    {
-        if valid {
-            let budgets = rate.budgets();
-            let Budgets::Of { pairs, triples } = budgets else {
-                return self.unmade(Counted::Refused(Refusal::BadRate));
-            };
-            let made = self.build(pairs, triples);
-            let frame = made.frame;
-            let needed = frame.len;
-            if room < needed {
-                return self.unmade(Counted::Refused(Refusal::OutShort { needed }));
-            }
-            return made;
-        }
-        self.unmade(Counted::Refused(Refusal::BadValue))
-    }
-}
-
-// Where no packet is stored.
-fn unplaced(answer: Answer) -> Placed
-    ensures { λ r. ⌜ (r .answer ≡ answer) × (r .stored ≡ false) ⌝ }
-{
-    Placed {
-        answer,
-        stored: false,
-        slot: Slot {
-            len: 0,
-            bytes: [0; 128],
-        },
-    }
-}
-
-impl CCDataWriter {
-    // Whether the state is within its limits.
-    fn is_valid(self) -> bool
-        ensures { λ r. ⌜ r ≡ validWriter self ⌝ }
-    {
-        let field1 = self.field1;
-        let field2 = self.field2;
-        let slot = self.sending;
-        if MOST_QUEUED < field1.count {
-            return false;
-        }
-        if MOST_QUEUED < field2.count {
-            return false;
-        }
-        let packets = self.packets;
-        slots_written(slot, self.sent, packets, self.packet_count)
-    }
-
-    // A state outside its limits is refused, and stays as it was.
-    fn refused(self) -> WriterAnswer
-        ensures { λ r. ⌜ r ≡ refusedOf self ⌝ }
-    {
-        WriterAnswer {
-            answer: Answer::Refused(Refusal::BadValue),
-            writer: self,
-        }
-    }
-
     // A multiplexer with nothing queued, and no padding.
     pub fn new() -> CCDataWriter
         ensures { λ r. ⌜ (means r ≡ freshMux) × (r ≡ fresh) ⌝ }
@@ -260,33 +137,6 @@ impl CCDataWriter {
         Truth::Refused(Refusal::BadValue)
     }
 
-    // The slot that a packet is written into, where it is stored.
-    fn place(self, valid: bool, packet: DTVCCPacket) -> Placed
-        requires { ⌜ valid ≡ validWriter self ⌝ }
-        ensures { λ r. ⌜ Stores packet self r ⌝ }
-    {
-        if valid {
-            let length = packet.len();
-            let Counted::Count(len) = length else {
-                return unplaced(Answer::Refused(Refusal::BadValue));
-            };
-            if len == 0 {
-                return unplaced(Answer::Accepted);
-            }
-            if self.packet_count == MOST_PACKETS {
-                return unplaced(Answer::Refused(Refusal::Full));
-            }
-            let mut bytes = [0u8; 128];
-            packet.write(&mut bytes);
-            return Placed {
-                answer: Answer::Accepted,
-                stored: true,
-                slot: Slot { len, bytes },
-            };
-        }
-        unplaced(Answer::Refused(Refusal::BadValue))
-    }
-
     // Pushes a packet: it is written into the first free slot. An empty one is accepted, even when full, and not stored.
     pub fn push_packet(self, packet: DTVCCPacket) -> WriterAnswer
         ensures { λ r. ⌜ Answers (checked (validWriter self && validDTVCC packet) (pushPacket (packetOf packet) (means self))) (stored self) self r ⌝ }
@@ -318,6 +168,157 @@ impl CCDataWriter {
                 field2_next: self.field2_next,
             },
         }
+    }
+
+    // Pushes a CEA-608 byte pair.
+    pub fn push_cea608(self, cea608: Cea608) -> WriterAnswer
+        ensures { λ r. ⌜ Answers (checked (validWriter self) (pushCea608 (cea608Of cea608) (means self))) (stored self) self r ⌝ }
+    {
+        let valid = self.is_valid();
+        self.push_pair(valid, cea608)
+    }
+
+    // Writes the next frame at a rate: 608 pairs by turns, then packet triples.
+    pub fn write(self, rate: Framerate, out: &mut [u8]) -> WriterCount
+        ensures { λ r. ⌜ Writes rate (now (out .entry)) self r (now (out .exit)) ⌝ }
+    {
+        let valid = self.is_valid();
+        let made = self.make(valid, rate, out.len());
+        let frame = made.frame;
+        frame.emit(out);
+        let slots = self.packets;
+        let packets = move_down(slots, self.packet_count, made.next);
+        let left = self.packet_count - made.next;
+        let answer = made.answer;
+        let sending = made.slot;
+        let field1 = made.field1;
+        let field2 = made.field2;
+        let writer = CCDataWriter {
+            output_cea608_padding: self.output_cea608_padding,
+            output_padding: self.output_padding,
+            packet_count: left,
+            packets,
+            sending,
+            sent: made.sent,
+            field1,
+            field2,
+            field2_next: made.field2_next,
+        };
+        WriterCount { answer, writer }
+    }
+
+    // Drops what is queued, and the packet being sent.
+    pub fn flush(self) -> WriterAnswer
+        ensures { λ r. ⌜ Answers (checked (validWriter self) (gave (flushMux (means self)))) (emptied self) self r ⌝ }
+    {
+        if self.is_valid() {
+            let mut sending = self.sending;
+            sending.len = 0;
+            let mut empty1 = self.field1;
+            empty1.count = 0;
+            let mut empty2 = self.field2;
+            empty2.count = 0;
+            let mut writer = self;
+            writer.packet_count = 0;
+            writer.sending = sending;
+            writer.sent = 0;
+            writer.field1 = empty1;
+            writer.field2 = empty2;
+            return WriterAnswer {
+                answer: Answer::Accepted,
+                writer,
+            };
+        }
+        self.refused()
+    }
+
+    // How long the pairs queued for field 1 take to leave.
+    pub fn buffered_cea608_field1_duration(self) -> Micros
+        ensures { λ r. ⌜ saidMicros r ≡ measured (validWriter self) (field1Duration (means self)) ⌝ }
+    {
+        if self.is_valid() {
+            let queue = self.field1;
+            return Micros::Of(pairs_duration(queue.count));
+        }
+        Micros::Refused(Refusal::BadValue)
+    }
+
+    // How long the pairs queued for field 2 take to leave.
+    pub fn buffered_cea608_field2_duration(self) -> Micros
+        ensures { λ r. ⌜ saidMicros r ≡ measured (validWriter self) (field2Duration (means self)) ⌝ }
+    {
+        if self.is_valid() {
+            let queue = self.field2;
+            return Micros::Of(pairs_duration(queue.count));
+        }
+        Micros::Refused(Refusal::BadValue)
+    }
+
+    // How long the packets queued, and what is left of the packet being sent, take to leave.
+    pub fn buffered_packet_duration(self) -> Micros
+        ensures { λ r. ⌜ saidMicros r ≡ measured (validWriter self) (packetDuration (means self)) ⌝ }
+    {
+        if self.is_valid() {
+            let packets = self.packets;
+            let slot = self.sending;
+            let bytes = bytes_left(packets, self.packet_count, slot, self.sent);
+            return Micros::Of(bytes_duration(bytes));
+        }
+        Micros::Refused(Refusal::BadValue)
+    }
+
+    // Whether the state is within its limits.
+    pub fn is_valid(self) -> bool
+        ensures { λ r. ⌜ r ≡ validWriter self ⌝ }
+    {
+        let field1 = self.field1;
+        let field2 = self.field2;
+        let slot = self.sending;
+        if MOST_QUEUED < field1.count {
+            return false;
+        }
+        if MOST_QUEUED < field2.count {
+            return false;
+        }
+        let packets = self.packets;
+        slots_written(slot, self.sent, packets, self.packet_count)
+    }
+
+    // A state outside its limits is refused, and stays as it was.
+    fn refused(self) -> WriterAnswer
+        ensures { λ r. ⌜ r ≡ refusedOf self ⌝ }
+    {
+        WriterAnswer {
+            answer: Answer::Refused(Refusal::BadValue),
+            writer: self,
+        }
+    }
+
+    // The slot that a packet is written into, where it is stored.
+    fn place(self, valid: bool, packet: DTVCCPacket) -> Placed
+        requires { ⌜ valid ≡ validWriter self ⌝ }
+        ensures { λ r. ⌜ Stores packet self r ⌝ }
+    {
+        if valid {
+            let length = packet.len();
+            let Counted::Count(len) = length else {
+                return unplaced(Answer::Refused(Refusal::BadValue));
+            };
+            if len == 0 {
+                return unplaced(Answer::Accepted);
+            }
+            if self.packet_count == MOST_PACKETS {
+                return unplaced(Answer::Refused(Refusal::Full));
+            }
+            let mut bytes = [0u8; 128];
+            packet.write(&mut bytes);
+            return Placed {
+                answer: Answer::Accepted,
+                stored: true,
+                slot: Slot { len, bytes },
+            };
+        }
+        unplaced(Answer::Refused(Refusal::BadValue))
     }
 
     // The queues after a pair, which goes to its field's.
@@ -385,101 +386,98 @@ impl CCDataWriter {
         }
     }
 
-    // Pushes a CEA-608 byte pair.
-    pub fn push_cea608(self, cea608: Cea608) -> WriterAnswer
-        ensures { λ r. ⌜ Answers (checked (validWriter self) (pushCea608 (cea608Of cea608) (means self))) (stored self) self r ⌝ }
+    // The frame at a rate, for an output of `room` bytes, and what it leaves.
+    fn make(self, valid: bool, rate: Framerate, room: usize) -> Made
+        requires { ⌜ valid ≡ validWriter self ⌝ }
+        ensures { λ r. ⌜ Makes rate room self r ⌝ }
     {
-        let valid = self.is_valid();
-        self.push_pair(valid, cea608)
-    }
-
-    // Drops what is queued, and the packet being sent.
-    pub fn flush(self) -> WriterAnswer
-        ensures { λ r. ⌜ Answers (checked (validWriter self) (gave (flushMux (means self)))) (emptied self) self r ⌝ }
-    {
-        if self.is_valid() {
-            let mut sending = self.sending;
-            sending.len = 0;
-            let mut empty1 = self.field1;
-            empty1.count = 0;
-            let mut empty2 = self.field2;
-            empty2.count = 0;
-            let mut writer = self;
-            writer.packet_count = 0;
-            writer.sending = sending;
-            writer.sent = 0;
-            writer.field1 = empty1;
-            writer.field2 = empty2;
-            return WriterAnswer {
-                answer: Answer::Accepted,
-                writer,
+        if valid {
+            let budgets = rate.budgets();
+            let Budgets::Of { pairs, triples } = budgets else {
+                return self.unmade(Counted::Refused(Refusal::BadRate));
             };
+            let made = self.build(pairs, triples);
+            let frame = made.frame;
+            let needed = frame.len;
+            if room < needed {
+                return self.unmade(Counted::Refused(Refusal::OutShort { needed }));
+            }
+            return made;
         }
-        self.refused()
+        self.unmade(Counted::Refused(Refusal::BadValue))
     }
 
-    // How long the pairs queued for field 1 take to leave.
-    pub fn buffered_cea608_field1_duration(self) -> Micros
-        ensures { λ r. ⌜ saidMicros r ≡ measured (validWriter self) (field1Duration (means self)) ⌝ }
+    // The frame at budgets of `pairs` and `triples`, and what it leaves.
+    fn build(self, pairs: usize, triples: usize) -> Made
+        ensures { λ r. ⌜ r ≡ builtFrom pairs triples self ⌝ }
     {
-        if self.is_valid() {
-            let queue = self.field1;
-            return Micros::Of(pairs_duration(queue.count));
-        }
-        Micros::Refused(Refusal::BadValue)
-    }
-
-    // How long the pairs queued for field 2 take to leave.
-    pub fn buffered_cea608_field2_duration(self) -> Micros
-        ensures { λ r. ⌜ saidMicros r ≡ measured (validWriter self) (field2Duration (means self)) ⌝ }
-    {
-        if self.is_valid() {
-            let queue = self.field2;
-            return Micros::Of(pairs_duration(queue.count));
-        }
-        Micros::Refused(Refusal::BadValue)
-    }
-
-    // How long the packets queued, and what is left of the packet being sent, take to leave.
-    pub fn buffered_packet_duration(self) -> Micros
-        ensures { λ r. ⌜ saidMicros r ≡ measured (validWriter self) (packetDuration (means self)) ⌝ }
-    {
-        if self.is_valid() {
-            let packets = self.packets;
-            let slot = self.sending;
-            let bytes = bytes_left(packets, self.packet_count, slot, self.sent);
-            return Micros::Of(bytes_duration(bytes));
-        }
-        Micros::Refused(Refusal::BadValue)
-    }
-
-    // Writes the next frame at a rate: 608 pairs by turns, then packet triples.
-    pub fn write(self, rate: Framerate, out: &mut [u8]) -> WriterCount
-        ensures { λ r. ⌜ Writes rate (now (out .entry)) self r (now (out .exit)) ⌝ }
-    {
-        let valid = self.is_valid();
-        let made = self.make(valid, rate, out.len());
-        let frame = made.frame;
-        frame.emit(out);
         let slots = self.packets;
-        let packets = move_down(slots, self.packet_count, made.next);
-        let left = self.packet_count - made.next;
-        let answer = made.answer;
-        let sending = made.slot;
-        let field1 = made.field1;
-        let field2 = made.field2;
-        let writer = CCDataWriter {
-            output_cea608_padding: self.output_cea608_padding,
-            output_padding: self.output_padding,
-            packet_count: left,
-            packets,
-            sending,
-            sent: made.sent,
+        let slot = self.sending;
+        let field1 = self.field1;
+        let field2 = self.field2;
+        writer_building::build(
+            self.output_cea608_padding,
+            self.output_padding,
+            pairs,
+            triples,
             field1,
             field2,
-            field2_next: made.field2_next,
-        };
-        WriterCount { answer, writer }
+            self.field2_next,
+            slots,
+            self.packet_count,
+            slot,
+            self.sent,
+        )
+    }
+
+    // What is made where no frame is written.
+    fn unmade(self, answer: Counted) -> Made
+        ensures { λ r. ⌜ r ≡ unmadeOf self answer ⌝ }
+    {
+        let slot = self.sending;
+        let field1 = self.field1;
+        let field2 = self.field2;
+        Made {
+            answer,
+            frame: Frame {
+                bytes: [0; 95],
+                len: 0,
+            },
+            field1,
+            field2,
+            field2_next: self.field2_next,
+            slot,
+            sent: self.sent,
+            next: 0,
+        }
+    }
+}
+
+// What pushing a pair answers, and the queues after it.
+struct Pushed {
+    answer: Answer,
+    field1: PairQueue,
+    field2: PairQueue,
+}
+
+// What pushing a packet answers, and whether it is stored, in which slot.
+struct Placed {
+    answer: Answer,
+    stored: bool,
+    slot: Slot,
+}
+
+// Where no packet is stored.
+fn unplaced(answer: Answer) -> Placed
+    ensures { λ r. ⌜ (r .answer ≡ answer) × (r .stored ≡ false) ⌝ }
+{
+    Placed {
+        answer,
+        stored: false,
+        slot: Slot {
+            len: 0,
+            bytes: [0; 128],
+        },
     }
 }
 

@@ -11,7 +11,7 @@ use Rattle.model.specs.Lists.{every}
 use Rattle.model.specs.Frame.{Triple}
 use Rattle.model.specs.Mux.{Sent, behind, send}
 use Rattle.model.proofs.Cases.{by-test, both}
-use Rattle.slots.specs.Slot.{noSlot, writtenLength, writtenBytes, slotPacket, writtenSlot}
+use Rattle.slots.specs.Slot.{noSlot, writtenLength, writtenBytes, readSlot, writtenSlot}
 use Rattle.slots.specs.Walk.{Carries}
 use Rattle.slots.proofs.Written.{carried as carries-packet}
 use Rattle.slots.specs.declared.Slot.{Slot}
@@ -61,7 +61,7 @@ pub record Ends (ss : List Slot) (slot : Slot) (r : Sent) : Type 0 where
 -- no other packet is begun
 ends-here : (ss : List Slot) (slot : Slot) (at m : ℕ) → Held slot at → Ends ss slot (record { out = take m (leftFrom at (writtenBytes slot)); sending = drop m (leftFrom at (writtenBytes slot)); packets = slotPackets ss })
 ends-here ss slot at m h =
-    let l : length (slotPackets ss) ≡ length ss = length-map ss slotPacket in
+    let l : length (slotPackets ss) ≡ length ss = length-map ss readSlot in
     let d : length ss - length ss ≡ 0 = omega arith in
     record { few = omega arith; back = rw (l, d); tail = rw (l, d) (tail-after slot at h m) }
 
@@ -81,7 +81,7 @@ ends (s ∷ ss) slot at m all h =
     let t = both (writtenSlot s) (every writtenSlot ss) all in
     let k : Carries s = carries-packet s (t .0) in
     by-test (leb m (length ts))
-    (λ e. rw (send-under m ts (slotPacket s) (slotPackets ss) (leb-true m (length ts) e)) (ends-here (s ∷ ss) slot at m h))
-    (λ e. rw (send-over m ts (slotPacket s) (slotPackets ss) (leb-false m (length ts) e), begun-triples s k)
+    (λ e. rw (send-under m ts (readSlot s) (slotPackets ss) (leb-true m (length ts) e)) (ends-here (s ∷ ss) slot at m h))
+    (λ e. rw (send-over m ts (readSlot s) (slotPackets ss) (leb-false m (length ts) e), begun-triples s k)
     (ends-onward s slot ss ts (send (m - length ts) (leftFrom 0 (writtenBytes s)) (slotPackets ss))
     (ends ss s 0 (m - length ts) (t .1) (held-begun s k))))
