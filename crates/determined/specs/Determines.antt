@@ -1,5 +1,4 @@
--- "Each public function's contract determines its result and the final contents of everything lent to it, refusals too: any two results it allows
--- are proved equal" (document 01, "How much each contract must say"). A contract is a relation of a call's arguments, its result and its
+-- A contract determines what its function answers and what is in all that was lent to it afterwards, refusals too. A contract is a relation of a call's arguments, its result and its
 -- parameters at exit. Assumes nothing.
 use mathlib.Core.Path.{_≡_}
 use denote.Ref.{RefT, now}
@@ -8,7 +7,7 @@ use denote.Ref.{RefT, now}
 pub record Determines {A R E : Type 0} (post : A → R → E → Type 0) : Type 0 where
   pub result : (a : A) (r q : R) (e f : E) → post a r e → post a q f → r ≡ q
 
--- and so are "the final contents of everything lent", which `lent` finds among the parameters at exit
+-- and so is what is in all that was lent, which `lent` finds among the parameters at exit
 pub record DeterminesLent {A R E X : Type 0} (lent : E → X) (post : A → R → E → Type 0) : Type 0 where
   pub result : (a : A) (r q : R) (e f : E) → post a r e → post a q f → r ≡ q
   pub contents : (a : A) (r q : R) (e f : E) → post a r e → post a q f → lent e ≡ lent f
