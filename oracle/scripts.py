@@ -122,14 +122,17 @@ def packet_pushes(count):
                 k = min(fill, 32 if fill != 33 else 30)
                 base += [("b", 2), ("c", [9] * (k - 1)), ("v",)]; fill -= k
             for m in range(0, 8):
-                yield base + [("l",), ("a", n, [5] * m), ("l",), ("i", n, [6] * m), ("a", 2, [7] * m), ("i", 2, [8] * m), ("l",), ("b", n), ("c", [4] * m), ("v",), ("b", 0), ("v",), ("l",), ("o", 128)]
+                pushes = [("a", n, [5] * m), ("l",), ("i", n, [6] * m), ("a", 2, [7] * m), ("i", 2, [8] * m), ("l",)]
+                yield base + [("l",)] + pushes + [("b", n), ("c", [4] * m), ("v",), ("b", 0), ("v",), ("l",), ("o", 128)]
 
 def triples_of(d):
     d = d + [0] * (len(d) % 2)
     return [[0xFF if i == 0 else 0xFE, d[i], d[i + 1]] for i in range(0, len(d), 2)]
 
 def a_triple():
-    return [R.choice([0xF8, 0, 0xF8, R.randrange(32) << 3]) | R.choice([0, 1, 2, 3, 4, 5, 6, 6, 7, 7, 7]), R.choice([1, 2, 3, 4, 0x41, 0x82, 0, byte()]), R.choice([0x20, 0x21, 0x22, 0, byte()])]
+    marks = R.choice([0xF8, 0, 0xF8, R.randrange(32) << 3]) | R.choice([0, 1, 2, 3, 4, 5, 6, 6, 7, 7, 7])
+    first = R.choice([1, 2, 3, 4, 0x41, 0x82, 0, byte()])
+    return [marks, first, R.choice([0x20, 0x21, 0x22, 0, byte()])]
 
 def a_frame(stream):
     r = R.random()
@@ -196,13 +199,17 @@ def frame_full():
                 m = min(k, 15); k -= m
                 s.append(("f", [0xC0 | m, 0xFF] + [0xFF, 0x01, 0x00] * m))
             s.append(("f", [0xC0 | 3, 0xFF, 0xFC, 1, 2, 0xFD, 3, 4, 0xFF, 0x02, 0x21]))
-            body = [0xFC, 7, 8] + ([0xFE, 0x41, 0] if R.random() < .5 else []) + [0xFF, 0x41, 0x00] * more + ([0xFF, 0x03, 0x22] if R.random() < .5 else [])
+            body = [0xFC, 7, 8] + ([0xFE, 0x41, 0] if R.random() < .5 else []) + [0xFF, 0x41, 0x00] * more
+            body += [0xFF, 0x03, 0x22] if R.random() < .5 else []
             s.append(("f", [0xC0 | len(body) // 3, 0xFF] + body))
             s += [("n",)] * R.choice([0, 1, 3, 5])
             s.append(("f", [0xC0 | len(body) // 3, 0xFF] + body))
             yield s + [("n",)] * 46
 
-RATES = [(24, 1), (25, 1), (30000, 1001), (50, 1), (60000, 1001), (30, 1), (60, 1), (24000, 1001), (120, 1), (121, 1), (401, 21), (400, 21), (20, 1), (19, 1), (40, 1), (100, 1), (119, 1), (61, 2), (1, 1), (0, 1), (1, 0), (0, 0), (48, 1), (15, 1)]
+RATES = [
+    (24, 1), (25, 1), (30000, 1001), (50, 1), (60000, 1001), (30, 1), (60, 1), (24000, 1001), (120, 1), (121, 1), (401, 21), (400, 21),
+    (20, 1), (19, 1), (40, 1), (100, 1), (119, 1), (61, 2), (1, 1), (0, 1), (1, 0), (0, 0), (48, 1), (15, 1),
+]
 def a_rate(good=True):
     if good: return R.choice(RATES[:9] + [(20, 1), (40, 1), (100, 1), (48, 1)])
     return R.choice(RATES)
@@ -271,7 +278,8 @@ def rates(count):
         for base in (120 * d, 400 * d // 21, 600 * d // 31, 1200 * d // 63, 24 * d, 40 * d):
             for e in (-1, 0, 1):
                 if 0 <= base + e < 2**32: ask(base + e, d)
-    for n, d in [(2**32 - 1, 2**32 - 1), (2**32 - 1, 1), (1, 2**32 - 1), (2**32 - 1, 107374182), (2**32 - 1, 35791394), (2**32 - 1, 35791395), (2**32 - 1, 225485783), (2**32 - 1, 225485782)]: ask(n, d)
+    top = 2**32 - 1
+    for n, d in [(top, top), (top, 1), (1, top), (top, 107374182), (top, 35791394), (top, 35791395), (top, 225485783), (top, 225485782)]: ask(n, d)
     for _ in range(count):
         d = R.choice([R.randrange(1, 100), R.randrange(1, 2000), R.randrange(1, 2**25)])
         n = int(d * R.uniform(18, 125))
@@ -334,7 +342,8 @@ def anything(count):
 
 def raw_fields(count):
     """Fields set to what breaks a limit, or does not, and calls on them."""
-    calls = [("m",), ("c", [1, 2]), ("c", []), ("e", 40), ("v",), ("l",), ("a", 1, [5]), ("a", 64, []), ("i", 2, [6, 7]), ("o", 130), ("o", 0), ("q",)]
+    calls = [("m",), ("c", [1, 2]), ("c", []), ("e", 40), ("v",), ("l",), ("a", 1, [5]), ("a", 64, []), ("i", 2, [6, 7])]
+    calls += [("o", 130), ("o", 0), ("q",)]
     for _ in range(count):
         s = []
         for _ in range(20):
@@ -351,9 +360,11 @@ def raw_fields(count):
     for fields in breaking:
         frame = ("f", [0xC3, 0xFF, 0xFC, 0x94, 0x2C, 0xFF, 0x82, 0x21, 0xFE, 0x41, 0x00])
         yield [("H",), frame, ("D", *fields), ("n",), frame, ("f", []), ("H",), ("F",), ("n",), ("R",), ("n",), ("H",), frame, ("n",), ("n",), ("n",)]
-    breaking = [(17, 0, 0, 0), (255, 0, 0, 0), (0, 1, 0, 0), (0, 129, 0, 0), (0, 130, 0, 0), (0, 255, 0, 0), (0, 0, 65, 0), (0, 0, 255, 0), (0, 0, 0, 65), (0, 0, 0, 255), (255, 255, 255, 255)]
+    breaking = [(17, 0, 0, 0), (255, 0, 0, 0), (0, 1, 0, 0), (0, 129, 0, 0), (0, 130, 0, 0), (0, 255, 0, 0)]
+    breaking += [(0, 0, 65, 0), (0, 0, 255, 0), (0, 0, 0, 65), (0, 0, 0, 255), (255, 255, 255, 255)]
     for fields in breaking:
-        s = [("1", 0x94, 0x2C), ("2", 0x15, 0x2C), ("k", 2), ("a", 1, [0x41]), ("q",), ("Q", *fields), ("u",), ("S", 1, 1), ("1", 1, 1), ("2", 0x80, 0x80)]
+        s = [("1", 0x94, 0x2C), ("2", 0x15, 0x2C), ("k", 2), ("a", 1, [0x41]), ("q",), ("Q", *fields), ("u",)]
+        s += [("S", 1, 1), ("1", 1, 1), ("2", 0x80, 0x80)]
         yield s + [("q",), ("w", 30, 1, 95), ("w", 0, 0, 0), ("x",), ("k", 0), ("q",), ("W",), ("u",), ("1", 1, 1), ("w", 30, 1, 95)]
 
 def not_there():

@@ -1,5 +1,4 @@
--- What `ccread` tells of its input: "records of mark CC DA, one length byte, that many frame bytes" (document 01, program `ccread`).
--- Assumes nothing.
+-- What `ccread` tells of its input, records of frames [C1]. Assumes nothing.
 use mathlib.Core.Bool.{Bool, true, false}
 use mathlib.Core.List.{List, [], _∷_, _++_}
 use Prim.Native.Nat.{ℕ}
@@ -13,7 +12,7 @@ use Rattle.program_streams.specs.Walk.{Told, Walked, told, leftToTell, Kept}
 use Rattle.ccread.specs.declared.Stand.{Stand}
 use Rattle.ccread.specs.declared.State.{State}
 
--- "mark CC DA"
+-- the mark of a frame [C1]
 abbrev pub mark : List ℕ
 mark = 0xCC ∷ 0xDA ∷ []
 
@@ -28,7 +27,7 @@ toTell ended buf d = told mark tell ended (drop (d .at) buf) (d .passed) (d .rec
 abbrev pub stillToTell : Bool → List ℕ → Stand → Walked CCDataParser
 stillToTell ended buf d = leftToTell mark tell ended buf (d .at) (d .passed) (d .records) (d .parser) (d .full) (d .left)
 
--- nothing is read, and "608 is on"
+-- nothing is read, and 608 is on [C2]
 abbrev pub freshState : State
 freshState = record { have = 0; passed = 0; records = 0; going = true; parser = turnedOn fresh }
 

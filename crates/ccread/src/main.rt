@@ -1,5 +1,4 @@
-// Reads records of frames from standard input to its end and writes what each frame holds, as document 01 says under
-// "Checked examples". Reads and writes go through two buffers of fixed size, whatever the input's length and cut.
+// Reads records of frames from standard input to its end and writes what each frame holds [C2]. Reads and writes go through two buffers of fixed size, whatever the input's length and cut.
 ghost use mathlib.Core.Path.{_≡_};
 ghost use mathlib.Core.Bool.{true, false};
 ghost use Prim.Native.Nat.{_+_, _≤_, _<_};

@@ -49,7 +49,14 @@ block-fits : (n : ℕ) (bs : List ℕ) → n ≤ 63 → length (blockLine n bs) 
 unfolding blockLine
 block-fits n bs h =
     let d : length (decimal n) ≤ 2 = digits-most 1 n (omega arith) in
-    rw (two (word "block " ++ decimal n ++ word " " ++ hex bs) (word "\n"), two (word "block " ++ decimal n ++ word " ") (hex bs), two (word "block " ++ decimal n) (word " "), two (word "block ") (decimal n), length-hex bs)
+    rw (
+      two (word "block " ++ decimal n ++ word " " ++ hex bs) (word "\n"),
+      two (word "block " ++ decimal n ++ word " ") (hex bs),
+      two (word "block " ++ decimal n)
+          (word " "),
+      two (word "block ") (decimal n),
+      length-hex bs,
+    )
     (omega arith)
 
 -- a block of n bytes is written in 1 + n or 2 + n
@@ -111,7 +118,14 @@ line-fits r s h k =
     let e : length (decimal (s .number)) ≤ 2 = digits-most 1 (s .number) (omega arith) in
     by-test (eqb (s .number) 0)
     (λ z. rw (z, two (word "frame " ++ decimal r) (word " ok\n"), two (word "frame ") (decimal r)) (omega arith))
-    (λ z. rw (z, two (word "frame " ++ decimal r) (word " refused " ++ decimal (s .number) ++ word "\n"), two (word "frame ") (decimal r), two (word " refused " ++ decimal (s .number)) (word "\n"), two (word " refused ") (decimal (s .number))) (omega arith))
+    (λ z. rw (
+      z,
+      two (word "frame " ++ decimal r) (word " refused " ++ decimal (s .number) ++ word "\n"),
+      two (word "frame ") (decimal r),
+      two
+          (word " refused " ++ decimal (s .number)) (word "\n"),
+      two (word " refused ") (decimal (s .number)),
+    ) (omega arith))
 
 -- what a frame is answered has a number of the table
 abbrev Numbered : Taken → Type 0

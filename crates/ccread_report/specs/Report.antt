@@ -1,4 +1,4 @@
--- The lines of a frame and of what is drawn after it (document 01, "Checked examples"). Assumes nothing.
+-- The lines of a frame and of what is drawn after it [C2]. Assumes nothing.
 use mathlib.Core.Bool.{cond}
 use mathlib.Core.List.{List, [], _∷_, _++_}
 use Prim.Native.Nat.{ℕ, zero, suc}
@@ -18,16 +18,16 @@ use Rattle.parser.specs.declared.Item.{Item}
 use Rattle.parser.specs.declared.Item.the-variants as item
 use Rattle.parser.specs.declared.CCDataParser.{CCDataParser}
 
--- "field1 942C"
+-- a pair
 unfoldable pub pairLine : Cea608 → List ℕ
 pairLine x = pairText x ++ word "\n"
 
--- "block 1 41", for each block
+-- a line for each block
 unfoldable pub blockLines : List Block → List ℕ
 blockLines [] = []
 blockLines (b ∷ bs) = blockLine (b .number) (b .payload) ++ blockLines bs
 
--- "packet 2", and the lines of its blocks
+-- a packet, and the lines of its blocks
 unfoldable pub packetLines : Packet → List ℕ
 packetLines p = (packetText (p .sequence) ++ word "\n") ++ blockLines (p .blocks)
 
@@ -40,11 +40,11 @@ unfoldable pub packetsLines : List Packet → List ℕ
 packetsLines [] = []
 packetsLines (p ∷ ps) = packetLines p ++ packetsLines ps
 
--- everything that waits: "first the list's pairs in order, then packets, oldest first"
+-- everything that waits: the pairs in their order, and then the packets, the oldest first
 unfoldable pub waitingLines : Demux → List ℕ
 waitingLines d = pairLines (d .pairs) ++ packetsLines (d .waiting)
 
--- "A refused frame prints only `frame R refused K`"; after one that is accepted everything is drawn
+-- a frame that is refused is one line [C3]; after one that is accepted everything is drawn
 unfoldable pub takenLines : ℕ → Taken → List ℕ
 takenLines r t = frameLine r (t .answer) ++ cond (eqb (t .answer .number) 0) (waitingLines (t .next)) []
 

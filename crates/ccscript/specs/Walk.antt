@@ -6,7 +6,7 @@ use Prim.Native.Nat.{ℕ}
 use lib.Dec.{eqb, ltb}
 use lib.ListN.{length, take, drop}
 use Rattle.script_operations.specs.Ran.{ran, freshMachine}
-use Rattle.script_parts.specs.declared.Machine.{Machine}
+use Rattle.script_operations.specs.declared.Machine.{Machine}
 use Rattle.program_streams.specs.Walk.{Told, Walked, told, leftToTell, Kept}
 use Rattle.ccscript.specs.declared.Stand.{Stand}
 use Rattle.ccscript.specs.declared.State.{State}

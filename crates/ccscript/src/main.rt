@@ -14,8 +14,8 @@ use libc::STDOUT_FILENO;
 use program_records::Found;
 use program_records::part;
 use program_streams::Left;
+use script_operations::Machine;
 use script_operations::Stepped;
-use script_parts::Machine;
 
 // A line has at most 31 bytes, and behind them either the hex of 255 bytes or 63 blocks of 127 bytes in all: below 600 bytes. A longer one would
 // not be told.

@@ -27,7 +27,5 @@ pub mod CcreadReport
 pub mod ScriptAnswers
 pub mod ScriptValues
 pub mod ScriptMachines
-pub mod ScriptParts
-pub mod ScriptMuxes
 pub mod ScriptOperations
 pub mod ProgramStreams

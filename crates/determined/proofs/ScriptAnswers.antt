@@ -1,6 +1,7 @@
 -- The functions that lay the lines of a script's answers. Assumes nothing.
 use contract.Lifetimes.{Lfts}
 use denote.Ref.{now}
+use Rattle.script_answers.proofs.asks.Reads as Asks
 use Rattle.script_answers.proofs.put_bad_line.Reads as put_bad_line
 use Rattle.script_answers.proofs.put_ok_line.Reads as put_ok_line
 use Rattle.script_answers.proofs.put_answer_line.Reads as put_answer_line
@@ -12,8 +13,13 @@ use Rattle.script_answers.proofs.put_durations.Reads as put_durations
 use Rattle.script_answers.proofs.put_block_line.Reads as put_block_line
 use Rattle.script_answers.proofs.put_packet_line.Reads as put_packet_line
 use Rattle.script_answers.proofs.put_item_line.Reads as put_item_line
-use Rattle.determined.specs.Determines.{DeterminesLent}
+use Rattle.determined.specs.Determines.{Determines, DeterminesLent}
+use Rattle.determined.proofs.Ways.{equal}
 use Rattle.determined.proofs.ProgramRecords.{lays}
+
+-- `asks(op, letter, fits)`
+pub asks : Determines (Asks.Post (tt {0}))
+asks = equal
 
 -- `put_bad_line(out, at)`
 pub put-bad-line : (κs : Lfts 1) → DeterminesLent (λ e. now (e .0)) (put_bad_line.Post κs)

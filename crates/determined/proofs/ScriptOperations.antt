@@ -3,7 +3,7 @@ use mathlib.Core.Path.{sym, _∙_}
 use Prim.Native.Nat.{ℕ}
 use contract.Lifetimes.{Lfts}
 use denote.Ref.{now}
-use Rattle.script_parts.specs.declared.Machine.{Machine}
+use Rattle.script_operations.specs.declared.Machine.{Machine}
 use Rattle.script_operations.proofs.fresh.Reads as Fresh
 use Rattle.script_operations.proofs.«run_record».Reads as Run
 use Rattle.determined.specs.Determines.{Determines, DeterminesLent}

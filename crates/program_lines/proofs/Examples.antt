@@ -6,7 +6,7 @@ use Rattle.model.specs.Frame.{pair, field1}
 use Rattle.program_records.specs.Text.{word, digit, decimalIn, decimal, run}
 use Rattle.program_lines.specs.Lines.{valueText, valuesText, runText, blockText, answerText, pairText, packetText, frameLine, blockLine, endLine, stoppedLine}
 
--- "Input CC DA 0B C3 FF FC 94 2C FF 82 21 FE 41 00 prints exactly"
+-- what the record CC DA 0B C3 FF FC 94 2C FF 82 21 FE 41 00 prints
 read-example : frameLine 0 (accepted [])
     ++ pairText (field1 (pair 0x94 0x2C))
     ++ word "\n"

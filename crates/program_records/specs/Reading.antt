@@ -1,5 +1,4 @@
--- Records: "records of mark CC DA, one length byte, that many frame bytes"; "a wrong mark or short record prints `stopped at byte B` (its start)"
--- (document 01, program `ccread`). Assumes nothing.
+-- Records: a mark of two bytes, a length byte, and so many bytes [C1]; what stands where no whole record does [C4]. Assumes nothing.
 use mathlib.Core.Bool.{Bool, true, cond, _&&_}
 use mathlib.Core.List.{List, [], _∷_}
 use Prim.Native.Nat.{ℕ, _+_, _*_, _^_}
@@ -30,6 +29,6 @@ foundIn mark ended at s =
     (cond (ltb (length s) (recordLength s)) (missing ended Short) (Record (at + 3) (getD s 2 0) (at + recordLength s)))
     WrongMark)
 
--- "four bytes each, highest first": the number at the front of s
+-- the number in the first four bytes of s, the highest first
 unfoldable pub highestFirst : List ℕ → ℕ
 highestFirst s = 256 ^ 3 * getD s 0 0 + 256 ^ 2 * getD s 1 0 + 256 * getD s 2 0 + getD s 3 0

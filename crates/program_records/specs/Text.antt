@@ -1,5 +1,4 @@
--- Words, numbers and bytes as text, each a list of bytes: "numbers are decimal; pair and payload bytes are hex in capitals"
--- (document 01, program `ccread`). Assumes nothing.
+-- Words, numbers and bytes as text, each a list of bytes [C2]. Assumes nothing.
 use mathlib.Core.Bool.{cond}
 use mathlib.Core.List.{List, [], _∷_, _++_}
 use Prim.Native.Char.{code}
@@ -17,7 +16,7 @@ word (c ▸ s) = code c ∷ word s
 unfoldable pub digit : ℕ → ℕ
 digit d = cond (ltb d 10) (48 + d) (55 + d)
 
--- "hex in capitals": two digits a byte
+-- two digits a byte, in capitals
 abbrev pub hexByte : ℕ → List ℕ
 hexByte b = digit (b / 16) ∷ digit (b % 16) ∷ []
 
@@ -31,11 +30,11 @@ unfoldable pub decimalIn : ℕ → ℕ → List ℕ
 decimalIn zero n = []
 decimalIn (suc f) n = cond (ltb n 10) [] (decimalIn f (n / 10)) ++ (digit (n % 10) ∷ [])
 
--- "numbers are decimal"
+-- a number in decimal
 unfoldable pub decimal : ℕ → List ℕ
 decimal n = decimalIn (suc n) n
 
--- "an empty run of bytes prints as `-`"
+-- bytes, or `-` where there are none
 unfoldable pub run : List ℕ → List ℕ
 run bs = cond (eqb (length bs) 0) (word "-") (hex bs)
 

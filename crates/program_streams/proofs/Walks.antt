@@ -24,7 +24,8 @@ NoRecord f = OneOf (1 ∷ 2 ∷ 3 ∷ 4 ∷ []) (tagOf the-type f)
 
 -- where no whole record is found, the place does not matter
 none-shifts : (a b c e : Bool) (p q n r t m : ℕ) → NoRecord (cond a (missing e found.End) (cond b (cond c (missing e found.Short) (found.Record p q n)) found.WrongMark))
-    → cond a (missing e found.End) (cond b (cond c (missing e found.Short) (found.Record r t m)) found.WrongMark) ≡ cond a (missing e found.End) (cond b (cond c (missing e found.Short) (found.Record p q n)) found.WrongMark)
+    → cond a (missing e found.End) (cond b (cond c (missing e found.Short) (found.Record r t m)) found.WrongMark) ≡ cond a (missing e found.End) (cond b (cond c
+    (missing e found.Short) (found.Record p q n)) found.WrongMark)
 none-shifts true b c e p q n r t m h = refl
 none-shifts false false c e p q n r t m h = refl
 none-shifts false true true e p q n r t m h = refl

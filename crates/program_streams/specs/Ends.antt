@@ -22,7 +22,7 @@ goesOn More = true
 goesOn Stopped = false
 goesOn Ended = false
 
--- "`stopped at byte B` (its start) as the last line, in place of `end`"
+-- the last line [C4]
 abbrev pub lastLine : Left → ℕ → ℕ → List ℕ
 lastLine More start records = []
 lastLine Stopped start records = stoppedLine start

@@ -2,3 +2,5 @@ pub mod Parts
 pub mod Measured
 pub mod Blocks
 pub mod Steps
+pub mod Rows
+pub mod Lent

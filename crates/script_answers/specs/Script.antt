@@ -24,11 +24,11 @@ use Rattle.program_lines.specs.Lines.{valueText, runText, blockText, answerText
 unfoldable pub answerLine : Said → List ℕ
 answerLine s = answerText s ++ word "\n"
 
--- "all L bytes are printed afterwards, also when the call is refused (then after the refusal's values)"
+-- an answer and all of the output that was lent, whether it was accepted or refused
 unfoldable pub lentLine : Said → List ℕ → List ℕ
 lentLine s out = answerText s ++ runText out ++ word "\n"
 
--- "the payload handed back as a part"
+-- bytes that were handed back
 unfoldable pub runLine : List ℕ → List ℕ
 runLine bs = word "ok" ++ runText bs ++ word "\n"
 
@@ -36,19 +36,19 @@ runLine bs = word "ok" ++ runText bs ++ word "\n"
 abbrev pub measures : Bool → List ℕ → Said
 measures valid ns = saysWith (λ ks. ks) (checked valid (gave ns))
 
--- of a block "number, length, room, 1 if empty else 0",
+-- of a block its number, length and free space, and 1 or 0 by whether it is empty,
 unfoldable pub blockMeasures : Service → Said
 blockMeasures s =
     measures (validService s)
     (s .number ∷ blockLength (blockOf s) ∷ blockRoom (blockOf s) ∷ cond (eqb (length (blockOf s .payload)) 0) 1 0 ∷ [])
 
--- of a packet "sequence, length, room, blocks",
+-- of a packet its sequence number, length and free space, and how many blocks it has,
 unfoldable pub packetMeasures : DTVCCPacket → Said
 packetMeasures p =
     measures (validDTVCC p)
     (p .«seq_no» ∷ packetLength (packetOf p) ∷ packetRoom (packetOf p) ∷ length (packetOf p .blocks) ∷ [])
 
--- and of a multiplexer "field 1, field 2, packets, in microseconds".
+-- and of a multiplexer how many microseconds field 1, field 2 and the packets take [D].
 unfoldable pub durations : CCDataWriter → Said
 durations w = measures (validWriter w) (field1Duration (means w) ∷ field2Duration (means w) ∷ packetDuration (means w) ∷ [])
 
@@ -62,12 +62,12 @@ abbrev pub together : List ℕ → Counted → Said
 together ns (counted.Count n) = accepted (ns ++ (n ∷ []))
 together ns (counted.Refused why) = saidRefusal why
 
--- "number, payload" of a block that was read
+-- a block that was read: its number and its payload
 unfoldable pub readBlockLine : Said → Service → List ℕ
 readBlockLine s b =
     cond (eqb (s .number) 0) (word "ok" ++ valueText (b .number) ++ runText (blockOf b .payload) ++ word "\n") (answerLine s)
 
--- "`number:payload` for each block"
+-- blocks one behind the other
 unfoldable pub blocksText : List Block → List ℕ
 blocksText [] = []
 blocksText (b ∷ bs) = blockText (b .number) (b .payload) ++ blocksText bs
@@ -76,7 +76,7 @@ blocksText (b ∷ bs) = blockText (b .number) (b .payload) ++ blocksText bs
 unfoldable pub blocksIn : DTVCCPacket → List Block
 blocksIn p = cond (validDTVCC p) (packetOf p .blocks) []
 
--- "sequence, then `number:payload` for each block"
+-- a packet: its sequence number and its blocks
 unfoldable pub heldText : DTVCCPacket → List ℕ
 heldText p = valueText (p .«seq_no») ++ blocksText (blocksIn p)
 
@@ -84,7 +84,7 @@ heldText p = valueText (p .«seq_no») ++ blocksText (blocksIn p)
 unfoldable pub readPacketLine : Said → DTVCCPacket → List ℕ
 readPacketLine s p = cond (eqb (s .number) 0) (word "ok" ++ heldText p ++ word "\n") (answerLine s)
 
--- "`field1 942C`, `field2 942C`, `packet` with what `p` prints, or `none`": an item is told by 1 or 2 and two bytes for a pair of that field,
+-- an item that was drawn: `field1` or `field2` and the pair, `packet` and the packet, or `none`; it is told by 1 or 2 and two bytes for a pair,
 -- by 3 for a packet, and by nothing where none is left
 unfoldable pub itemText : List ℕ → DTVCCPacket → List ℕ
 itemText [] p = word "none"

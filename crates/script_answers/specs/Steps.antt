@@ -1,10 +1,10 @@
 -- What an operation of a script does: the line that it lays, and what it leaves. Assumes nothing.
 use mathlib.Core.Path.{_≡_}
-use mathlib.Core.Bool.{Bool, cond}
+use mathlib.Core.Bool.{Bool, true, false, cond}
 use mathlib.Core.List.{List, [], _∷_}
 use Prim.Native.Nat.{ℕ}
 use lib.Dec.{eqb}
-use lib.ListN.{length}
+use lib.ListN.{length, replicate}
 use Rattle.model.specs.Said.{Said, Outcome, says, after, saysWith, mapped, checked, putInto}
 use Rattle.program_records.specs.Laid.{Laid}
 use Rattle.program_records.specs.Text.{word}
@@ -19,6 +19,18 @@ pub record Effect (S : Type 0) : Type 0 where
 pub record Did {S : Type 0} (e : Effect S) (before : List ℕ) (at laid : ℕ) (state : S) (now : List ℕ) : Type 0 where
   pub told : Laid (e .line) before at laid now
   pub left : state ≡ e .next
+
+-- the same of an operation that is run, and that says so
+pub record Runs {S : Type 0} (e : Effect S) (before : List ℕ) (at : ℕ) (ran : Bool) (laid : ℕ) (state : S) (now : List ℕ) : Type 0 where
+  pub did : Did e before at laid state now
+  pub says : ran ≡ true
+
+-- nothing is run or laid, and `old` is what there is
+pub record Rests {S : Type 0} (old : S) (before : List ℕ) (at : ℕ) (ran : Bool) (laid : ℕ) (state : S) (now : List ℕ) : Type 0 where
+  pub says : ran ≡ false
+  pub place : laid ≡ at
+  pub left : state ≡ old
+  pub same : now ≡ before
 
 module _ {S : Type 0} where
   -- an answer is told
@@ -42,9 +54,24 @@ module _ {S : Type 0} where
   reads lineOf over blank old o =
       record { line = lineOf (says o) (after blank (mapped (over blank) o)); next = chosen (says o) (after blank (mapped (over blank) o)) old }
 
-  -- fields that are set: "check nothing (each prints `ok`)"
+  -- a line is printed, and nothing changes
+  abbrev pub stays : S → List ℕ → Effect S
+  stays s line = record { line = line; next = s }
+
+  -- fields that are set: nothing is checked, and `ok` is printed
   abbrev pub becomes : S → Effect S
   becomes next = record { line = word "ok\n"; next = next }
+
+-- a lent output of so many bytes, each 0xA5 at first
+abbrev pub lentOut : ℕ → List ℕ
+lentOut len = replicate len 165
+
+-- bytes written to such an output: how many, or why not, and all of the output
+abbrev pub writtenLine : Bool → List ℕ → ℕ → List ℕ
+writtenLine valid bytes len =
+    let lent = lentOut len in
+    let put = checked valid (putInto lent bytes) in
+    lentLine (saysWith (λ _. length bytes ∷ []) put) (after lent put)
 
 -- bytes are written to a lent output, which is then told whole
 pub record Lends (valid : Bool) (bytes lent lent′ before : List ℕ) (at laid : ℕ) (now : List ℕ) : Type 0 where

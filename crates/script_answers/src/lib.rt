@@ -1,7 +1,9 @@
 // The lines that `ccscript` prints, laid into a lent buffer from a place on and as far as there is room; each function answers the place behind
 // what it laid.
 ghost use mathlib.Core.Path.{_≡_};
+ghost use mathlib.Core.Bool.{_&&_};
 ghost use mathlib.Core.List.{[], _∷_};
+ghost use lib.Dec.{eqb};
 ghost use Rattle.model.specs.Said.{accepted};
 ghost use Rattle.caption.specs.Answers.{saidRefusal, saidAnswer, saidCounted, saidTruth};
 ghost use Rattle.writer.specs.Calls.{saidMicros};
@@ -10,7 +12,8 @@ ghost use Rattle.program_records.specs.Laid.{Laid};
 ghost use Rattle.program_records.specs.Text.{word};
 ghost use Rattle.service.specs.Service.{blockOf};
 ghost use Rattle.program_lines.specs.Lines.{answerText, blockText};
-ghost use Rattle.script_answers.specs.Script.{answerLine, lentLine, runLine, blockMeasures, packetMeasures, durations, countOf, together, readBlockLine, blocksText, blocksIn, heldText, readPacketLine, itemLine};
+ghost use Rattle.script_answers.specs.Script.{answerLine, lentLine, runLine, blockMeasures, packetMeasures, durations, countOf, together};
+ghost use Rattle.script_answers.specs.Script.{readBlockLine, blocksText, blocksIn, heldText, readPacketLine, itemLine};
 use basics::MOST_BLOCKS;
 use caption::Answer;
 use caption::Counted;
@@ -24,6 +27,16 @@ use program_records::put_word;
 use service::Service;
 use writer::CCDataWriter;
 use writer::Micros;
+
+// Whether an operation is asked for: by its letter, with as many argument bytes as it takes.
+pub fn asks(op: u8, letter: u8, fits: bool) -> bool
+    ensures { λ r. ⌜ r ≡ eqb op letter && fits ⌝ }
+{
+    if op != letter {
+        return false;
+    }
+    fits
+}
 
 // An operation that there is not, or one with too few or too many argument bytes.
 pub fn put_bad_line(out: &mut [u8], at: usize) -> usize

@@ -3,11 +3,13 @@ use mathlib.Core.Path.{_≡_, _∙_}
 use mathlib.Core.Bool.{Bool, true, false}
 use mathlib.Core.List.{List}
 use Prim.Native.Nat.{ℕ}
+use lib.ListN.{getD, drop}
 use Rattle.model.specs.Said.{Outcome, gave, says, checked, mapped, after}
 use Rattle.model.specs.Mux.{Mux, withPads}
 use Rattle.model.proofs.Cases.{by-test}
 use Rattle.caption.specs.declared.Framerate.{Framerate}
 use Rattle.caption.specs.Answers.{saidAnswer, saidCounted}
+use Rattle.caption.specs.Rates.{rate}
 use Rattle.parser.specs.declared.CCDataParser.{CCDataParser}
 use Rattle.parser.specs.declared.Drawn.{Drawn}
 use Rattle.parser.specs.Items.{Draws, saidItem}
@@ -18,9 +20,11 @@ use Rattle.writer.specs.Writer.{means, validWriter, stored}
 use Rattle.writer.specs.Calls.{Answers, Writes}
 use Rattle.writer.proofs.Kept.{pads-valid, pads-again}
 use Rattle.program_records.specs.Laid.{Laid}
+use Rattle.program_records.specs.Reading.{highestFirst}
 use Rattle.script_answers.specs.Script.{lentLine, itemLine}
-use Rattle.script_answers.specs.Steps.{Did, tells, lays}
-use Rattle.script_machines.specs.Counts.{draws, wrote}
+use Rattle.script_answers.specs.Steps.{Did, tells, lays, lentOut}
+use Rattle.script_machines.specs.Parsers.{draws}
+use Rattle.script_machines.specs.Writers.{wrote, writesFrame}
 
 -- an item drawn
 pub did-draw : {out now : List ℕ} {at laid : ℕ} (r : CCDataParser) (d : Drawn) → Draws r d → Laid (itemLine (saidItem (d .item)) (d .packet)) out at laid now
@@ -31,6 +35,12 @@ did-draw r d w l = record { told = rw (← w .item, ← w .packet) l; left = w .
 pub did-write : {out now lent′ : List ℕ} {at laid : ℕ} (lent : List ℕ) (rate : Framerate) (w : CCDataWriter) (r : WriterCount) → Writes rate lent w r lent′
     → Laid (lentLine (saidCounted (r .answer)) lent′) out at laid now → Did (wrote rate lent w) out at laid (r .writer) now
 did-write lent rate w r h l = record { told = rw (← h .answer, ← h .output) l; left = h .places }
+
+-- the same by the argument bytes
+pub told-frame : {out now lent : List ℕ} {at laid : ℕ} {next : CCDataWriter} (a : List ℕ) (w : CCDataWriter) (speed : Framerate) (x y n : ℕ)
+    → Did (wrote speed lent w) out at laid next now → speed ≡ rate x y → x ≡ highestFirst (drop 0 a) → y ≡ highestFirst (drop 4 a)
+    → n ≡ getD a 8 0 → lent ≡ lentOut n → Did (writesFrame a w) out at laid next now
+told-frame a w speed x y n d p q s t e = rw (p, q, s, e, t) at d
 
 -- Both switches set, one after the other: the first call keeps the limits, so that the second is refused where the first was.
 module _ (a b : Bool) (w : CCDataWriter) (f s : WriterAnswer)

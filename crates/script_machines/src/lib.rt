@@ -1,91 +1,104 @@
-// The operations of a script on its demultiplexer and its multiplexer: each makes one call, lays the line that tells of it into a lent buffer from
-// a place on, and answers the place behind the line beside what the call leaves.
+// The operations of a script, by their letters, on its demultiplexer and its multiplexer: each makes one call, lays the line that tells of it into
+// a lent buffer from a place on, and answers the place behind the line beside what the call leaves.
 ghost use mathlib.Core.Path.{_≡_};
-ghost use mathlib.Core.Bool.{_&&_};
-ghost use Rattle.model.specs.Said.{gave, checked, mapped, after};
-ghost use Rattle.model.specs.Mux.{withPads, flushMux, pushPacket, pushCea608};
+ghost use Rattle.model.specs.Said.{mapped, after};
 ghost use Rattle.caption.specs.Answers.{saidAnswer};
-ghost use Rattle.caption.specs.Pairs.{cea608Of};
-ghost use Rattle.packet.specs.Packet.{packetOf, validDTVCC};
-ghost use Rattle.parser.specs.Calls.{fresh as freshParser};
-ghost use Rattle.writer.specs.Writer.{means, validWriter, fresh as freshWriter, stored, emptied};
 ghost use Rattle.writer.specs.Calls.{written};
-ghost use Rattle.script_answers.specs.Steps.{Did, tells, lays, becomes};
-ghost use Rattle.script_machines.specs.Counts.{withCounts, withQueued, pushes, turnsOn, flushes, draws, wrote};
+ghost use Rattle.script_answers.specs.Steps.{Runs, tells};
+ghost use Rattle.script_answers.specs.Rows.{sought, Asked};
+ghost use Rattle.script_machines.specs.Parsers.{renewsParser, turnsOn, pushesFrame, draws, flushesParser, setsParser, parserRows};
+ghost use Rattle.script_machines.specs.Writers.{renewsWriter, switches, pushesPacket, pushesPair, wrote, writesFrame, tellsDurations};
+ghost use Rattle.script_machines.specs.Writers.{flushesWriter, setsWriter, writerRows};
 use caption::Cea608;
 use caption::Framerate;
 use packet::DTVCCPacket;
 use parser::CCDataParser;
 use parser::ParserAnswer;
+use program_records::byte_at;
+use script_answers::asks;
 use writer::CCDataWriter;
 use writer::WriterAnswer;
 
-// The place behind a line, and the demultiplexer.
+// Whether an operation was run, the place behind its line, and the demultiplexer.
 pub struct OnParser {
+    pub ran: bool,
     pub laid: usize,
     pub parser: CCDataParser,
 }
 
-// The place behind a line, and the multiplexer.
+// Whether an operation was run, the place behind its line, and the multiplexer.
 pub struct OnWriter {
+    pub ran: bool,
     pub laid: usize,
     pub writer: CCDataWriter,
 }
 
 // What a call leaves of a demultiplexer.
 fn told_parser(out: &mut [u8], at: usize, done: ParserAnswer) -> OnParser
-    ensures { λ r. ⌜ Did (tells (saidAnswer (done .answer)) (done .parser)) (now (out .entry)) at (r .laid) (r .parser) (now (out .exit)) ⌝ }
+    ensures { λ r. ⌜ Runs (tells (saidAnswer (done .answer)) (done .parser)) (now (out .entry)) at (r .ran) (r .laid) (r .parser) (now (out .exit)) ⌝ }
 {
     let answer = done.answer;
     let parser = done.parser;
     let laid = script_answers::put_answer_line(out, at, answer);
-    OnParser { laid, parser }
+    OnParser {
+        ran: true,
+        laid,
+        parser,
+    }
 }
 
 // A frame pushed.
-pub fn push_frame(out: &mut [u8], at: usize, before: CCDataParser, frame: &[u8]) -> OnParser
-    ensures { λ r. ⌜ Did (pushes (now (frame .entry)) before) (now (out .entry)) at (r .laid) (r .parser) (now (out .exit)) ⌝ }
+fn push_frame(out: &mut [u8], at: usize, before: CCDataParser, frame: &[u8]) -> OnParser
+    ensures { λ r. ⌜ Runs (pushesFrame (now (frame .entry)) before) (now (out .entry)) at (r .ran) (r .laid) (r .parser) (now (out .exit)) ⌝ }
 {
     told_parser(out, at, before.push(frame))
 }
 
 // 608 turned on.
-pub fn turn_on(out: &mut [u8], at: usize, before: CCDataParser) -> OnParser
-    ensures { λ r. ⌜ Did (turnsOn before) (now (out .entry)) at (r .laid) (r .parser) (now (out .exit)) ⌝ }
+fn turn_on(out: &mut [u8], at: usize, before: CCDataParser) -> OnParser
+    ensures { λ r. ⌜ Runs (turnsOn before) (now (out .entry)) at (r .ran) (r .laid) (r .parser) (now (out .exit)) ⌝ }
 {
     told_parser(out, at, before.handle_cea608())
 }
 
 // The demultiplexer flushed.
-pub fn flush_parser(out: &mut [u8], at: usize, before: CCDataParser) -> OnParser
-    ensures { λ r. ⌜ Did (flushes before) (now (out .entry)) at (r .laid) (r .parser) (now (out .exit)) ⌝ }
+fn flush_parser(out: &mut [u8], at: usize, before: CCDataParser) -> OnParser
+    ensures { λ r. ⌜ Runs (flushesParser before) (now (out .entry)) at (r .ran) (r .laid) (r .parser) (now (out .exit)) ⌝ }
 {
     told_parser(out, at, before.flush())
 }
 
 // One item drawn.
-pub fn draw(out: &mut [u8], at: usize, before: CCDataParser) -> OnParser
-    ensures { λ r. ⌜ Did (draws before) (now (out .entry)) at (r .laid) (r .parser) (now (out .exit)) ⌝ }
+fn draw(out: &mut [u8], at: usize, before: CCDataParser) -> OnParser
+    ensures { λ r. ⌜ Runs (draws before) (now (out .entry)) at (r .ran) (r .laid) (r .parser) (now (out .exit)) ⌝ }
 {
     let drawn = before.draw();
     let item = drawn.item;
     let packet = drawn.packet;
     let parser = drawn.parser;
     let laid = script_answers::put_item_line(out, at, item, packet);
-    OnParser { laid, parser }
+    OnParser {
+        ran: true,
+        laid,
+        parser,
+    }
 }
 
 // A fresh demultiplexer.
-pub fn new_parser(out: &mut [u8], at: usize) -> OnParser
-    ensures { λ r. ⌜ Did (becomes freshParser) (now (out .entry)) at (r .laid) (r .parser) (now (out .exit)) ⌝ }
+fn new_parser(out: &mut [u8], at: usize) -> OnParser
+    ensures { λ r. ⌜ Runs renewsParser (now (out .entry)) at (r .ran) (r .laid) (r .parser) (now (out .exit)) ⌝ }
 {
     let parser = CCDataParser::new();
     let laid = script_answers::put_ok_line(out, at);
-    OnParser { laid, parser }
+    OnParser {
+        ran: true,
+        laid,
+        parser,
+    }
 }
 
 // The three counts of the demultiplexer set, whatever they break.
-pub fn set_parser(
+fn set_parser(
     out: &mut [u8],
     at: usize,
     before: CCDataParser,
@@ -93,35 +106,76 @@ pub fn set_parser(
     pending: u8,
     waiting: u8,
 ) -> OnParser
-    ensures { λ r. ⌜ Did (becomes (withCounts pairs pending waiting before)) (now (out .entry)) at (r .laid) (r .parser) (now (out .exit)) ⌝ }
+    ensures { λ r. ⌜ Runs (setsParser pairs pending waiting before) (now (out .entry)) at (r .ran) (r .laid) (r .parser) (now (out .exit)) ⌝ }
 {
     let mut parser = before;
     parser.pair_count = pairs as usize;
     parser.pending_len = pending as usize;
     parser.waiting_count = waiting as usize;
     let laid = script_answers::put_ok_line(out, at);
-    OnParser { laid, parser }
+    OnParser {
+        ran: true,
+        laid,
+        parser,
+    }
+}
+
+// The operations on the demultiplexer.
+pub fn on_parser(out: &mut [u8], at: usize, r: CCDataParser, op: u8, args: &[u8]) -> OnParser
+    ensures { λ x. ⌜ Asked (sought (parserRows r) op (now (args .entry))) r (now (out .entry)) at (x .ran) (x .laid) (x .parser) (now (out .exit)) ⌝ }
+{
+    let n = args.len();
+    let a = byte_at(args, 0);
+    let b = byte_at(args, 1);
+    let c = byte_at(args, 2);
+    if asks(op, b'R', n == 0) {
+        return new_parser(out, at);
+    }
+    if asks(op, b'H', n == 0) {
+        return turn_on(out, at, r);
+    }
+    if asks(op, b'f', true) {
+        return push_frame(out, at, r, args);
+    }
+    if asks(op, b'n', n == 0) {
+        return draw(out, at, r);
+    }
+    if asks(op, b'F', n == 0) {
+        return flush_parser(out, at, r);
+    }
+    if asks(op, b'D', n == 3) {
+        return set_parser(out, at, r, a, b, c);
+    }
+    OnParser {
+        ran: false,
+        laid: at,
+        parser: r,
+    }
 }
 
 // What a call leaves of a multiplexer.
 fn told_writer(out: &mut [u8], at: usize, done: WriterAnswer) -> OnWriter
-    ensures { λ r. ⌜ Did (tells (saidAnswer (done .answer)) (done .writer)) (now (out .entry)) at (r .laid) (r .writer) (now (out .exit)) ⌝ }
+    ensures { λ r. ⌜ Runs (tells (saidAnswer (done .answer)) (done .writer)) (now (out .entry)) at (r .ran) (r .laid) (r .writer) (now (out .exit)) ⌝ }
 {
     let answer = done.answer;
     let writer = done.writer;
     let laid = script_answers::put_answer_line(out, at, answer);
-    OnWriter { laid, writer }
+    OnWriter {
+        ran: true,
+        laid,
+        writer,
+    }
 }
 
 // The two switches set.
-pub fn switch(
+fn switch(
     out: &mut [u8],
     at: usize,
     before: CCDataWriter,
     cea608_padding: bool,
     padding: bool,
 ) -> OnWriter
-    ensures { λ r. ⌜ Did (lays stored before (checked (validWriter before) (gave (withPads «cea608_padding» padding (means before))))) (now (out .entry)) at (r .laid) (r .writer) (now (out .exit)) ⌝ }
+    ensures { λ r. ⌜ Runs (switches «cea608_padding» padding before) (now (out .entry)) at (r .ran) (r .laid) (r .writer) (now (out .exit)) ⌝ }
 {
     let first = before.set_output_cea608_padding(cea608_padding);
     let writer = first.writer;
@@ -129,55 +183,63 @@ pub fn switch(
 }
 
 // A packet pushed.
-pub fn push_packet(out: &mut [u8], at: usize, before: CCDataWriter, packet: DTVCCPacket) -> OnWriter
-    ensures { λ r. ⌜ Did (lays stored before (checked (validWriter before && validDTVCC packet) (pushPacket (packetOf packet) (means before)))) (now (out .entry)) at (r .laid) (r .writer) (now (out .exit)) ⌝ }
+fn push_packet(out: &mut [u8], at: usize, before: CCDataWriter, packet: DTVCCPacket) -> OnWriter
+    ensures { λ r. ⌜ Runs (pushesPacket packet before) (now (out .entry)) at (r .ran) (r .laid) (r .writer) (now (out .exit)) ⌝ }
 {
     told_writer(out, at, before.push_packet(packet))
 }
 
 // A pair pushed.
-pub fn push_pair(out: &mut [u8], at: usize, before: CCDataWriter, pair: Cea608) -> OnWriter
-    ensures { λ r. ⌜ Did (lays stored before (checked (validWriter before) (pushCea608 (cea608Of pair) (means before)))) (now (out .entry)) at (r .laid) (r .writer) (now (out .exit)) ⌝ }
+fn push_pair(out: &mut [u8], at: usize, before: CCDataWriter, pair: Cea608) -> OnWriter
+    ensures { λ r. ⌜ Runs (pushesPair pair before) (now (out .entry)) at (r .ran) (r .laid) (r .writer) (now (out .exit)) ⌝ }
 {
     told_writer(out, at, before.push_cea608(pair))
 }
 
 // The multiplexer flushed.
-pub fn flush_writer(out: &mut [u8], at: usize, before: CCDataWriter) -> OnWriter
-    ensures { λ r. ⌜ Did (lays emptied before (checked (validWriter before) (gave (flushMux (means before))))) (now (out .entry)) at (r .laid) (r .writer) (now (out .exit)) ⌝ }
+fn flush_writer(out: &mut [u8], at: usize, before: CCDataWriter) -> OnWriter
+    ensures { λ r. ⌜ Runs (flushesWriter before) (now (out .entry)) at (r .ran) (r .laid) (r .writer) (now (out .exit)) ⌝ }
 {
     told_writer(out, at, before.flush())
 }
 
 // A frame written to a lent output, which is told whole.
-pub fn tell_frame(
+fn tell_frame(
     out: &mut [u8],
     at: usize,
     before: CCDataWriter,
     rate: Framerate,
     lent: &mut [u8],
 ) -> OnWriter
-    ensures { λ r. ⌜ Did (wrote rate (now (lent .entry)) before) (now (out .entry)) at (r .laid) (r .writer) (now (out .exit)) ⌝ }
+    ensures { λ r. ⌜ Runs (wrote rate (now (lent .entry)) before) (now (out .entry)) at (r .ran) (r .laid) (r .writer) (now (out .exit)) ⌝ }
     ensures { λ r. ⌜ now (lent .exit) ≡ after (now (lent .entry)) (mapped (λ x. x .out) (written rate (now (lent .entry)) before)) ⌝ }
 {
     let done = before.write(rate, lent);
     let counted = done.answer;
     let writer = done.writer;
     let laid = script_answers::put_lent_line(out, at, counted, lent);
-    OnWriter { laid, writer }
+    OnWriter {
+        ran: true,
+        laid,
+        writer,
+    }
 }
 
 // A fresh multiplexer.
-pub fn new_writer(out: &mut [u8], at: usize) -> OnWriter
-    ensures { λ r. ⌜ Did (becomes freshWriter) (now (out .entry)) at (r .laid) (r .writer) (now (out .exit)) ⌝ }
+fn new_writer(out: &mut [u8], at: usize) -> OnWriter
+    ensures { λ r. ⌜ Runs renewsWriter (now (out .entry)) at (r .ran) (r .laid) (r .writer) (now (out .exit)) ⌝ }
 {
     let writer = CCDataWriter::new();
     let laid = script_answers::put_ok_line(out, at);
-    OnWriter { laid, writer }
+    OnWriter {
+        ran: true,
+        laid,
+        writer,
+    }
 }
 
 // The three counts of the multiplexer set, and how many bytes of the packet being sent have left, whatever they break.
-pub fn set_writer(
+fn set_writer(
     out: &mut [u8],
     at: usize,
     before: CCDataWriter,
@@ -186,7 +248,7 @@ pub fn set_writer(
     count1: u8,
     count2: u8,
 ) -> OnWriter
-    ensures { λ r. ⌜ Did (becomes (withQueued packets sent count1 count2 before)) (now (out .entry)) at (r .laid) (r .writer) (now (out .exit)) ⌝ }
+    ensures { λ r. ⌜ Runs (setsWriter packets sent count1 count2 before) (now (out .entry)) at (r .ran) (r .laid) (r .writer) (now (out .exit)) ⌝ }
 {
     let mut field1 = before.field1;
     field1.count = count1 as usize;
@@ -198,5 +260,84 @@ pub fn set_writer(
     writer.field1 = field1;
     writer.field2 = field2;
     let laid = script_answers::put_ok_line(out, at);
-    OnWriter { laid, writer }
+    OnWriter {
+        ran: true,
+        laid,
+        writer,
+    }
+}
+
+// A frame written to an output of as many bytes as the last argument says.
+fn write_frame(out: &mut [u8], at: usize, w: CCDataWriter, args: &[u8]) -> OnWriter
+    ensures { λ r. ⌜ Runs (writesFrame (now (args .entry)) w) (now (out .entry)) at (r .ran) (r .laid) (r .writer) (now (out .exit)) ⌝ }
+{
+    let rate = Framerate::new(
+        program_records::number_at(args, 0),
+        program_records::number_at(args, 4),
+    );
+    let mut lent = [0xA5u8; 255];
+    let end = byte_at(args, 8) as usize;
+    tell_frame(out, at, w, rate, &mut lent[0..end])
+}
+
+// The durations told.
+fn tell_durations(out: &mut [u8], at: usize, writer: CCDataWriter) -> OnWriter
+    ensures { λ r. ⌜ Runs (tellsDurations writer) (now (out .entry)) at (r .ran) (r .laid) (r .writer) (now (out .exit)) ⌝ }
+{
+    let laid = script_answers::put_durations(out, at, writer);
+    OnWriter {
+        ran: true,
+        laid,
+        writer,
+    }
+}
+
+// The operations on the multiplexer.
+pub fn on_writer(
+    out: &mut [u8],
+    at: usize,
+    p: DTVCCPacket,
+    w: CCDataWriter,
+    op: u8,
+    args: &[u8],
+) -> OnWriter
+    ensures { λ x. ⌜ Asked (sought (writerRows p w) op (now (args .entry))) w (now (out .entry)) at (x .ran) (x .laid) (x .writer) (now (out .exit)) ⌝ }
+{
+    let n = args.len();
+    let a = byte_at(args, 0);
+    let b = byte_at(args, 1);
+    let c = byte_at(args, 2);
+    let d = byte_at(args, 3);
+    if asks(op, b'W', n == 0) {
+        return new_writer(out, at);
+    }
+    if asks(op, b'S', n == 1) {
+        return switch(out, at, w, a % 2 == 1, a / 2 % 2 == 1);
+    }
+    if asks(op, b'q', n == 0) {
+        return push_packet(out, at, w, p);
+    }
+    if asks(op, b'1', n == 2) {
+        return push_pair(out, at, w, Cea608::Field1(a, b));
+    }
+    if asks(op, b'2', n == 2) {
+        return push_pair(out, at, w, Cea608::Field2(a, b));
+    }
+    if asks(op, b'w', n == 9) {
+        return write_frame(out, at, w, args);
+    }
+    if asks(op, b'u', n == 0) {
+        return tell_durations(out, at, w);
+    }
+    if asks(op, b'x', n == 0) {
+        return flush_writer(out, at, w);
+    }
+    if asks(op, b'Q', n == 4) {
+        return set_writer(out, at, w, a, b, c, d);
+    }
+    OnWriter {
+        ran: false,
+        laid: at,
+        writer: w,
+    }
 }

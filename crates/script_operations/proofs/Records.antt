@@ -1,47 +1,138 @@
--- A record is its first byte, the letter, and the bytes behind it. Assumes nothing.
-use mathlib.Core.Path.{_≡_, refl, ap, _∙_}
-use mathlib.Core.Bool.{Bool, true, false, cond}
+-- A record is its first byte, the letter, and the bytes behind it; the first part that runs it does what the record does. Assumes nothing.
+use mathlib.Core.Path.{_≡_, refl, sym, ap, _∙_}
+use mathlib.Core.Bool.{Bool, true, false, true≢false}
 use mathlib.Core.List.{List, [], _∷_}
 use Prim.Native.Nat.{ℕ}
 use lib.ListN.{length, getD, take, drop}
+use Rattle.service.specs.declared.Service.{Service}
+use Rattle.packet.specs.declared.DTVCCPacket.{DTVCCPacket}
+use Rattle.parser.specs.declared.CCDataParser.{CCDataParser}
+use Rattle.writer.specs.declared.CCDataWriter.{CCDataWriter}
 use Rattle.program_records.specs.Laid.{Laid}
 use Rattle.program_records.specs.Text.{word}
-use Rattle.script_answers.specs.Steps.{Did}
-use Rattle.script_parts.specs.declared.Machine.{Machine}
-use Rattle.script_parts.specs.Machine.{bad}
-use Rattle.script_operations.specs.Ran.{ran}
-use Rattle.script_parts.specs.Table.{Operation, rowOf, fits, doing, table, blockRows, packetRows, parserRows, writerRows, setsBlock, setsPacket, setsParser, setsWriter}
-use Rattle.script_parts.specs.declared.Part.{Part}
-use Rattle.script_parts.specs.Parts.{rowsOn, Done}
-use Rattle.script_parts.proofs.Rows.{behind}
+use Rattle.script_answers.specs.Steps.{Effect, Did}
+use Rattle.script_answers.specs.Rows.{Sought, sought, Asked}
+use Rattle.script_answers.proofs.Rows.{behind}
+use Rattle.script_values.specs.declared.OnBlock.{OnBlock}
+use Rattle.script_values.specs.declared.OnPacket.{OnPacket}
+use Rattle.script_values.specs.Blocks.{blockRows}
+use Rattle.script_values.specs.Packets.{packetRows}
+use Rattle.script_machines.specs.declared.OnParser.{OnParser}
+use Rattle.script_machines.specs.declared.OnWriter.{OnWriter}
+use Rattle.script_machines.specs.Parsers.{parserRows}
+use Rattle.script_machines.specs.Writers.{writerRows}
+use Rattle.script_operations.specs.declared.Machine.{Machine}
+use Rattle.script_operations.specs.declared.Stepped.{Stepped}
+use Rattle.script_operations.specs.Ran.{within, bad, withBlock, withPacket, withParser, withWriter, onMachines, operated, ran}
 
 -- no operation is 0, which stands for the letter of an empty record
-empty-fits : fits table 0 0 ≡ false
-unfolding fits rowOf blockRows packetRows parserRows writerRows setsBlock setsPacket setsParser setsWriter
-empty-fits = refl
+ran-by : (m : Machine) (l : List ℕ) → ran m l ≡ operated m (getD l 0 0) (drop 1 l)
+unfolding ran operated onMachines sought blockRows packetRows parserRows writerRows
+ran-by m [] = refl
+ran-by m (x ∷ l) = refl
 
-ran-by : (m : Machine) (l : List ℕ) (t : Bool) → t ≡ fits table (getD l 0 0) (length (drop 1 l))
-    → ran m l ≡ cond t (doing table (getD l 0 0) m (drop 1 l)) (bad m)
-unfolding ran
-ran-by m [] t e = rw (e, empty-fits)
-ran-by m (x ∷ l) t e = rw e
+pub ran-operated : (m : Machine) (l a : List ℕ) (op : ℕ) → op ≡ getD l 0 0 → a ≡ take (length l) (drop 1 l) → operated m op a ≡ ran m l
+ran-operated m l a op e f =
+    let h : a ≡ drop 1 l = f ∙ behind l in
+    rw (e, h) (sym (ran-by m l))
 
--- rows that are the same do the same
-same-doing : (m : Machine) (op : ℕ) (a : List ℕ) (xs ys : List Operation) → rowOf op xs ≡ rowOf op ys → doing xs op m a ≡ doing ys op m a
-unfolding doing
-same-doing m op a xs ys q = ap (λ (o : Operation). o .does m a) q
+-- Behind the parts that were asked so far and have no such row, all that is done is what those behind them do, and nothing is laid.
+pub record Passed (all rest : Effect Machine) (before now : List ℕ) : Type 0 where
+  pub same : all ≡ rest
+  pub bytes : now ≡ before
 
-module _ (m : Machine) (l a : List ℕ) (op : ℕ) (t : Bool) (e : op ≡ getD l 0 0)
-    (f : a ≡ take (length l) (drop 1 l)) (g : t ≡ fits table op (length a)) where
-  same : ran m l ≡ cond t (doing table op m a) (bad m)
-  same =
-      let h : a ≡ drop 1 l = f ∙ behind l in
-      rw (e, h) (ran-by m l t (rw (← e, ← h) g))
+pub at-first : (all : Effect Machine) (before : List ℕ) → Passed all all before before
+at-first all before = record { same = refl; bytes = refl }
 
-  module _ {out now : List ℕ} {at laid : ℕ} where
-    pub ran-done : {next : Machine} (on : Part) → t ≡ true → rowOf op (rowsOn on) ≡ rowOf op table → Done on op a m out at laid next now
-        → Did (ran m l) out at laid next now
-    ran-done on k q d = rw (same, k, ← same-doing m op a (rowsOn on) table q) d
+module _ {S : Type 0} {all : Effect Machine} (whole : S → Machine) (old next : S) (out before now : List ℕ) (at laid : ℕ) (says : Bool) where
+  -- one more part is passed that says that it did not run it
+  pub passed : (w : Sought S) (rest : Effect Machine) → Passed all (within whole w rest) out before → Asked w old before at says laid next now
+      → says ≡ false → Passed all rest out now
+  passed (Sought.one e) rest p d k = absurd (true≢false (sym (d .says) ∙ k))
+  passed Sought.none rest p d k = record { same = p .same; bytes = d .same ∙ p .bytes }
 
-    pub ran-bad : t ≡ false → Laid (word "bad\n") out at laid now → Did (ran m l) out at laid m now
-    ran-bad k d = rw (same, k) (record { told = d; left = refl })
+  -- the part that says that it ran it did all there is
+  pub done-by : (w : Sought S) (rest : Effect Machine) → Passed all (within whole w rest) out before → Asked w old before at says laid next now
+      → says ≡ true → Did all out at laid (whole next) now
+  done-by (Sought.one e) rest p d k = rw (p .same, ← p .bytes) (record { told = d .did .told; left = ap whole (d .did .left) })
+  done-by Sought.none rest p d k = absurd (true≢false (sym k ∙ d .says))
+
+-- no part ran it
+pub done-by-none : {all : Effect Machine} {out before now : List ℕ} {at laid : ℕ} (m : Machine) → Passed all (bad m) out before
+    → Laid (word "bad\n") before at laid now → Did all out at laid m now
+done-by-none m p l = rw (p .same, ← p .bytes) (record { told = l; left = refl })
+
+-- what is left stands beside the place
+pub stepped : {all : Effect Machine} {out now : List ℕ} {at laid : ℕ} {left : Machine} (e : Effect Machine) (r : Stepped) → Did all out at laid left now
+    → r ≡ record { laid = laid; machine = left } → all ≡ e → Did e out at (r .laid) (r .machine) now
+stepped e r d g h = rw (← h, g) d
+
+-- The two machines are asked one after the other.
+module _ (m : Machine) (op : ℕ) (a out mid : List ℕ) (at : ℕ) (on-r : OnParser)
+    (d : Asked (sought (parserRows (m .r)) op a) (m .r) out at (on-r .ran) (on-r .laid) (on-r .parser) mid) where
+  abbrev ofParser : Sought CCDataParser
+  ofParser = sought (parserRows (m .r)) op a
+
+  abbrev ofWriter : Sought CCDataWriter
+  ofWriter = sought (writerRows (m .p) (m .w)) op a
+
+  start : Passed (onMachines m op a) (within (withParser m) ofParser (within (withWriter m) ofWriter (bad m))) out out
+  unfolding onMachines
+  start = at-first (onMachines m op a) out
+
+  pub by-parser : (r : Stepped) → on-r .ran ≡ true → r ≡ record { laid = on-r .laid; machine = withParser m (on-r .parser) }
+      → Did (onMachines m op a) out at (r .laid) (r .machine) mid
+  by-parser r k g =
+      let z = done-by (withParser m) (m .r) (on-r .parser) out out mid at (on-r .laid) (on-r .ran) ofParser (within (withWriter m) ofWriter (bad m)) start d k in
+      stepped (onMachines m op a) r z g refl
+
+  module _ (n : on-r .ran ≡ false) (now : List ℕ) (on-w : OnWriter)
+      (f : Asked ofWriter (m .w) mid at (on-w .ran) (on-w .laid) (on-w .writer) now) where
+    passed-parser : Passed (onMachines m op a) (within (withWriter m) ofWriter (bad m)) out mid
+    passed-parser = passed (withParser m) (m .r) (on-r .parser) out out mid at (on-r .laid) (on-r .ran) ofParser (within (withWriter m) ofWriter (bad m)) start d n
+
+    pub by-writer : (r : Stepped) → on-w .ran ≡ true → r ≡ record { laid = on-w .laid; machine = withWriter m (on-w .writer) }
+        → Did (onMachines m op a) out at (r .laid) (r .machine) now
+    by-writer r k g =
+        let z = done-by (withWriter m) (m .w) (on-w .writer) out mid now at (on-w .laid) (on-w .ran) ofWriter (bad m) passed-parser f k in
+        stepped (onMachines m op a) r z g refl
+
+    pub by-none : {laid : ℕ} {last : List ℕ} → on-w .ran ≡ false → Laid (word "bad\n") now at laid last → Did (onMachines m op a) out at laid m last
+    by-none k l =
+        done-by-none m (passed (withWriter m) (m .w) (on-w .writer) out mid now at (on-w .laid) (on-w .ran) ofWriter (bad m) passed-parser f k) l
+
+-- The block and the packet are asked before them.
+module _ (m : Machine) (l a : List ℕ) (op : ℕ) (e : op ≡ getD l 0 0) (h : a ≡ take (length l) (drop 1 l)) (out mid : List ℕ) (at : ℕ) (on-s : OnBlock)
+    (d : Asked (sought (blockRows (m .s)) op a) (m .s) out at (on-s .ran) (on-s .laid) (on-s .service) mid) where
+  abbrev ofBlock : Sought Service
+  ofBlock = sought (blockRows (m .s)) op a
+
+  abbrev ofPacket : Sought DTVCCPacket
+  ofPacket = sought (packetRows (m .s) (m .p)) op a
+
+  begin : Passed (operated m op a) (within (withBlock m) ofBlock (within (withPacket m) ofPacket (onMachines m op a))) out out
+  unfolding operated
+  begin = at-first (operated m op a) out
+
+  pub by-block : (r : Stepped) → on-s .ran ≡ true → r ≡ record { laid = on-s .laid; machine = withBlock m (on-s .service) }
+      → Did (ran m l) out at (r .laid) (r .machine) mid
+  by-block r k g =
+      let z = done-by (withBlock m) (m .s) (on-s .service) out out mid at (on-s .laid) (on-s .ran) ofBlock (within (withPacket m) ofPacket (onMachines m op a)) begin d k in
+      stepped (ran m l) r z g (ran-operated m l a op e h)
+
+  module _ (n : on-s .ran ≡ false) (now : List ℕ) (on-p : OnPacket)
+      (f : Asked ofPacket (m .p) mid at (on-p .ran) (on-p .laid) (on-p .packet) now) where
+    passed-block : Passed (operated m op a) (within (withPacket m) ofPacket (onMachines m op a)) out mid
+    passed-block = passed (withBlock m) (m .s) (on-s .service) out out mid at (on-s .laid) (on-s .ran) ofBlock (within (withPacket m) ofPacket (onMachines m op a)) begin d n
+
+    pub by-packet : (r : Stepped) → on-p .ran ≡ true → r ≡ record { laid = on-p .laid; machine = withPacket m (on-p .packet) }
+        → Did (ran m l) out at (r .laid) (r .machine) now
+    by-packet r k g =
+        let z = done-by (withPacket m) (m .p) (on-p .packet) out mid now at (on-p .laid) (on-p .ran) ofPacket (onMachines m op a) passed-block f k in
+        stepped (ran m l) r z g (ran-operated m l a op e h)
+
+    pub by-machines : {last : List ℕ} (r : Stepped) → on-p .ran ≡ false → Did (onMachines m op a) now at (r .laid) (r .machine) last
+        → Did (ran m l) out at (r .laid) (r .machine) last
+    by-machines r k g =
+        let z = passed (withPacket m) (m .p) (on-p .packet) out mid now at (on-p .laid) (on-p .ran) ofPacket (onMachines m op a) passed-block f k in
+        rw (← ran-operated m l a op e h, z .same, ← z .bytes) g

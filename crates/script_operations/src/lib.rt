@@ -2,22 +2,25 @@
 // on; the place behind the line stands beside what the operation leaves.
 ghost use mathlib.Core.Path.{_≡_};
 ghost use Rattle.script_answers.specs.Steps.{Did};
-ghost use Rattle.script_parts.specs.Machine.{withBlock, withPacket, withParser, withWriter};
-ghost use Rattle.script_parts.specs.Table.{rowOf, fits, table};
-ghost use Rattle.script_parts.specs.Parts.{rowsOn, Done};
-ghost use Rattle.script_operations.specs.Ran.{freshMachine, ran};
+ghost use Rattle.script_operations.specs.Ran.{freshMachine, withBlock, withPacket, withParser, withWriter, onMachines, ran};
 use packet::DTVCCPacket;
 use parser::CCDataParser;
 use program_records::byte_at;
 use program_records::part;
 use script_machines::OnParser;
 use script_machines::OnWriter;
-use script_parts::Machine;
-use script_parts::Part;
 use script_values::OnBlock;
 use script_values::OnPacket;
 use service::Service;
 use writer::CCDataWriter;
+
+// What the operations work on: a block, a packet, a demultiplexer and a multiplexer.
+pub struct Machine {
+    pub s: Service,
+    pub p: DTVCCPacket,
+    pub r: CCDataParser,
+    pub w: CCDataWriter,
+}
 
 // The place behind the line of an operation, and what it leaves.
 pub struct Stepped {
@@ -90,104 +93,23 @@ fn left_writer(m: Machine, done: OnWriter) -> Stepped
     }
 }
 
-// An operation on the part that it works on, or on none.
-fn operate(out: &mut [u8], at: usize, m: Machine, on: Part, op: u8, args: &[u8]) -> Stepped
-    ensures { λ r. ⌜ Done on op (now (args .entry)) m (now (out .entry)) at (r .laid) (r .machine) (now (out .exit)) ⌝ }
+// An operation on one of the two machines, or one that there is not.
+fn run_on_machines(out: &mut [u8], at: usize, m: Machine, op: u8, args: &[u8]) -> Stepped
+    ensures { λ r. ⌜ Did (onMachines m op (now (args .entry))) (now (out .entry)) at (r .laid) (r .machine) (now (out .exit)) ⌝ }
 {
-    let s = m.s;
     let p = m.p;
     let r = m.r;
     let w = m.w;
-    match on {
-        Part::Block => left_block(m, script_parts::on_block(out, at, s, op, args)),
-        Part::Packet => left_packet(m, script_parts::on_packet(out, at, s, p, op, args)),
-        Part::Parser => left_parser(m, script_muxes::on_parser(out, at, r, op, args)),
-        Part::Writer => left_writer(m, script_muxes::on_writer(out, at, p, w, op, args)),
-        Part::None => {
-            let laid = script_answers::put_bad_line(out, at);
-            Stepped { laid, machine: m }
-        }
+    let on_r = script_machines::on_parser(out, at, r, op, args);
+    if on_r.ran {
+        return left_parser(m, on_r);
     }
-}
-
-// The part that an operation works on.
-fn part_of(op: u8) -> Part
-    ensures { λ r. ⌜ rowOf op (rowsOn r) ≡ rowOf op table ⌝ }
-{
-    match op {
-        b'b' => Part::Block,
-        b'c' => Part::Block,
-        b'm' => Part::Block,
-        b'e' => Part::Block,
-        b'd' => Part::Block,
-        b'y' => Part::Block,
-        b'k' => Part::Packet,
-        b'v' => Part::Packet,
-        b'a' => Part::Packet,
-        b'i' => Part::Packet,
-        b'l' => Part::Packet,
-        b'o' => Part::Packet,
-        b'p' => Part::Packet,
-        b't' => Part::Packet,
-        b'R' => Part::Parser,
-        b'H' => Part::Parser,
-        b'f' => Part::Parser,
-        b'n' => Part::Parser,
-        b'F' => Part::Parser,
-        b'W' => Part::Writer,
-        b'S' => Part::Writer,
-        b'q' => Part::Writer,
-        b'1' => Part::Writer,
-        b'2' => Part::Writer,
-        b'w' => Part::Writer,
-        b'u' => Part::Writer,
-        b'x' => Part::Writer,
-        b'B' => Part::Block,
-        b'K' => Part::Packet,
-        b'D' => Part::Parser,
-        b'Q' => Part::Writer,
-        _ => Part::None,
+    let on_w = script_machines::on_writer(out, at, p, w, op, args);
+    if on_w.ran {
+        return left_writer(m, on_w);
     }
-}
-
-// Whether there is such an operation and it takes so many argument bytes.
-fn takes(op: u8, n: usize) -> bool
-    ensures { λ r. ⌜ r ≡ fits table op n ⌝ }
-{
-    match op {
-        b'b' => n == 1,
-        b'c' => true,
-        b'm' => n == 0,
-        b'e' => n == 1,
-        b'd' => true,
-        b'y' => true,
-        b'k' => n == 1,
-        b'v' => n == 0,
-        b'a' => 1 <= n,
-        b'i' => 1 <= n,
-        b'l' => n == 0,
-        b'o' => n == 1,
-        b'p' => true,
-        b't' => true,
-        b'R' => n == 0,
-        b'H' => n == 0,
-        b'f' => true,
-        b'n' => n == 0,
-        b'F' => n == 0,
-        b'W' => n == 0,
-        b'S' => n == 1,
-        b'q' => n == 0,
-        b'1' => n == 2,
-        b'2' => n == 2,
-        b'w' => n == 9,
-        b'u' => n == 0,
-        b'x' => n == 0,
-        b'B' => n == 2,
-        b'K' => n == 2,
-        b'D' => n == 3,
-        b'Q' => n == 4,
-        _ => false,
-    }
+    let laid = script_answers::put_bad_line(out, at);
+    Stepped { laid, machine: m }
 }
 
 // Runs one record, an operation and its argument bytes, and lays its line.
@@ -196,9 +118,15 @@ pub fn run_record(out: &mut [u8], at: usize, m: Machine, record: &[u8]) -> Stepp
 {
     let op = byte_at(record, 0);
     let args = part(record, 1, record.len());
-    if takes(op, args.len()) {
-        return operate(out, at, m, part_of(op), op, args);
+    let s = m.s;
+    let p = m.p;
+    let on_s = script_values::on_block(out, at, s, op, args);
+    if on_s.ran {
+        return left_block(m, on_s);
     }
-    let laid = script_answers::put_bad_line(out, at);
-    Stepped { laid, machine: m }
+    let on_p = script_values::on_packet(out, at, s, p, op, args);
+    if on_p.ran {
+        return left_packet(m, on_p);
+    }
+    run_on_machines(out, at, m, op, args)
 }

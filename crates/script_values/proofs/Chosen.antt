@@ -13,7 +13,7 @@ use Rattle.program_records.specs.Laid.{Laid}
 use Rattle.script_answers.specs.Script.{answerLine, readBlockLine, readPacketLine}
 use Rattle.script_answers.specs.Steps.{Did, tells, chosen}
 use Rattle.script_answers.proofs.Steps.{did-accept, did-refuse}
-use Rattle.script_values.specs.Fields.{packetRead}
+use Rattle.script_values.specs.Packets.{packetRead}
 
 module _ {out now : List ℕ} {at laid : ℕ} (a : Answer) (said : Said) (e : saidAnswer a ≡ said) where
   -- a line that tells of the answer alone

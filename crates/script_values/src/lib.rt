@@ -1,43 +1,53 @@
-// The operations of a script on its block and its packet: each makes one call, lays the line that tells of it into a lent buffer from a place on,
-// and answers the place behind the line beside what the call leaves.
-ghost use mathlib.Core.Bool.{_&&_};
-ghost use Rattle.model.specs.Said.{checked};
-ghost use Rattle.model.specs.Block.{newBlock, readBlock, writtenBlock, pushToBlock};
-ghost use Rattle.model.specs.Packet.{newPacket, readPacket, readTidy, writtenPacket, pushBlock, pushRun, pushRunSingle};
+// The operations of a script, by their letters, on its block and its packet: each makes one call, lays the line that tells of it into a lent
+// buffer from a place on, and answers the place behind the line beside what the call leaves.
+ghost use Rattle.model.specs.Block.{writtenBlock};
+ghost use Rattle.model.specs.Packet.{writtenPacket};
 ghost use Rattle.caption.specs.Answers.{saidAnswer};
-ghost use Rattle.service.specs.Service as block;
-ghost use Rattle.packet.specs.Packet as packet;
-ghost use Rattle.script_answers.specs.Script.{readBlockLine, readPacketLine};
-ghost use Rattle.script_answers.specs.Steps.{Did, Lends, tells, lays, makes, reads, becomes};
-ghost use Rattle.script_values.specs.Fields.{withFields, withCounts, packetRead};
+ghost use Rattle.service.specs.Service.{validService, blockOf};
+ghost use Rattle.packet.specs.Packet.{validDTVCC, packetOf};
+ghost use Rattle.script_answers.specs.Steps.{Runs, Lends, tells};
+ghost use Rattle.script_answers.specs.Rows.{sought, Asked};
+ghost use Rattle.script_values.specs.Blocks.{renewsBlock, pushesToBlock, measuresBlock, writesBlock, readsBlock, tellsPart, setsBlock, blockRows};
+ghost use Rattle.script_values.specs.Packets.{renewsPacket, pushesBlock, pushesRun, pushesSingle, measuresPacket, writesPacket, packetRead};
+ghost use Rattle.script_values.specs.Packets.{readsPlainly, readsTidily, setsPacket, packetRows};
 use caption::Answer;
 use packet::DTVCCPacket;
 use packet::PacketAnswer;
+use program_records::byte_at;
+use program_records::part;
+use script_answers::asks;
 use service::Service;
 
-// The place behind a line, and the block.
+// Whether an operation was run, the place behind its line, and the block.
 pub struct OnBlock {
+    pub ran: bool,
     pub laid: usize,
     pub service: Service,
 }
 
-// The place behind a line, and the packet.
+// Whether an operation was run, the place behind its line, and the packet.
 pub struct OnPacket {
+    pub ran: bool,
     pub laid: usize,
     pub packet: DTVCCPacket,
 }
 
 // A new block, where the call accepts.
-pub fn new_block(out: &mut [u8], at: usize, before: Service, number: u8) -> OnBlock
-    ensures { λ r. ⌜ Did (makes block.over block.blank before (newBlock number)) (now (out .entry)) at (r .laid) (r .service) (now (out .exit)) ⌝ }
+fn new_block(out: &mut [u8], at: usize, before: Service, number: u8) -> OnBlock
+    ensures { λ r. ⌜ Runs (renewsBlock number before) (now (out .entry)) at (r .ran) (r .laid) (r .service) (now (out .exit)) ⌝ }
 {
     let made = Service::new(number);
     let answer = made.answer;
     let service = made.service;
     let laid = script_answers::put_answer_line(out, at, answer);
     match answer {
-        Answer::Accepted => OnBlock { laid, service },
+        Answer::Accepted => OnBlock {
+            ran: true,
+            laid,
+            service,
+        },
         Answer::Refused(_) => OnBlock {
+            ran: true,
             laid,
             service: before,
         },
@@ -45,27 +55,36 @@ pub fn new_block(out: &mut [u8], at: usize, before: Service, number: u8) -> OnBl
 }
 
 // A run pushed to the block.
-pub fn push_to_block(out: &mut [u8], at: usize, before: Service, run: &[u8]) -> OnBlock
-    ensures { λ r. ⌜ Did (lays block.over before (checked (block.validService before) (pushToBlock (now (run .entry)) (block.blockOf before)))) (now (out .entry)) at (r .laid) (r .service) (now (out .exit)) ⌝ }
+fn push_to_block(out: &mut [u8], at: usize, before: Service, run: &[u8]) -> OnBlock
+    ensures { λ r. ⌜ Runs (pushesToBlock (now (run .entry)) before) (now (out .entry)) at (r .ran) (r .laid) (r .service) (now (out .exit)) ⌝ }
 {
     let pushed = before.push_code(run);
     let answer = pushed.answer;
     let service = pushed.service;
     let laid = script_answers::put_answer_line(out, at, answer);
-    OnBlock { laid, service }
+    OnBlock {
+        ran: true,
+        laid,
+        service,
+    }
 }
 
 // A block read out of bytes, where the call accepts.
-pub fn read_block(out: &mut [u8], at: usize, before: Service, bytes: &[u8]) -> OnBlock
-    ensures { λ r. ⌜ Did (reads readBlockLine block.over block.blank before (readBlock (now (bytes .entry)))) (now (out .entry)) at (r .laid) (r .service) (now (out .exit)) ⌝ }
+fn read_block(out: &mut [u8], at: usize, before: Service, bytes: &[u8]) -> OnBlock
+    ensures { λ r. ⌜ Runs (readsBlock (now (bytes .entry)) before) (now (out .entry)) at (r .ran) (r .laid) (r .service) (now (out .exit)) ⌝ }
 {
     let read = Service::parse(bytes);
     let answer = read.answer;
     let service = read.service;
     let laid = script_answers::put_block_line(out, at, answer, service);
     match answer {
-        Answer::Accepted => OnBlock { laid, service },
+        Answer::Accepted => OnBlock {
+            ran: true,
+            laid,
+            service,
+        },
         Answer::Refused(_) => OnBlock {
+            ran: true,
             laid,
             service: before,
         },
@@ -73,16 +92,16 @@ pub fn read_block(out: &mut [u8], at: usize, before: Service, bytes: &[u8]) -> O
 }
 
 // The block written to a lent output, which is told whole.
-pub fn tell_block(out: &mut [u8], at: usize, service: Service, lent: &mut [u8]) -> usize
-    ensures { λ r. ⌜ Lends (block.validService service) (writtenBlock (block.blockOf service)) (now (lent .entry)) (now (lent .exit)) (now (out .entry)) at r (now (out .exit)) ⌝ }
+fn tell_block(out: &mut [u8], at: usize, service: Service, lent: &mut [u8]) -> usize
+    ensures { λ r. ⌜ Lends (validService service) (writtenBlock (blockOf service)) (now (lent .entry)) (now (lent .exit)) (now (out .entry)) at r (now (out .exit)) ⌝ }
 {
     let counted = service.write(lent);
     script_answers::put_lent_line(out, at, counted, lent)
 }
 
 // Two fields of the block set, whatever they break.
-pub fn set_block(out: &mut [u8], at: usize, before: Service, number: u8, len: u8) -> OnBlock
-    ensures { λ r. ⌜ Did (becomes (withFields number len before)) (now (out .entry)) at (r .laid) (r .service) (now (out .exit)) ⌝ }
+fn set_block(out: &mut [u8], at: usize, before: Service, number: u8, len: u8) -> OnBlock
+    ensures { λ r. ⌜ Runs (setsBlock number len before) (now (out .entry)) at (r .ran) (r .laid) (r .service) (now (out .exit)) ⌝ }
 {
     let payload = before.payload;
     let service = Service {
@@ -91,20 +110,102 @@ pub fn set_block(out: &mut [u8], at: usize, before: Service, number: u8, len: u8
         payload,
     };
     let laid = script_answers::put_ok_line(out, at);
-    OnBlock { laid, service }
+    OnBlock {
+        ran: true,
+        laid,
+        service,
+    }
+}
+
+// The block measured.
+fn measure_block(out: &mut [u8], at: usize, service: Service) -> OnBlock
+    ensures { λ r. ⌜ Runs (measuresBlock service) (now (out .entry)) at (r .ran) (r .laid) (r .service) (now (out .exit)) ⌝ }
+{
+    let laid = script_answers::put_block_measures(out, at, service);
+    OnBlock {
+        ran: true,
+        laid,
+        service,
+    }
+}
+
+// The block written to an output of `len` bytes.
+fn write_block(out: &mut [u8], at: usize, service: Service, len: u8) -> OnBlock
+    ensures { λ r. ⌜ Runs (writesBlock len service) (now (out .entry)) at (r .ran) (r .laid) (r .service) (now (out .exit)) ⌝ }
+{
+    let mut lent = [0xA5u8; 255];
+    let end = len as usize;
+    let laid = tell_block(out, at, service, &mut lent[0..end]);
+    OnBlock {
+        ran: true,
+        laid,
+        service,
+    }
+}
+
+// The payload that bytes hold, handed back.
+fn tell_part(out: &mut [u8], at: usize, service: Service, bytes: &[u8]) -> OnBlock
+    ensures { λ r. ⌜ Runs (tellsPart (now (bytes .entry)) service) (now (out .entry)) at (r .ran) (r .laid) (r .service) (now (out .exit)) ⌝ }
+{
+    let laid = script_answers::put_run_line(out, at, service::payload_of(bytes));
+    OnBlock {
+        ran: true,
+        laid,
+        service,
+    }
+}
+
+// The operations on the block.
+pub fn on_block(out: &mut [u8], at: usize, s: Service, op: u8, args: &[u8]) -> OnBlock
+    ensures { λ r. ⌜ Asked (sought (blockRows s) op (now (args .entry))) s (now (out .entry)) at (r .ran) (r .laid) (r .service) (now (out .exit)) ⌝ }
+{
+    let n = args.len();
+    let a = byte_at(args, 0);
+    let b = byte_at(args, 1);
+    if asks(op, b'b', n == 1) {
+        return new_block(out, at, s, a);
+    }
+    if asks(op, b'c', true) {
+        return push_to_block(out, at, s, args);
+    }
+    if asks(op, b'm', n == 0) {
+        return measure_block(out, at, s);
+    }
+    if asks(op, b'e', n == 1) {
+        return write_block(out, at, s, a);
+    }
+    if asks(op, b'd', true) {
+        return read_block(out, at, s, args);
+    }
+    if asks(op, b'y', true) {
+        return tell_part(out, at, s, args);
+    }
+    if asks(op, b'B', n == 2) {
+        return set_block(out, at, s, a, b);
+    }
+    OnBlock {
+        ran: false,
+        laid: at,
+        service: s,
+    }
 }
 
 // A new packet, where the call accepts.
-pub fn new_packet(out: &mut [u8], at: usize, before: DTVCCPacket, sequence: u8) -> OnPacket
-    ensures { λ r. ⌜ Did (makes packet.over packet.blank before (newPacket sequence)) (now (out .entry)) at (r .laid) (r .packet) (now (out .exit)) ⌝ }
+fn new_packet(out: &mut [u8], at: usize, before: DTVCCPacket, sequence: u8) -> OnPacket
+    ensures { λ r. ⌜ Runs (renewsPacket sequence before) (now (out .entry)) at (r .ran) (r .laid) (r .packet) (now (out .exit)) ⌝ }
 {
     let made = DTVCCPacket::new(sequence);
     let answer = made.answer;
     let packet = made.packet;
     let laid = script_answers::put_answer_line(out, at, answer);
     match answer {
-        Answer::Accepted => OnPacket { laid, packet },
+        Answer::Accepted => OnPacket {
+            ran: true,
+            laid,
+            packet,
+        },
         Answer::Refused(_) => OnPacket {
+            ran: true,
             laid,
             packet: before,
         },
@@ -113,51 +214,54 @@ pub fn new_packet(out: &mut [u8], at: usize, before: DTVCCPacket, sequence: u8) 
 
 // What a call leaves that pushes to the packet.
 fn packet_pushed(out: &mut [u8], at: usize, pushed: PacketAnswer) -> OnPacket
-    ensures { λ r. ⌜ Did (tells (saidAnswer (pushed .answer)) (pushed .packet)) (now (out .entry)) at (r .laid) (r .packet) (now (out .exit)) ⌝ }
+    ensures { λ r. ⌜ Runs (tells (saidAnswer (pushed .answer)) (pushed .packet)) (now (out .entry)) at (r .ran) (r .laid) (r .packet) (now (out .exit)) ⌝ }
 {
     let answer = pushed.answer;
     let packet = pushed.packet;
     let laid = script_answers::put_answer_line(out, at, answer);
-    OnPacket { laid, packet }
+    OnPacket {
+        ran: true,
+        laid,
+        packet,
+    }
 }
 
 // A block pushed to the packet.
-pub fn push_block(out: &mut [u8], at: usize, before: DTVCCPacket, service: Service) -> OnPacket
-    ensures { λ r. ⌜ Did (lays packet.over before (checked (packet.validDTVCC before && block.validService service) (pushBlock (block.blockOf service) (packet.packetOf before)))) (now (out .entry)) at (r .laid) (r .packet) (now (out .exit)) ⌝ }
+fn push_block(out: &mut [u8], at: usize, before: DTVCCPacket, service: Service) -> OnPacket
+    ensures { λ r. ⌜ Runs (pushesBlock service before) (now (out .entry)) at (r .ran) (r .laid) (r .packet) (now (out .exit)) ⌝ }
 {
     packet_pushed(out, at, before.push_service(service))
 }
 
 // A run pushed to the packet.
-pub fn push_run(out: &mut [u8], at: usize, before: DTVCCPacket, number: u8, run: &[u8]) -> OnPacket
-    ensures { λ r. ⌜ Did (lays packet.over before (checked (packet.validDTVCC before) (pushRun number (now (run .entry)) (packet.packetOf before)))) (now (out .entry)) at (r .laid) (r .packet) (now (out .exit)) ⌝ }
+fn push_run(out: &mut [u8], at: usize, before: DTVCCPacket, number: u8, run: &[u8]) -> OnPacket
+    ensures { λ r. ⌜ Runs (pushesRun number (now (run .entry)) before) (now (out .entry)) at (r .ran) (r .laid) (r .packet) (now (out .exit)) ⌝ }
 {
     packet_pushed(out, at, before.push_code(number, run))
 }
 
 // A run pushed to the packet, in the single-service form.
-pub fn push_single(
-    out: &mut [u8],
-    at: usize,
-    before: DTVCCPacket,
-    number: u8,
-    run: &[u8],
-) -> OnPacket
-    ensures { λ r. ⌜ Did (lays packet.over before (checked (packet.validDTVCC before) (pushRunSingle number (now (run .entry)) (packet.packetOf before)))) (now (out .entry)) at (r .laid) (r .packet) (now (out .exit)) ⌝ }
+fn push_single(out: &mut [u8], at: usize, before: DTVCCPacket, number: u8, run: &[u8]) -> OnPacket
+    ensures { λ r. ⌜ Runs (pushesSingle number (now (run .entry)) before) (now (out .entry)) at (r .ran) (r .laid) (r .packet) (now (out .exit)) ⌝ }
 {
     packet_pushed(out, at, before.push_code_into_single_service(number, run))
 }
 
 // A packet that was read, where it was.
 fn packet_read(out: &mut [u8], at: usize, before: DTVCCPacket, read: PacketAnswer) -> OnPacket
-    ensures { λ r. ⌜ Did (packetRead before (saidAnswer (read .answer)) (read .packet)) (now (out .entry)) at (r .laid) (r .packet) (now (out .exit)) ⌝ }
+    ensures { λ r. ⌜ Runs (packetRead before (saidAnswer (read .answer)) (read .packet)) (now (out .entry)) at (r .ran) (r .laid) (r .packet) (now (out .exit)) ⌝ }
 {
     let answer = read.answer;
     let packet = read.packet;
     let laid = script_answers::put_packet_line(out, at, answer, packet);
     match answer {
-        Answer::Accepted => OnPacket { laid, packet },
+        Answer::Accepted => OnPacket {
+            ran: true,
+            laid,
+            packet,
+        },
         Answer::Refused(_) => OnPacket {
+            ran: true,
             laid,
             packet: before,
         },
@@ -165,40 +269,113 @@ fn packet_read(out: &mut [u8], at: usize, before: DTVCCPacket, read: PacketAnswe
 }
 
 // A packet read plainly out of bytes, where the call accepts.
-pub fn read_plain(out: &mut [u8], at: usize, before: DTVCCPacket, bytes: &[u8]) -> OnPacket
-    ensures { λ r. ⌜ Did (reads readPacketLine packet.over packet.blank before (readPacket (now (bytes .entry)))) (now (out .entry)) at (r .laid) (r .packet) (now (out .exit)) ⌝ }
+fn read_plain(out: &mut [u8], at: usize, before: DTVCCPacket, bytes: &[u8]) -> OnPacket
+    ensures { λ r. ⌜ Runs (readsPlainly (now (bytes .entry)) before) (now (out .entry)) at (r .ran) (r .laid) (r .packet) (now (out .exit)) ⌝ }
 {
     packet_read(out, at, before, DTVCCPacket::parse(bytes))
 }
 
 // A packet read tidily out of bytes, where the call accepts.
-pub fn read_tidily(out: &mut [u8], at: usize, before: DTVCCPacket, bytes: &[u8]) -> OnPacket
-    ensures { λ r. ⌜ Did (reads readPacketLine packet.over packet.blank before (readTidy (now (bytes .entry)))) (now (out .entry)) at (r .laid) (r .packet) (now (out .exit)) ⌝ }
+fn read_tidily(out: &mut [u8], at: usize, before: DTVCCPacket, bytes: &[u8]) -> OnPacket
+    ensures { λ r. ⌜ Runs (readsTidily (now (bytes .entry)) before) (now (out .entry)) at (r .ran) (r .laid) (r .packet) (now (out .exit)) ⌝ }
 {
     packet_read(out, at, before, DTVCCPacket::parse_tidy(bytes))
 }
 
 // The packet written to a lent output, which is told whole.
-pub fn tell_packet(out: &mut [u8], at: usize, held: DTVCCPacket, lent: &mut [u8]) -> usize
-    ensures { λ r. ⌜ Lends (packet.validDTVCC held) (writtenPacket (packet.packetOf held)) (now (lent .entry)) (now (lent .exit)) (now (out .entry)) at r (now (out .exit)) ⌝ }
+fn tell_packet(out: &mut [u8], at: usize, held: DTVCCPacket, lent: &mut [u8]) -> usize
+    ensures { λ r. ⌜ Lends (validDTVCC held) (writtenPacket (packetOf held)) (now (lent .entry)) (now (lent .exit)) (now (out .entry)) at r (now (out .exit)) ⌝ }
 {
     let counted = held.write(lent);
     script_answers::put_lent_line(out, at, counted, lent)
 }
 
 // Two fields of the packet set, whatever they break.
-pub fn set_packet(
-    out: &mut [u8],
-    at: usize,
-    before: DTVCCPacket,
-    sequence: u8,
-    count: u8,
-) -> OnPacket
-    ensures { λ r. ⌜ Did (becomes (withCounts sequence count before)) (now (out .entry)) at (r .laid) (r .packet) (now (out .exit)) ⌝ }
+fn set_packet(out: &mut [u8], at: usize, before: DTVCCPacket, sequence: u8, count: u8) -> OnPacket
+    ensures { λ r. ⌜ Runs (setsPacket sequence count before) (now (out .entry)) at (r .ran) (r .laid) (r .packet) (now (out .exit)) ⌝ }
 {
     let mut packet = before;
     packet.seq_no = sequence;
     packet.count = count as usize;
     let laid = script_answers::put_ok_line(out, at);
-    OnPacket { laid, packet }
+    OnPacket {
+        ran: true,
+        laid,
+        packet,
+    }
+}
+
+// The packet measured.
+fn measure_packet(out: &mut [u8], at: usize, packet: DTVCCPacket) -> OnPacket
+    ensures { λ r. ⌜ Runs (measuresPacket packet) (now (out .entry)) at (r .ran) (r .laid) (r .packet) (now (out .exit)) ⌝ }
+{
+    let laid = script_answers::put_packet_measures(out, at, packet);
+    OnPacket {
+        ran: true,
+        laid,
+        packet,
+    }
+}
+
+// The packet written to an output of `len` bytes.
+fn write_packet(out: &mut [u8], at: usize, packet: DTVCCPacket, len: u8) -> OnPacket
+    ensures { λ r. ⌜ Runs (writesPacket len packet) (now (out .entry)) at (r .ran) (r .laid) (r .packet) (now (out .exit)) ⌝ }
+{
+    let mut lent = [0xA5u8; 255];
+    let end = len as usize;
+    let laid = tell_packet(out, at, packet, &mut lent[0..end]);
+    OnPacket {
+        ran: true,
+        laid,
+        packet,
+    }
+}
+
+// The operations on the packet.
+pub fn on_packet(
+    out: &mut [u8],
+    at: usize,
+    s: Service,
+    p: DTVCCPacket,
+    op: u8,
+    args: &[u8],
+) -> OnPacket
+    ensures { λ r. ⌜ Asked (sought (packetRows s p) op (now (args .entry))) p (now (out .entry)) at (r .ran) (r .laid) (r .packet) (now (out .exit)) ⌝ }
+{
+    let n = args.len();
+    let a = byte_at(args, 0);
+    let b = byte_at(args, 1);
+    let run = part(args, 1, n);
+    if asks(op, b'k', n == 1) {
+        return new_packet(out, at, p, a);
+    }
+    if asks(op, b'v', n == 0) {
+        return push_block(out, at, p, s);
+    }
+    if asks(op, b'a', 1 <= n) {
+        return push_run(out, at, p, a, run);
+    }
+    if asks(op, b'i', 1 <= n) {
+        return push_single(out, at, p, a, run);
+    }
+    if asks(op, b'l', n == 0) {
+        return measure_packet(out, at, p);
+    }
+    if asks(op, b'o', n == 1) {
+        return write_packet(out, at, p, a);
+    }
+    if asks(op, b'p', true) {
+        return read_plain(out, at, p, args);
+    }
+    if asks(op, b't', true) {
+        return read_tidily(out, at, p, args);
+    }
+    if asks(op, b'K', n == 2) {
+        return set_packet(out, at, p, a, b);
+    }
+    OnPacket {
+        ran: false,
+        laid: at,
+        packet: p,
+    }
 }

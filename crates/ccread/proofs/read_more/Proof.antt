@@ -36,7 +36,11 @@ same-length c = search needs
 returns : tie.Need-returns
 returns c =
     let s = c .before .before .before .before .before .before .before .before in
-    record { stay = take-put (s .args .have) (length (s .args .buf .now) - s .args .have) (s .args .buf .now) (c .before .before .before .before .before .read .last .1 .0) (s .pre); within = search needs }
+    record {
+      stay = take-put (s .args .have) (length (s .args .buf .now) - s .args .have) (s .args .buf .now)
+          (c .before .before .before .before .before .read .last .1 .0) (s .pre);
+      within = search needs;
+    }
 
 pub read-more-spec : {M : Type 1} → statement M
 read-more-spec =

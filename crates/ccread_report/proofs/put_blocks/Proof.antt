@@ -13,7 +13,9 @@ use Rattle.ccread_report.proofs.put_blocks.Statement.{statement}
 use Rattle.ccread_report.proofs.put_blocks.Tie as tie
 
 abbrev Inv-loop : tie.InvT-loop
-Inv-loop out₀ at packet payload laid₀ used₀ i₀ out laid used i = (i ≤ packet .count) × (used ≤ 31 * i) × (packet .count ≤ 63) × (laid ≤ length out) × (length out ≡ length out₀) × Completes (linesFrom packet i used) out laid (blockLines (packetOf packet .blocks)) out₀ at
+Inv-loop out₀ at packet payload laid₀ used₀ i₀ out laid used i =
+    (i ≤ packet .count) × (used ≤ 31 * i) × (packet .count ≤ 63) × (laid ≤ length out) × (length out ≡ length out₀) × Completes (linesFrom packet i used) out laid
+    (blockLines (packetOf packet .blocks)) out₀ at
 
 abbrev μ-loop : tie.MeasureT-loop
 μ-loop out₀ at packet payload laid₀ used₀ i₀ out laid used i = packet .count - i
@@ -43,7 +45,14 @@ put-block-line-requires : tie.Need-put-block-line-requires Inv-loop μ-loop
 put-block-line-requires c κs = search needs
 
 add-used : tie.Need-add-used Inv-loop μ-loop
-add-used c = let l = c .before .before .before .before .before .before .before .before .before .loop in omega (arith, size-small _ (l .i) (c .before .before .before .before .before .before .before .before .before .before .before .before .pre .0) (places (c .before .before .before .before .before .before .before .before .before .before .before .before)) (c .before .before .before .before .before .before .before .before .loop-test .taken))
+add-used c =
+    let l = c .before .before .before .before .before .before .before .before .before .loop in omega (
+      arith,
+      size-small _ (l .i)
+          (c .before .before .before .before .before .before .before .before .before .before .before .before .pre .0) (places
+          (c .before .before .before .before .before .before .before .before .before .before .before .before))
+          (c .before .before .before .before .before .before .before .before .loop-test .taken),
+    )
 
 add-i : tie.Need-add-i Inv-loop μ-loop
 add-i c = search needs
@@ -52,7 +61,22 @@ loop-less : tie.Need-loop-less Inv-loop μ-loop
 loop-less c = omega arith
 
 loop-again : tie.Need-loop-again Inv-loop μ-loop
-loop-again c = let l = c .before .before .before .before .before .before .before .before .before .loop in let w = laid-within (c .before .before .put-block-line .ensures) in (omega arith, omega (arith, size-small _ (l .i) (c .before .before .before .before .before .before .before .before .before .before .before .before .pre .0) (places (c .before .before .before .before .before .before .before .before .before .before .before .before)) (c .before .before .before .before .before .before .before .before .loop-test .taken)), l .inv .2, omega (arith, w .0, w .1), w .1 ∙ l .inv .4, blocks-again _ (l .i) (l .used) (c .before .before .before .before .before .before .before .before .loop-test .taken) (c .before .before .before .before .part .ensures) (l .inv .5) (c .before .before .put-block-line .ensures))
+loop-again c =
+    let l = c .before .before .before .before .before .before .before .before .before .loop in let w = laid-within (c .before .before .put-block-line .ensures) in (
+      omega arith,
+      omega (
+        arith,
+        size-small _ (l .i) (c .before .before .before .before .before .before .before .before .before .before .before .before .pre .0) (places
+            (c .before .before .before .before .before .before .before .before .before .before .before .before))
+            (c .before .before .before .before .before .before .before .before .loop-test .taken),
+      ),
+      l .inv .2,
+      omega (arith, w .0, w .1),
+      w .1 ∙ l .inv .4,
+      blocks-again _ (l .i)
+          (l .used) (c .before .before .before .before .before .before .before .before .loop-test .taken) (c .before .before .before .before .part .ensures) (l .inv .5)
+          (c .before .before .put-block-line .ensures),
+    )
 
 same-length : tie.Need-same-length Inv-loop μ-loop
 same-length c = search needs

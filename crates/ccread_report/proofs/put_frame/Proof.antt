@@ -35,13 +35,26 @@ enum-told : tie.Need-enum-told
 enum-told c = search needs
 
 put-items-requires : tie.Need-put-items-requires
-put-items-requires c κs = let w = laid-within (c .before .before .before .before .before .put-frame-line .ensures) in (omega (arith, w .0, w .1), pushed-valid _ _ (shaped (c .before .before .before .before .before .before .before .before .before .before .before)) _ (c .before .before .before .before .before .before .before .before .push .ensures) (c .before .enum-told .given .1))
+put-items-requires c κs =
+    let w = laid-within (c .before .before .before .before .before .put-frame-line .ensures) in (
+      omega (arith, w .0, w .1),
+      pushed-valid _ _ (shaped
+          (c .before .before .before .before .before .before .before .before .before .before .before)) _
+          (c .before .before .before .before .before .before .before .before .push .ensures) (c .before .enum-told .given .1),
+    )
 
 same-length : tie.Need-same-length
 same-length c = search needs
 
 returns : tie.Need-returns
-returns c = (accepted-lines _ _ (shaped (c .before .before .before .before .before .before .before .before .before .before .before .before .before .before)) _ (c .before .before .before .before .before .before .before .before .before .before .before .push .ensures) (c .before .before .before .before .enum-told .given .1) _ (c .before .before .before .before .before .before .before .before .put-frame-line .ensures) (c .before .before .put-items .ensures .0), c .before .before .put-items .ensures .1 ∙ accepted-state _ _ (shaped (c .before .before .before .before .before .before .before .before .before .before .before .before .before .before)) _ (c .before .before .before .before .before .before .before .before .before .before .before .push .ensures) (c .before .before .before .before .enum-told .given .1))
+returns c = (
+  accepted-lines _ _ (shaped (c .before .before .before .before .before .before .before .before .before .before .before .before .before .before)) _
+      (c .before .before .before .before .before .before .before .before .before .before .before .push .ensures) (c .before .before .before .before .enum-told .given .1) _
+      (c .before .before .before .before .before .before .before .before .put-frame-line .ensures) (c .before .before .put-items .ensures .0),
+  c .before .before .put-items .ensures .1 ∙ accepted-state _ _ (shaped
+      (c .before .before .before .before .before .before .before .before .before .before .before .before .before .before)) _
+      (c .before .before .before .before .before .before .before .before .before .before .before .push .ensures) (c .before .before .before .before .enum-told .given .1),
+)
 
 enum-told-2 : tie.Need-enum-told-2
 enum-told-2 c = search needs
@@ -50,7 +63,14 @@ same-length-2 : tie.Need-same-length-2
 same-length-2 c = search needs
 
 returns-2 : tie.Need-returns-2
-returns-2 c = (rw (← refused-lines _ _ (shaped (c .before .before .before .before .before .before .before .before .before .before)) _ (c .before .before .before .before .before .before .before .push .ensures) _ (c .enum-told2 .given .1) _) (c .before .before .before .before .put-frame-line .ensures), refused-state _ _ (shaped (c .before .before .before .before .before .before .before .before .before .before)) _ (c .before .before .before .before .before .before .before .push .ensures) _ (c .enum-told2 .given .1))
+returns-2 c = (
+  rw (← refused-lines _ _ (shaped (c .before .before .before .before .before .before .before .before .before .before)) _
+      (c .before .before .before .before .before .before .before .push .ensures) _ (c .enum-told2 .given .1) _)
+      (c .before .before .before .before .put-frame-line .ensures),
+  refused-state _ _ (shaped
+      (c .before .before .before .before .before .before .before .before .before .before)) _ (c .before .before .before .before .before .before .before .push .ensures) _
+      (c .enum-told2 .given .1),
+)
 
 pub put-frame-spec : {M : Type 1} → statement M
 put-frame-spec =

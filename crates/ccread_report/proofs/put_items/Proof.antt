@@ -15,7 +15,20 @@ abbrev μ-loop : tie.MeasureT-loop
 μ-loop out₀ at parser₀ laid₀ n₀ out parser laid n = n
 
 loop-holds : tie.Need-loop-holds Inv-loop μ-loop
-loop-holds c = (omega arith, going-first (record { valid = c .before .pre .1; shaped = record { pairs = search needs; pending = search needs; waiting = search (needs, length-mapped) } }) (c .before .pre .0))
+loop-holds c = (
+  omega arith,
+  going-first (record {
+    valid = c .before .pre .1;
+    shaped = record {
+      pairs = search needs;
+      pending = search needs;
+      waiting = search (
+        needs,
+        length-mapped,
+      );
+    };
+  }) (c .before .pre .0),
+)
 
 sub-n : tie.Need-sub-n Inv-loop μ-loop
 sub-n c = search needs
@@ -24,7 +37,10 @@ draw-requires : tie.Need-draw-requires Inv-loop μ-loop
 draw-requires c κs = search needs
 
 put-item-requires : tie.Need-put-item-requires Inv-loop μ-loop
-put-item-requires c κs = (drawn-valid _ (c .before .before .before .before .before .loop .inv .1 .sound) _ (c .before .before .before .draw .ensures), c .before .before .before .before .before .loop .inv .1 .place)
+put-item-requires c κs = (
+  drawn-valid _ (c .before .before .before .before .before .loop .inv .1 .sound) _ (c .before .before .before .draw .ensures),
+  c .before .before .before .before .before .loop .inv .1 .place,
+)
 
 enum-told : tie.Need-enum-told Inv-loop μ-loop
 enum-told c = search needs
@@ -33,13 +49,21 @@ same-length : tie.Need-same-length Inv-loop μ-loop
 same-length c = search needs
 
 returns : tie.Need-returns Inv-loop μ-loop
-returns c = let d = going-none (c .before .before .before .before .before .before .before .before .before .before .loop .n - 1) (omega arith) (c .before .before .before .before .before .before .before .before .before .before .loop .inv .1) _ (c .before .before .before .before .before .before .before .before .draw .ensures) (c .before .before .before .before .put-item .ensures) (c .enum-told .given .1) in (d .lines, d .state)
+returns c =
+    let d = going-none (c .before .before .before .before .before .before .before .before .before .before .loop .n - 1) (omega arith)
+    (c .before .before .before .before .before .before .before .before .before .before .loop .inv .1) _
+    (c .before .before .before .before .before .before .before .before .draw .ensures) (c .before .before .before .before .put-item .ensures) (c .enum-told .given .1) in
+    (d .lines, d .state)
 
 loop-less : tie.Need-loop-less Inv-loop μ-loop
 loop-less c = omega arith
 
 loop-again : tie.Need-loop-again Inv-loop μ-loop
-loop-again c = (omega arith, going-next _ (omega arith) (c .before .before .before .before .before .before .before .before .before .loop .inv .1) _ (c .before .before .before .before .before .before .before .draw .ensures) (c .before .before .before .put-item .ensures))
+loop-again c = (
+  omega arith,
+  going-next _ (omega arith) (c .before .before .before .before .before .before .before .before .before .loop .inv .1) _
+      (c .before .before .before .before .before .before .before .draw .ensures) (c .before .before .before .put-item .ensures),
+)
 
 same-length-2 : tie.Need-same-length-2 Inv-loop μ-loop
 same-length-2 c = search needs

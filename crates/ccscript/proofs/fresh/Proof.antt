@@ -2,7 +2,7 @@
 use mathlib.Core.Path.{ap}
 use mathlib.Core.Bool.{true}
 use borrow.Author.Needs.{needs}
-use Rattle.script_parts.specs.declared.Machine.{Machine}
+use Rattle.script_operations.specs.declared.Machine.{Machine}
 use Rattle.ccscript.specs.declared.State.{State}
 use Rattle.ccscript.proofs.fresh.Statement.{statement}
 use Rattle.ccscript.proofs.fresh.Tie as tie

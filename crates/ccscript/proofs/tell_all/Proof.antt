@@ -29,10 +29,17 @@ send-requires : tie.Need-send-requires Inv-loop μ-loop
 send-requires c κs = rw (c .part .ensures) (c .before .before .before .before .drain .ensures .0)
 
 loop-less : tie.Need-loop-less Inv-loop μ-loop
-loop-less c = left-falls _ (c .before .before .before .before .before .drain .result .full) _ _ _ (c .before .before .before .before .before .before .before .loop-test .taken) (c .before .before .before .before .before .drain .ensures .1)
+loop-less c =
+    left-falls _ (c .before .before .before .before .before .drain .result .full) _ _ _ (c .before .before .before .before .before .before .before .loop-test .taken)
+    (c .before .before .before .before .before .drain .ensures .1)
 
 loop-again : tie.Need-loop-again Inv-loop μ-loop
-loop-again c = (search needs, next-piece (c .before .before .before .before .before .before .before .before .loop .to .full) _ _ (c .before .before .before .before .before .before .before .before .loop .inv .1) (c .before .before .before .before .before .before .before .loop-test .taken) (ap silent (c .before .before .before .before .before .drain .ensures .0)))
+loop-again c = (
+  search needs,
+  next-piece (c .before .before .before .before .before .before .before .before .loop .to .full) _ _
+      (c .before .before .before .before .before .before .before .before .loop .inv .1) (c .before .before .before .before .before .before .before .loop-test .taken)
+      (ap silent (c .before .before .before .before .before .drain .ensures .0)),
+)
 
 same-length : tie.Need-same-length Inv-loop μ-loop
 same-length c = search needs

@@ -35,7 +35,14 @@ loop-less : tie.Need-loop-less Inv-loop μ-loop
 loop-less c = omega arith
 
 loop-again : tie.Need-loop-again Inv-loop μ-loop
-loop-again c = let l = c .before .before .loop in let more = length-large (l .rest) (c .before .loop-test .taken) in (digit-more (l .bytes) (l .from) (l .rest) _ (omega arith) (omega arith) (c .before .loop-test .taken) (c .digit-of .ensures) (l .inv .0), omega arith, omega arith, simp length-set (l .inv .3))
+loop-again c =
+    let l = c .before .before .loop in let more = length-large (l .rest) (c .before .loop-test .taken) in (
+      digit-more (l .bytes) (l .from) (l .rest) _ (omega arith)
+          (omega arith) (c .before .loop-test .taken) (c .digit-of .ensures) (l .inv .0),
+      omega arith,
+      omega arith,
+      simp length-set (l .inv .3),
+    )
 
 sub-from-2 : tie.Need-sub-from-2 Inv-loop μ-loop
 sub-from-2 c = omega (arith, length-small (c .before .loop .rest) (c .loop-test .left))
@@ -50,7 +57,13 @@ array-write-bytes-2 : tie.Need-array-write-bytes-2 Inv-loop μ-loop
 array-write-bytes-2 c = omega (arith, length-small (c .before .before .loop .rest) (c .before .loop-test .left))
 
 returns : tie.Need-returns Inv-loop μ-loop
-returns c = let l = c .before .before .loop in let one = length-small (l .rest) (c .before .loop-test .left) in (digit-last (l .bytes) (l .from) (l .rest) _ (omega arith) (omega arith) (c .before .loop-test .left) (c .digit-of2 .ensures) (l .inv .0), omega arith, simp length-set (l .inv .3))
+returns c =
+    let l = c .before .before .loop in let one = length-small (l .rest) (c .before .loop-test .left) in (
+      digit-last (l .bytes) (l .from) (l .rest) _ (omega arith)
+          (omega arith) (c .before .loop-test .left) (c .digit-of2 .ensures) (l .inv .0),
+      omega arith,
+      simp length-set (l .inv .3),
+    )
 
 pub digits-of-spec : {M : Type 1} → statement M
 digits-of-spec =

@@ -11,7 +11,9 @@ use Rattle.program_records.proofs.move_to_front.Statement.{statement}
 use Rattle.program_records.proofs.move_to_front.Tie as tie
 
 abbrev Inv-loop : tie.InvT-loop
-Inv-loop bytes₀ from to end i₀ o₀ bytes i o = (i ≡ from + o) × (o ≤ end - from) × (end ≡ min to (length bytes₀)) × (length bytes ≡ length bytes₀) × (sets bytes o (take (end - i) (drop i bytes)) ≡ sets bytes₀ 0 (take (end - from) (drop from bytes₀)))
+Inv-loop bytes₀ from to end i₀ o₀ bytes i o =
+    (i ≡ from + o) × (o ≤ end - from) × (end ≡ min to (length bytes₀)) × (length bytes ≡ length bytes₀) × (sets bytes o (take (end - i) (drop i bytes)) ≡ sets bytes₀ 0
+    (take (end - from) (drop from bytes₀)))
 
 abbrev μ-loop : tie.MeasureT-loop
 μ-loop bytes₀ from to end i₀ o₀ bytes i o = end - i
@@ -38,7 +40,15 @@ loop-less : tie.Need-loop-less Inv-loop μ-loop
 loop-less c = omega arith
 
 loop-again : tie.Need-loop-again Inv-loop μ-loop
-loop-again c = let l = c .before .before .loop in (omega arith, omega arith, l .inv .2, simp length-set (l .inv .3), move-more (l .bytes) (l .o) (l .i) _ (c .before .loop-test .taken) (omega arith) (omega arith) (l .inv .4))
+loop-again c =
+    let l = c .before .before .loop in (
+      omega arith,
+      omega arith,
+      l .inv .2,
+      simp length-set (l .inv .3),
+      move-more (l .bytes) (l .o) (l .i) _
+          (c .before .loop-test .taken) (omega arith) (omega arith) (l .inv .4),
+    )
 
 same-length : tie.Need-same-length Inv-loop μ-loop
 same-length c = search needs

@@ -12,7 +12,9 @@ use Rattle.program_records.proofs.put_hex.Statement.{statement}
 use Rattle.program_records.proofs.put_hex.Tie as tie
 
 abbrev Inv-loop : tie.InvT-loop
-Inv-loop out₀ at bytes n whole i₀ o₀ out i o = (i ≤ whole) × (o ≡ at + 2 * i) × (length out ≡ length out₀) × (sets out o (hex (drop i bytes)) ≡ sets out₀ at (hex bytes)) × (whole ≡ min ((length out₀ - at) / 2) (length bytes)) × (at < length out₀)
+Inv-loop out₀ at bytes n whole i₀ o₀ out i o =
+    (i ≤ whole) × (o ≡ at + 2 * i) × (length out ≡ length out₀) × (sets out o (hex (drop i bytes)) ≡ sets out₀ at (hex bytes)) × (whole ≡ min ((length out₀ - at) / 2)
+    (length bytes)) × (at < length out₀)
 
 abbrev μ-loop : tie.MeasureT-loop
 μ-loop out₀ at bytes n whole i₀ o₀ out i o = whole - i
@@ -57,7 +59,16 @@ loop-less : tie.Need-loop-less Inv-loop μ-loop
 loop-less c = omega arith
 
 loop-again : tie.Need-loop-again Inv-loop μ-loop
-loop-again c = let l = c .before .before .before .before .loop in (omega arith, omega arith, simp length-set (l .inv .2), hex-more (l .out) _ (l .o) (l .i) (omega arith) (l .inv .3) (c .before .digit-of .ensures) (c .digit-of2 .ensures), l .inv .4, l .inv .5)
+loop-again c =
+    let l = c .before .before .before .before .loop in (
+      omega arith,
+      omega arith,
+      simp length-set (l .inv .2),
+      hex-more (l .out) _ (l .o) (l .i) (omega arith) (l .inv .3)
+          (c .before .digit-of .ensures) (c .digit-of2 .ensures),
+      l .inv .4,
+      l .inv .5,
+    )
 
 shared-slice-read-put-hex-byte : tie.Need-shared-slice-read-put-hex-byte Inv-loop μ-loop
 shared-slice-read-put-hex-byte c = omega arith
@@ -69,7 +80,9 @@ same-length : tie.Need-same-length Inv-loop μ-loop
 same-length c = search needs
 
 returns-2 : tie.Need-returns-2 Inv-loop μ-loop
-returns-2 c = let l = c .before .before .before .before .before .before .before .loop in hex-cut (l .out) _ (l .o) (l .i) _ _ (l .inv .1) (l .inv .2) (l .inv .3) (c .before .before .before .before .before .if2 .taken) (omega arith) (c .before .before .put-hex-byte .ensures)
+returns-2 c =
+    let l = c .before .before .before .before .before .before .before .loop in hex-cut (l .out) _ (l .o) (l .i) _ _ (l .inv .1) (l .inv .2) (l .inv .3)
+    (c .before .before .before .before .before .if2 .taken) (omega arith) (c .before .before .put-hex-byte .ensures)
 
 same-length-2 : tie.Need-same-length-2 Inv-loop μ-loop
 same-length-2 c = search needs

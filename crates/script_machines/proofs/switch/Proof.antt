@@ -17,7 +17,13 @@ same-length : tie.Need-same-length
 same-length c = search needs
 
 returns : tie.Need-returns
-returns c = did-switch _ _ (c .before .before .before .before .before .before .before .before .args .before) _ _ (c .before .before .before .before .before .before .set-output-cea608-padding .ensures) (c .before .before .before .set-output-padding .ensures) _ (c .before .before .told-writer .ensures)
+returns c =
+    record {
+      did = did-switch _ _ (c .before .before .before .before .before .before .before .before .args .before) _ _
+          (c .before .before .before .before .before .before .set-output-cea608-padding .ensures) (c .before .before .before .set-output-padding .ensures) _
+          (c .before .before .told-writer .ensures .did);
+      says = search needs;
+    }
 
 pub switch-spec : {M : Type 1} → statement M
 switch-spec =

@@ -1,6 +1,6 @@
--- The letter is the first byte, the arguments stand behind it, and the row says whether they are as many as it takes. Assumes nothing.
-use Rattle.script_operations.proofs.Records.{ran-done, ran-bad}
+-- The letter is the first byte, the arguments stand behind it, and the first part that runs it does all there is. Assumes nothing.
 use borrow.Author.Needs.{needs}
+use Rattle.script_operations.proofs.Records.{by-block, by-packet, by-machines}
 use Rattle.script_operations.proofs.run_record.Statement.{statement}
 use Rattle.script_operations.proofs.run_record.Tie as tie
 
@@ -10,29 +10,53 @@ byte-at-requires c κs = search needs
 part-requires : tie.Need-part-requires
 part-requires c κs = search needs
 
-takes-requires : tie.Need-takes-requires
-takes-requires c κs = search needs
+on-block-requires : tie.Need-on-block-requires
+on-block-requires c κs = search needs
 
-part-of-requires : tie.Need-part-of-requires
-part-of-requires c κs = search needs
-
-operate-requires : tie.Need-operate-requires
-operate-requires c κs = search needs
+left-block-requires : tie.Need-left-block-requires
+left-block-requires c κs = search needs
 
 same-length : tie.Need-same-length
 same-length c = search needs
 
 returns : tie.Need-returns
-returns c = ran-done _ _ _ _ _ (c .before .before .before .before .before .before .before .before .byte-at .ensures) (c .before .before .before .before .before .before .before .part .ensures) (c .before .before .before .before .before .before .takes .ensures) (c .before .before .before .part-of .result) (c .before .before .before .before .before .if1 .taken) (c .before .before .before .part-of .ensures) (c .before .before .operate .ensures)
+returns c =
+    let z = c .before .before .before .before .before .before .before .before in
+    let y = c .before .before .before .before in
+    by-block _ _ _ _ (z .before .byte-at .ensures) (z .part .ensures) _ _ _ (y .on-block .result) (y .on-block .ensures) _
+    (c .before .if1 .taken) (c .left-block .ensures)
 
-put-bad-line-requires : tie.Need-put-bad-line-requires
-put-bad-line-requires c κs = search needs
+on-packet-requires : tie.Need-on-packet-requires
+on-packet-requires c κs = search needs
+
+left-packet-requires : tie.Need-left-packet-requires
+left-packet-requires c κs = search needs
 
 same-length-2 : tie.Need-same-length-2
 same-length-2 c = search needs
 
 returns-2 : tie.Need-returns-2
-returns-2 c = ran-bad _ _ _ _ _ (c .before .before .before .before .before .before .before .byte-at .ensures) (c .before .before .before .before .before .before .part .ensures) (c .before .before .before .before .before .takes .ensures) (c .before .before .before .before .if1 .left) (c .before .before .put-bad-line .ensures)
+returns-2 c =
+    let z = c .before .before .before .before .before .before .before .before .before .before .before .before .before in
+    let y = c .before .before .before .before .before .before .before .before .before in
+    let x = c .before .before .before .before in
+    by-packet _ _ _ _ (z .before .byte-at .ensures) (z .part .ensures) _ _ _ (y .on-block .result) (y .on-block .ensures)
+    (c .before .before .before .before .before .before .if1 .left) _ (x .on-packet .result) (x .on-packet .ensures) _ (c .before .if2 .taken) (c .left-packet .ensures)
+
+run-on-machines-requires : tie.Need-run-on-machines-requires
+run-on-machines-requires c κs = search needs
+
+same-length-3 : tie.Need-same-length-3
+same-length-3 c = search needs
+
+returns-3 : tie.Need-returns-3
+returns-3 c =
+    let z = c .before .before .before .before .before .before .before .before .before .before .before .before .before .before .before .before in
+    let y = c .before .before .before .before .before .before .before .before .before .before .before .before in
+    let x = c .before .before .before .before .before .before .before in
+    by-machines _ _ _ _ (z .before .byte-at .ensures) (z .part .ensures) _ _ _ (y .on-block .result) (y .on-block .ensures)
+    (c .before .before .before .before .before .before .before .before .before .if1 .left) _ (x .on-packet .result) (x .on-packet .ensures) _
+    (c .before .before .before .before .if2 .left) (c .before .before .run-on-machines .ensures)
 
 pub run-record-spec : {M : Type 1} → statement M
 run-record-spec =
@@ -40,11 +64,14 @@ run-record-spec =
     (tie.spec
     byte-at-requires
     part-requires
-    takes-requires
-    part-of-requires
-    operate-requires
+    on-block-requires
+    left-block-requires
     same-length
     returns
-    put-bad-line-requires
+    on-packet-requires
+    left-packet-requires
     same-length-2
-    returns-2)
+    returns-2
+    run-on-machines-requires
+    same-length-3
+    returns-3)

@@ -1,3 +1,0 @@
-pub mod Machine
-pub mod Table
-pub mod Parts
