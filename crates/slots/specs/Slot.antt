@@ -1,4 +1,4 @@
--- A slot: the bytes that a packet is written in. Document 01, "Blocks and packets". Assumes nothing.
+-- A slot: the bytes that a packet is written in. Assumes nothing.
 use mathlib.Core.Bool.{Bool, _&&_}
 use mathlib.Core.List.{List, []}
 use Prim.Native.Nat.{ℕ, _+_, _%_}
@@ -19,7 +19,7 @@ noSlot = record { len = 0; bytes = [] }
 abbrev pub slotWith : ℕ → List ℕ → Slot
 slotWith len bytes = record { len = len; bytes = sets (replicate 128 0) 0 bytes }
 
--- "the blocks, one 0x00 if the length is odd": so many bytes are written
+-- one 0x00 behind an odd length [P8]: so many bytes are written
 abbrev pub writtenLength : Slot → ℕ
 writtenLength s = s .len + s .len % 2
 

@@ -205,7 +205,7 @@ module _ (w : CCDataWriter) (rate : Framerate) (out : List ℕ) {v : Bool} (e : 
     within : validWriter w ≡ true
     within = sym e ∙ t
 
-    -- "BadRate"
+    -- 8: a rate without budgets [R8]
     pub wrote-rate : (r : caption.Budgets) → saidBudgets r ≡ saysWith pairsThenTriples (budgets (rate .numer) (rate .denom)) → r ≡ NoBudgets → Writes rate out w (record { answer = counted.Refused BadRate; writer = w }) out
     unfolding written writeAt
     wrote-rate r m z =
@@ -221,7 +221,7 @@ module _ (w : CCDataWriter) (rate : Framerate) (out : List ℕ) {v : Bool} (e : 
       given : budgets (rate .numer) (rate .denom) ≡ gave b
       given = sym (rw z at (budgets-meant (rate .numer) (rate .denom) r m))
 
-      -- "an accepted rate"
+      -- an accepted rate [G2]
       pub sane : (p ≤ n) × (n ≤ 31)
       sane = let s = accepted-sane (rate .numer) (rate .denom) given in (omega (arith, s .apart), s .few-triples)
 
@@ -243,7 +243,7 @@ module _ (w : CCDataWriter) (rate : Framerate) (out : List ℕ) {v : Bool} (e : 
         frame-few =
             omega (arith, length-is, frame-length (writeFrame b (means w) .frame), few-triples b (means w) (sane .0), count-most b (means w) (sane .0), sane)
 
-        -- "OutShort"
+        -- 9: too few lent bytes [R9]
         pub wrote-short : length out < f .frame .len → Writes rate out w (record { answer = counted.Refused (OutShort (f .frame .len)); writer = w }) out
         unfolding written writeAt putInto
         wrote-short h =

@@ -1,4 +1,4 @@
--- How a frame is made and a packet stored, part by part. No public contract reaches this file. Document 01, "Writing frames". Assumes nothing.
+-- How a frame is made and a packet stored, part by part. No public contract reaches this file. Assumes nothing.
 use mathlib.Core.Path.{_≡_}
 use mathlib.Core.Bool.{Bool, true, false, _&&_}
 use mathlib.Core.List.{List}
@@ -26,7 +26,7 @@ use Rattle.writer.specs.declared.CCDataWriter.{CCDataWriter}
 use Rattle.writer.specs.declared.WriterAnswer.{WriterAnswer}
 use Rattle.writer.specs.declared.Placed.{Placed}
 
--- "11 comes first": the state as it was
+-- 11 before all others [A4]: the state as it was
 abbrev pub refusedOf : CCDataWriter → WriterAnswer
 refusedOf w = record { answer = Refused BadValue; writer = w }
 
@@ -44,7 +44,7 @@ unmadeOf w answer =
       next = 0;
     }
 
--- "places come free as items leave": the state with what a frame leaves of it, without the packets that were begun
+-- places come free as items leave [S3]: the state with what a frame leaves of it, without the packets that were begun
 abbrev pub joined : CCDataWriter → Made → CCDataWriter
 joined w m =
     record {
@@ -64,7 +64,7 @@ abbrev pub builtFrom : ℕ → ℕ → CCDataWriter → Made
 builtFrom pairs triples w =
     built (w .«output_cea608_padding») (w .«output_padding») pairs triples (w .field1) (w .field2) (w .«field2_next») (take (w .«packet_count») (w .packets)) (w .sending) (w .sent)
 
--- the two "padding switches"
+-- the two padding switches [W12]
 abbrev pub withPadding : Bool → Bool → CCDataWriter → CCDataWriter
 withPadding a b w =
     record {
@@ -109,7 +109,7 @@ withPackets n l w =
       «field2_next» = w .«field2_next»;
     }
 
--- "Flush drops the queues and the packet being sent; the padding switches stay."
+-- what is queued and being sent is dropped, the switches stay [W13]
 abbrev pub flushed : CCDataWriter → CCDataWriter
 flushed w =
     record {

@@ -1,5 +1,4 @@
--- The multiplexer's state: what it is in the model, the states that break a limit, and the places of what a call leaves. Document 01,
--- "Sizes" and "Writing frames". Assumes nothing.
+-- The multiplexer's state: what it is in the model, the states that break a limit, and the places of what a call leaves. Assumes nothing.
 use mathlib.Core.Bool.{Bool, cond, not, _&&_}
 use mathlib.Core.List.{List, [], _∷_, map}
 use Prim.Native.Nat.{ℕ, _-_, _*_, _/_}
@@ -37,7 +36,7 @@ inOrder w =
     && (leb (2 * w .field2 .count) (length (w .field2 .bytes))
     && (validSending (w .sending) (w .sent) && every writtenSlot (take (w .«packet_count») (w .packets)))))
 
--- "a state .. whose counts, numbers or lengths break this page's limits" is one of which this is false
+-- a state within its limits [W14]; any other is 11 [R11]
 unfoldable pub validWriter : CCDataWriter → Bool
 validWriter w = inOrder w && validMux (means w)
 

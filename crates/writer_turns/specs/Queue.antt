@@ -1,4 +1,4 @@
--- A field's queue as flat bytes: document 01, "Sizes" and "Writing frames". Assumes nothing.
+-- A field's queue as flat bytes [S2]. Assumes nothing.
 use mathlib.Core.List.{List, [], _∷_}
 use Prim.Native.Nat.{ℕ, _*_}
 use lib.ListN.{length, take}
@@ -12,7 +12,7 @@ pairsOf [] = []
 pairsOf (a ∷ []) = []
 pairsOf (a ∷ b ∷ d) = pair a b ∷ pairsOf d
 
--- the pairs queued, in the places from the first to the last that is taken: "Place 1 leaves next"
+-- the pairs queued, in the places from the first to the last that is taken; the first leaves next [S3]
 unfoldable pub queueOf : PairQueue → List Pair
 queueOf q = pairsOf (take (2 * q .count) (q .bytes))
 

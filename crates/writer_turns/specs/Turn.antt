@@ -1,4 +1,4 @@
--- The turns of the two fields: document 01, "Writing frames". Assumes nothing.
+-- The turns of the two fields. Assumes nothing.
 use mathlib.Core.Bool.{Bool, cond, not, _&&_}
 use Prim.Native.Nat.{ℕ}
 use lib.Dec.{leb}
@@ -9,7 +9,7 @@ use Rattle.writer_frames.specs.Frame as frames
 use Rattle.writer_turns.specs.Queue.{queueOf, queueOver}
 use Rattle.writer_turns.specs.declared.Turns.{Turns}
 
--- "each field's queue is 64 places": counts within this limit, and room for n triples
+-- counts within the places of a queue [S2], and room for n triples
 unfoldable pub fits : Turns → ℕ → Bool
 fits t n = leb (t .field1 .count) mostQueued && (leb (t .field2 .count) mostQueued && frames.fits (t .frame) n)
 
@@ -23,7 +23,7 @@ taken t r =
       frame = appended (t .frame) (flat (r .out));
     }
 
--- "whose turn is next is remembered across frames"
+-- whose turn is next is kept from frame to frame [W4]
 unfoldable pub turnsFrom : ℕ → Bool → Turns → Turned
 turnsFrom n pad t = cond (not (t .«field2_next»)) (turn1 n pad (queueOf (t .field1)) (queueOf (t .field2))) (turn2 n pad (queueOf (t .field1)) (queueOf (t .field2)))
 
