@@ -1,4 +1,4 @@
--- The examples that document 01 marks with a star, as one table with one statement: what the definitions compute is what document 01 says.
+-- The examples that docs/RULES.md marks with a star, as one table with one statement: what the definitions compute is what the rule book says.
 -- Assumes nothing.
 use mathlib.Core.Path.{_≡_, refl}
 use mathlib.Core.List.{List, [], _∷_, _++_, map}
@@ -20,7 +20,7 @@ pub data Input : Type 0 where
   frames : List (List ℕ) → Input
   frame : ℕ → ℕ → List Call → Input
 
--- what document 01 says of it
+-- what the rule book says of it
 pub data Result : Type 0 where
   size : ℕ → ℕ → Result
   bytes : List ℕ → Result
@@ -28,7 +28,7 @@ pub data Result : Type 0 where
   refusal : Said → Result
   items : List Said → List Cea608 → List Packet → Result
 
--- an answer by its number and its values, as document 01 writes it; 0 is accepted
+-- an answer by its number and its values, as the rule book writes it; 0 is accepted
 abbrev pub says : ℕ → List ℕ → Said
 says number values = record { number = number; values = values }
 
@@ -56,7 +56,7 @@ answer (tidy d) = told packet (readTidy d)
 answer (frames fs) = let r = readFrames fs (turn608On freshDemux) in items (r .answers) (r .pairs) (r .packets)
 answer (frame numer denom calls) = told bytes (unpadded numer denom calls)
 
--- an example of document 01
+-- an example of the rule book
 pub record Row : Type 0 where
   pub input : Input
   pub result : Result
@@ -69,7 +69,7 @@ row i r = record { input = i; result = r }
 abbrev twice942C : List Call
 twice942C = pushes608 (field1 (pair 0x94 0x2C)) ∷ pushes608 (field1 (pair 0x94 0x2C)) ∷ []
 
--- the starred examples, in document 01's order
+-- the starred examples, in the rule book's order
 unfoldable pub table : List Row
 table =
     row (header 0x40) (size 1 128)

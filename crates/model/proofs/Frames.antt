@@ -1,4 +1,4 @@
--- What reading a frame does in each of document 01's cases. Assumes nothing.
+-- What reading a frame does in each case. Assumes nothing.
 use mathlib.Core.Path.{_≡_, refl, sym, ap}
 use mathlib.Core.Bool.{true, false, cond, true≢false, false≢true}
 use mathlib.Core.List.{List, [], _∷_, _++_, append-assoc, append-nil}

@@ -1,4 +1,4 @@
--- Two tables beside document 01's: what rules out the slips that it names and that its own starred examples leave open, and each refusal once,
+-- Two tables beside the examples of the rule book: what rules out the slips that it names and that its own starred examples leave open, and each refusal once,
 -- by its number and the values that it carries. Assumes nothing.
 use mathlib.Core.Path.{_≡_, refl}
 use mathlib.Core.Bool.{true, false}
@@ -59,7 +59,7 @@ pub full-block : said.isGiven (pushRun 1 (run 1) (one 0 1 (run 31))) ∷ said.is
 unfolding latestOf pushNew pushAt pushRunAt pushRunBy writtenHeader writtenBlock blockLength blocksLength packetLength
 full-block = refl
 
--- Each refusal of document 01's table, by one call that gives it.
+-- Each refusal [A1], by one call that gives it.
 unfoldable pub refusals : List Said
 refusals =
     said.says (readPacket [])

@@ -1,4 +1,4 @@
--- Document 01's example of what `ccread` prints, and lines of `ccscript`. Assumes nothing.
+-- The example of what `ccread` prints [C2], and lines of `ccscript`. Assumes nothing.
 use mathlib.Core.Path.{_≡_, refl}
 use mathlib.Core.List.{[], _∷_, _++_, map}
 use Rattle.model.specs.Said.{accepted, lengthMismatch, cea608AfterCea708, outShort, badValue}
