@@ -55,7 +55,8 @@ loop-less c = omega arith
 loop-again : tie.Need-loop-again Inv-loop μ-loop
 loop-again c =
     let t = c .before .before .before .before .before .before in
-    going-next _ _ _ _ _ _ (t .before .loop .inv) _ _ _ (t .loop-test .taken) (c .before .before .before .good-entry .ensures) (not-false _ (c .before .before .if1 .left)) (c .before .block-length .ensures) (c .wide .ensures .0)
+    going-next _ _ _ _ _ _ (t .before .loop .inv) _ _ _ (t .loop-test .taken) (c .before .before .before .good-entry .ensures)
+    (not-false _ (c .before .before .if1 .left)) (c .before .block-length .ensures) (c .wide .ensures .0)
 
 returns-2 : tie.Need-returns-2 Inv-loop μ-loop
 returns-2 c = going-last _ _ _ _ _ _ (c .before .loop .inv) (c .loop-test .left)

@@ -1,4 +1,4 @@
--- `service_headers::block_length` meets its contract: its three ways out are the three cases of `length-by`, by the tests on the way. Assumes nothing.
+-- Its three ways out are the three cases of `length-by`, by the tests on the way. Assumes nothing.
 use borrow.Author.Tests.{eq-eqb, ne-eqb, lt-ltb, le-ltb}
 use borrow.Author.Needs.{needs}
 use Rattle.service_headers.proofs.Heads.{length-by}

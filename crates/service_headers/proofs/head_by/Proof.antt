@@ -1,5 +1,4 @@
--- `service_headers::head_by` meets its contract: one law of `Heads` for each way out, in the order of the tests: header cut, body cut, a number in the second byte, in
--- the first. Assumes nothing.
+-- One law of `Heads` for each way out, in the order of the tests: header cut, body cut, a number in the second byte, in the first. Assumes nothing.
 use native.Mathlib.Omega.{arith}
 use Rattle.service_headers.proofs.Heads.{header-most, head-cut, body-cut, head-two, head-one}
 use borrow.Author.Needs.{needs}

@@ -1,4 +1,4 @@
--- `service_headers::put_header` meets its contract: one law of `Heads` for each way in which a header is laid, and nothing is laid past the end. Assumes nothing.
+-- One law of `Heads` for each way in which a header is laid, and nothing is laid past the end. Assumes nothing.
 use borrow.Author.Needs.{needs}
 use Rattle.basics.proofs.Runs.{sets-past}
 use Rattle.service_headers.proofs.Heads.{laid-one, laid-two, laid-cut}

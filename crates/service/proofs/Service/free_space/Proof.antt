@@ -1,4 +1,4 @@
--- `Service::free_space` meets its contract: within the limits the payload is as long as `len` says, so that 31 less `len` is the room. Assumes nothing.
+-- Within the limits the payload is as long as `len` says, so that 31 less `len` is the room. Assumes nothing.
 use borrow.Author.Needs.{needs}
 use Rattle.caption.proofs.Answers.{measure-bad}
 use Rattle.service.proofs.Services.{small-len, measure-room}

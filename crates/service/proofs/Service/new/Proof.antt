@@ -1,4 +1,4 @@
--- `Service::new` meets its contract: a number above 63 is refused beside the blank block, and any other makes a block without payload. Assumes nothing.
+-- A number above 63 is refused beside the blank block, and any other makes a block without payload. Assumes nothing.
 use mathlib.Core.Path.{refl}
 use native.Mathlib.Omega.{arith}
 use borrow.Author.Needs.{needs}

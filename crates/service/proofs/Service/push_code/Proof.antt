@@ -1,4 +1,4 @@
--- `Service::push_code` meets its contract: one law of `Services` for each refusal, in the order 11, 7, 4, 3, and the run is laid behind the payload. Assumes nothing.
+-- One law of `Services` for each refusal, in the order 11, 7, 4, 3, and the run is laid behind the payload. Assumes nothing.
 use mathlib.Core.Path.{_≡_, refl, sym, _∙_}
 use mathlib.Core.Bool.{true}
 use mathlib.Core.List.{List}
