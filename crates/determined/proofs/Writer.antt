@@ -16,6 +16,7 @@ use Rattle.writer.specs.declared.CCDataWriter.{CCDataWriter}
 use Rattle.writer.specs.declared.WriterAnswer.{WriterAnswer}
 use Rattle.writer.specs.declared.WriterCount.{WriterCount}
 use Rattle.writer.proofs.CCDataWriter.new.Reads as new
+use Rattle.writer.proofs.CCDataWriter.is_valid.Reads as is_valid
 use Rattle.writer.proofs.CCDataWriter.set_output_cea608_padding.Reads as set_output_cea608_padding
 use Rattle.writer.proofs.CCDataWriter.output_cea608_padding.Reads as output_cea608_padding
 use Rattle.writer.proofs.CCDataWriter.set_output_padding.Reads as set_output_padding
@@ -28,7 +29,7 @@ use Rattle.writer.proofs.CCDataWriter.buffered_cea608_field2_duration.Reads as 
 use Rattle.writer.proofs.CCDataWriter.buffered_packet_duration.Reads as buffered_packet_duration
 use Rattle.writer.proofs.CCDataWriter.write.Reads as write
 use Rattle.determined.specs.Determines.{Determines, DeterminesLent}
-use Rattle.determined.proofs.Ways.{said, two}
+use Rattle.determined.proofs.Ways.{equal, said, two}
 
 module _ {A E : Type 0} where
   -- an answer and a state
@@ -52,6 +53,10 @@ module _ {A E : Type 0} where
 -- `CCDataWriter::new()`
 pub CCDataWriter-new : Determines (new.Post (tt {0}))
 CCDataWriter-new = record { result = λ a r q e f h k. h .1 ∙ sym (k .1) }
+
+-- `writer.is_valid()`
+pub CCDataWriter-is-valid : Determines (is_valid.Post (tt {0}))
+CCDataWriter-is-valid = equal
 
 -- `writer.set_output_cea608_padding(on)`
 pub CCDataWriter-set-output-cea608-padding : Determines (set_output_cea608_padding.Post (tt {0}))

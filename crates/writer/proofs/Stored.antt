@@ -21,7 +21,7 @@ use Rattle.writer_turns.specs.Queue.{pairsOf, queueOf, pairBytes, queueOver}
 use Rattle.writer_turns.proofs.Queues.{over-same, over-queue, over-sized}
 use Rattle.writer_turns.proofs.Steps.{not-not}
 use Rattle.basics.proofs.Runs.{sets-front}
-use Rattle.slots.specs.Slot.{slotWith, writtenBytes, slotPacket, writtenSlot}
+use Rattle.slots.specs.Slot.{slotOf, writtenBytes, slotPacket, writtenSlot}
 use Rattle.slots.proofs.Written.{slot-reads, facts-written}
 use Rattle.slots.specs.declared.Slot.{Slot}
 use Rattle.slots.specs.Row.{validSending}
@@ -69,10 +69,6 @@ module _ (s : Mux) (v : validMux s ≡ true) where
       (λ e. rw e (record { more = []; packets = sym (append-nil (s .packets)); sending = refl; valid = v }))
       (λ e. by-test (leb mostPackets (length (s .packets))) (λ f. rw (e, f) tt)
       (λ f. rw (e, f) (record { more = p ∷ []; packets = refl; sending = refl; valid = rw (e, f) at g })))
-
--- a packet in a slot: its length, and the bytes that it is written in, over zeros
-abbrev pub slotOf : Packet → Slot
-slotOf p = slotWith (packetLength p) (writtenPacket p)
 
 module _ (p : Packet) (k : storable p ≡ true) where
   -- the limits of a packet that may be queued

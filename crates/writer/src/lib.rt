@@ -1,8 +1,6 @@
 // The multiplexer: packets and CEA-608 pairs in, frames of `cc_data` out.
-use basics::MOST_PACKETS;
 use basics::MOST_QUEUED;
 use caption::Answer;
-use caption::Budgets;
 use caption::Cea608;
 use caption::Counted;
 use caption::Framerate;
@@ -11,23 +9,22 @@ use caption::Truth;
 use packet::DTVCCPacket;
 use slots::Slot;
 use slots::slots_written;
-use writer_building::Made;
-use writer_frames::Frame;
-use writer_sending::bytes_left;
+use writer_building::Source;
 use writer_sending::move_down;
+use writer_sending::packets_duration;
+use writer_storing::store;
 use writer_turns::PairQueue;
 ghost use mathlib.Core.Path.{_≡_};
-ghost use mathlib.Core.Bool.{true, false, cond, _&&_};
-ghost use Prim.Native.Nat.{_≤_};
+ghost use mathlib.Core.Bool.{cond, _&&_};
 ghost use Rattle.model.specs.Said.{gave, measured, checked};
 ghost use Rattle.model.specs.Mux.{freshMux, withPads, flushMux, pushPacket, pushCea608};
-ghost use Rattle.model.specs.Duration.{pairsDuration, bytesDuration, field1Duration, field2Duration, packetDuration};
+ghost use Rattle.model.specs.Duration.{field1Duration, field2Duration, packetDuration};
 ghost use Rattle.caption.specs.Answers.{saidTruth};
 ghost use Rattle.caption.specs.Pairs.{cea608Of};
 ghost use Rattle.packet.specs.Packet.{packetOf, validDTVCC};
 ghost use Rattle.writer.specs.Writer.{means, validWriter, fresh, stored, emptied};
 ghost use Rattle.writer.specs.Calls.{saidMicros, Answers, Writes};
-ghost use Rattle.writer.specs.Making.{refusedOf, builtFrom, unmadeOf, withFields, pairOutcome, Stores, Makes};
+ghost use Rattle.writer.specs.Making.{refusedOf, sourceOf};
 
 // The multiplexer: the two switches, the queue of packets, the packet being sent and how many of its bytes have left, each field's queue,
 // and whether field 2 has the next turn.
@@ -61,130 +58,7 @@ pub enum Micros {
     Refused(Refusal),
 }
 
-// What pushing a pair answers, and the queues after it.
-pub struct Pushed {
-    pub answer: Answer,
-    pub field1: PairQueue,
-    pub field2: PairQueue,
-}
-
-// What pushing a packet answers, and whether it is stored, in which slot.
-pub struct Placed {
-    pub answer: Answer,
-    pub stored: bool,
-    pub slot: Slot,
-}
-
 impl CCDataWriter {
-    // The frame at budgets of `pairs` and `triples`, and what it leaves.
-    fn build(self, pairs: usize, triples: usize) -> Made
-        ensures { λ r. ⌜ r ≡ builtFrom pairs triples self ⌝ }
-    {
-        let slots = self.packets;
-        let slot = self.sending;
-        let field1 = self.field1;
-        let field2 = self.field2;
-        writer_building::build(
-            self.output_cea608_padding,
-            self.output_padding,
-            pairs,
-            triples,
-            field1,
-            field2,
-            self.field2_next,
-            slots,
-            self.packet_count,
-            slot,
-            self.sent,
-        )
-    }
-
-    // What is made where no frame is written.
-    fn unmade(self, answer: Counted) -> Made
-        ensures { λ r. ⌜ r ≡ unmadeOf self answer ⌝ }
-    {
-        let slot = self.sending;
-        let field1 = self.field1;
-        let field2 = self.field2;
-        Made {
-            answer,
-            frame: Frame {
-                bytes: [0; 95],
-                len: 0,
-            },
-            field1,
-            field2,
-            field2_next: self.field2_next,
-            slot,
-            sent: self.sent,
-            next: 0,
-        }
-    }
-
-    // The frame at a rate, for an output of `room` bytes, and what it leaves.
-    fn make(self, valid: bool, rate: Framerate, room: usize) -> Made
-        requires { ⌜ valid ≡ validWriter self ⌝ }
-        ensures { λ r. ⌜ Makes rate room self r ⌝ }
-    {
-        if valid {
-            let budgets = rate.budgets();
-            let Budgets::Of { pairs, triples } = budgets else {
-                return self.unmade(Counted::Refused(Refusal::BadRate));
-            };
-            let made = self.build(pairs, triples);
-            let frame = made.frame;
-            let needed = frame.len;
-            if room < needed {
-                return self.unmade(Counted::Refused(Refusal::OutShort { needed }));
-            }
-            return made;
-        }
-        self.unmade(Counted::Refused(Refusal::BadValue))
-    }
-}
-
-// Where no packet is stored.
-fn unplaced(answer: Answer) -> Placed
-    ensures { λ r. ⌜ (r .answer ≡ answer) × (r .stored ≡ false) ⌝ }
-{
-    Placed {
-        answer,
-        stored: false,
-        slot: Slot {
-            len: 0,
-            bytes: [0; 128],
-        },
-    }
-}
-
-impl CCDataWriter {
-    // Whether the state is within its limits.
-    fn is_valid(self) -> bool
-        ensures { λ r. ⌜ r ≡ validWriter self ⌝ }
-    {
-        let field1 = self.field1;
-        let field2 = self.field2;
-        let slot = self.sending;
-        if MOST_QUEUED < field1.count {
-            return false;
-        }
-        if MOST_QUEUED < field2.count {
-            return false;
-        }
-        let packets = self.packets;
-        slots_written(slot, self.sent, packets, self.packet_count)
-    }
-
-    // A state outside its limits is refused, and stays as it was.
-    fn refused(self) -> WriterAnswer
-        ensures { λ r. ⌜ r ≡ refusedOf self ⌝ }
-    {
-        WriterAnswer {
-            answer: Answer::Refused(Refusal::BadValue),
-            writer: self,
-        }
-    }
-
     // A multiplexer with nothing queued, and no padding.
     pub fn new() -> CCDataWriter
         ensures { λ r. ⌜ (means r ≡ freshMux) × (r ≡ fresh) ⌝ }
@@ -208,6 +82,23 @@ impl CCDataWriter {
             field2: queue,
             field2_next: false,
         }
+    }
+
+    // Whether the state is within its limits.
+    pub fn is_valid(self) -> bool
+        ensures { λ r. ⌜ r ≡ validWriter self ⌝ }
+    {
+        let field1 = self.field1;
+        let field2 = self.field2;
+        let slot = self.sending;
+        if MOST_QUEUED < field1.count {
+            return false;
+        }
+        if MOST_QUEUED < field2.count {
+            return false;
+        }
+        let packets = self.packets;
+        slots_written(slot, self.sent, packets, self.packet_count)
     }
 
     // Whether to output padding CEA-608 bytes where not enough has been pushed.
@@ -260,137 +151,49 @@ impl CCDataWriter {
         Truth::Refused(Refusal::BadValue)
     }
 
-    // The slot that a packet is written into, where it is stored.
-    fn place(self, valid: bool, packet: DTVCCPacket) -> Placed
-        requires { ⌜ valid ≡ validWriter self ⌝ }
-        ensures { λ r. ⌜ Stores packet self r ⌝ }
-    {
-        if valid {
-            let length = packet.len();
-            let Counted::Count(len) = length else {
-                return unplaced(Answer::Refused(Refusal::BadValue));
-            };
-            if len == 0 {
-                return unplaced(Answer::Accepted);
-            }
-            if self.packet_count == MOST_PACKETS {
-                return unplaced(Answer::Refused(Refusal::Full));
-            }
-            let mut bytes = [0u8; 128];
-            packet.write(&mut bytes);
-            return Placed {
-                answer: Answer::Accepted,
-                stored: true,
-                slot: Slot { len, bytes },
-            };
-        }
-        unplaced(Answer::Refused(Refusal::BadValue))
-    }
-
     // Pushes a packet: it is written into the first free slot. An empty one is accepted, even when full, and not stored.
     pub fn push_packet(self, packet: DTVCCPacket) -> WriterAnswer
         ensures { λ r. ⌜ Answers (checked (validWriter self && validDTVCC packet) (pushPacket (packetOf packet) (means self))) (stored self) self r ⌝ }
     {
-        let mut packets = self.packets;
-        let mut count = self.packet_count;
-        let valid = self.is_valid();
-        let placed = self.place(valid, packet);
-        let answer = placed.answer;
-        let slot = placed.slot;
-        if placed.stored {
-            packets[count] = slot;
-            count += 1;
+        if self.is_valid() {
+            let slots = self.packets;
+            let after = store(slots, self.packet_count, packet);
+            let answer = after.answer;
+            let packets = after.packets;
+            let mut writer = self;
+            writer.packets = packets;
+            writer.packet_count = after.count;
+            return WriterAnswer { answer, writer };
         }
-        let sending = self.sending;
-        let field1 = self.field1;
-        let field2 = self.field2;
-        WriterAnswer {
-            answer,
-            writer: CCDataWriter {
-                output_cea608_padding: self.output_cea608_padding,
-                output_padding: self.output_padding,
-                packet_count: count,
-                packets,
-                sending,
-                sent: self.sent,
-                field1,
-                field2,
-                field2_next: self.field2_next,
-            },
-        }
+        self.refused()
     }
 
-    // The queues after a pair, which goes to its field's.
-    fn queue_pair(self, valid: bool, cea608: Cea608) -> Pushed
-        requires { ⌜ valid ≡ validWriter self ⌝ }
-        ensures { λ r. ⌜ Answers (pairOutcome cea608 self) (stored self) self (record { answer = r .answer; writer = withFields (r .field1) (r .field2) self }) ⌝ }
-    {
-        let field1 = self.field1;
-        let field2 = self.field2;
-        if valid {
-            match cea608 {
-                Cea608::Field1(a, b) => {
-                    let pushed = field1.push(a, b);
-                    let answer = pushed.answer;
-                    let queue = pushed.queue;
-                    return Pushed {
-                        answer,
-                        field1: queue,
-                        field2,
-                    };
-                }
-                Cea608::Field2(a, b) => {
-                    let pushed = field2.push(a, b);
-                    let answer = pushed.answer;
-                    let queue = pushed.queue;
-                    return Pushed {
-                        answer,
-                        field1,
-                        field2: queue,
-                    };
-                }
-            }
-        }
-        Pushed {
-            answer: Answer::Refused(Refusal::BadValue),
-            field1,
-            field2,
-        }
-    }
-
-    // The state after a pair.
-    fn push_pair(self, valid: bool, cea608: Cea608) -> WriterAnswer
-        requires { ⌜ valid ≡ validWriter self ⌝ }
-        ensures { λ r. ⌜ Answers (pairOutcome cea608 self) (stored self) self r ⌝ }
-    {
-        let pushed = self.queue_pair(valid, cea608);
-        let answer = pushed.answer;
-        let field1 = pushed.field1;
-        let field2 = pushed.field2;
-        let packets = self.packets;
-        let sending = self.sending;
-        WriterAnswer {
-            answer,
-            writer: CCDataWriter {
-                output_cea608_padding: self.output_cea608_padding,
-                output_padding: self.output_padding,
-                packet_count: self.packet_count,
-                packets,
-                sending,
-                sent: self.sent,
-                field1,
-                field2,
-                field2_next: self.field2_next,
-            },
-        }
-    }
-
-    // Pushes a CEA-608 byte pair.
+    // Pushes a CEA-608 byte pair, which goes to its field's queue.
     pub fn push_cea608(self, cea608: Cea608) -> WriterAnswer
         ensures { λ r. ⌜ Answers (checked (validWriter self) (pushCea608 (cea608Of cea608) (means self))) (stored self) self r ⌝ }
     {
-        let valid = self.is_valid();
-        self.push_pair(valid, cea608)
+        if self.is_valid() {
+            let mut writer = self;
+            match cea608 {
+                Cea608::Field1(a, b) => {
+                    let queue = self.field1;
+                    let pushed = queue.push(a, b);
+                    let answer = pushed.answer;
+                    let field1 = pushed.queue;
+                    writer.field1 = field1;
+                    return WriterAnswer { answer, writer };
+                }
+                Cea608::Field2(a, b) => {
+                    let queue = self.field2;
+                    let pushed = queue.push(a, b);
+                    let answer = pushed.answer;
+                    let field2 = pushed.queue;
+                    writer.field2 = field2;
+                    return WriterAnswer { answer, writer };
+                }
+            }
+        }
+        self.refused()
     }
 
     // Drops what is queued, and the packet being sent.
@@ -424,7 +227,7 @@ impl CCDataWriter {
     {
         if self.is_valid() {
             let queue = self.field1;
-            return Micros::Of(pairs_duration(queue.count));
+            return Micros::Of(queue.duration());
         }
         Micros::Refused(Refusal::BadValue)
     }
@@ -435,7 +238,7 @@ impl CCDataWriter {
     {
         if self.is_valid() {
             let queue = self.field2;
-            return Micros::Of(pairs_duration(queue.count));
+            return Micros::Of(queue.duration());
         }
         Micros::Refused(Refusal::BadValue)
     }
@@ -447,8 +250,7 @@ impl CCDataWriter {
         if self.is_valid() {
             let packets = self.packets;
             let slot = self.sending;
-            let bytes = bytes_left(packets, self.packet_count, slot, self.sent);
-            return Micros::Of(bytes_duration(bytes));
+            return Micros::Of(packets_duration(packets, self.packet_count, slot, self.sent));
         }
         Micros::Refused(Refusal::BadValue)
     }
@@ -458,7 +260,8 @@ impl CCDataWriter {
         ensures { λ r. ⌜ Writes rate (now (out .entry)) self r (now (out .exit)) ⌝ }
     {
         let valid = self.is_valid();
-        let made = self.make(valid, rate, out.len());
+        let source = self.source();
+        let made = source.make(valid, rate, out.len());
         let frame = made.frame;
         frame.emit(out);
         let slots = self.packets;
@@ -481,20 +284,35 @@ impl CCDataWriter {
         };
         WriterCount { answer, writer }
     }
-}
 
-// `n` pairs take 1001/60000 of a second each: microseconds, upward.
-fn pairs_duration(n: usize) -> u64
-    requires { ⌜ n ≤ 64 ⌝ }
-    ensures { λ r. ⌜ r ≡ pairsDuration n ⌝ }
-{
-    (n as u64 * 1_001_000_000 + 59_999) / 60_000
-}
+    // A state outside its limits is refused, and stays as it was.
+    fn refused(self) -> WriterAnswer
+        ensures { λ r. ⌜ r ≡ refusedOf self ⌝ }
+    {
+        WriterAnswer {
+            answer: Answer::Refused(Refusal::BadValue),
+            writer: self,
+        }
+    }
 
-// Bytes leave two at a time, at 1200000 in 1001 seconds: microseconds, upward.
-fn bytes_duration(bytes: usize) -> u64
-    requires { ⌜ bytes ≤ 4096 ⌝ }
-    ensures { λ r. ⌜ r ≡ bytesDuration bytes ⌝ }
-{
-    ((bytes as u64 + 1) / 2 * 2_002_000_000 + 1_199_999) / 1_200_000
+    // What the next frame is made of.
+    fn source(self) -> Source
+        ensures { λ r. ⌜ r ≡ sourceOf self ⌝ }
+    {
+        let field1 = self.field1;
+        let field2 = self.field2;
+        let packets = self.packets;
+        let slot = self.sending;
+        Source {
+            pad: self.output_cea608_padding,
+            padding: self.output_padding,
+            field1,
+            field2,
+            field2_next: self.field2_next,
+            packets,
+            queued: self.packet_count,
+            slot,
+            sent: self.sent,
+        }
+    }
 }

@@ -15,7 +15,7 @@ use Rattle.writer_turns.specs.declared.Turns.{Turns}
 abbrev pub pushed : PairQueue → ℕ → ℕ → PairQueue
 pushed q a b = record { bytes = set (set (q .bytes) (2 * q .count) a) (2 * q .count + 1) b; count = q .count + 1 }
 
--- "each field's queue is 64 places", "A frame is at most 95 bytes": counts within these limits, and room for n triples
+-- counts within the places of a queue [S2], and room for n triples in a frame [S5]
 pub record Fits (t : Turns) (n : ℕ) : Type 0 where
   pub first : t .field1 .count ≤ 64
   pub second : t .field2 .count ≤ 64
