@@ -4,7 +4,7 @@ use mathlib.Core.Bool.{Bool, true, false}
 use mathlib.Core.List.{List, _++_}
 use lib.ListN.{drop, take-append-drop}
 use Rattle.model.specs.Packet.{writtenPacket}
-use Rattle.slots.specs.Slot.{writtenLength, writtenBytes, slotPacket, writtenSlot}
+use Rattle.slots.specs.Slot.{writtenLength, writtenBytes, readSlot, writtenSlot}
 use Rattle.slots.specs.Walk.{walkedSlot}
 use Rattle.slots.proofs.Written.{carried, carried-written, carried-valid}
 use Rattle.slots.proofs.Encodes.{written-passes}
@@ -23,8 +23,8 @@ unfolding writtenBytes
 passes s e =
     let v = carried-valid s e in
     let d : List _ = drop (writtenLength s) (s .bytes) in
-    let b : s .bytes ≡ writtenPacket (slotPacket s) ++ d = sym (take-append-drop (writtenLength s) (s .bytes)) ∙ ap (λ l. l ++ d) (carried-written s e) in
-    rw (← b, carried s e .measured) at (written-passes (slotPacket s) (v .0) (v .1) d)
+    let b : s .bytes ≡ writtenPacket (readSlot s) ++ d = sym (take-append-drop (writtenLength s) (s .bytes)) ∙ ap (λ l. l ++ d) (carried-written s e) in
+    rw (← b, carried s e .measured) at (written-passes (readSlot s) (v .0) (v .1) d)
 
 -- exactly these
 pub walked-written : (s : Slot) → walkedSlot s ≡ writtenSlot s

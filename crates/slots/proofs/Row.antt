@@ -88,9 +88,12 @@ last-apart true true false u r = refl
 last-apart true false z u r = refl
 last-apart false y z u r = refl
 
+-- those of four slots that are taken are written packets
+abbrev fourIf : ℕ → Slot → Slot → Slot → Slot → Bool
+fourIf n a b c d = writtenIf (ltb 0 n) a && (writtenIf (ltb 1 n) b && (writtenIf (ltb 2 n) c && writtenIf (ltb 3 n) d))
+
 -- the first four slots of a queue, those of them that are taken, and the others
-first-four : (a b c d : Slot) (l : List Slot) (n : ℕ)
-    → every writtenSlot (take n (a ∷ b ∷ c ∷ d ∷ l)) ≡ (writtenIf (ltb 0 n) a && (writtenIf (ltb 1 n) b && (writtenIf (ltb 2 n) c && writtenIf (ltb 3 n) d))) && every writtenSlot (take (n - 4) l)
+first-four : (a b c d : Slot) (l : List Slot) (n : ℕ) → every writtenSlot (take n (a ∷ b ∷ c ∷ d ∷ l)) ≡ fourIf n a b c d && every writtenSlot (take (n - 4) l)
 unfolding every
 first-four a b c d l zero = last-apart true true true true true
 first-four a b c d l (suc zero) = last-apart (writtenSlot a) true true true true
@@ -104,7 +107,7 @@ first-four a b c d l (suc (suc (suc (suc n)))) =
 
 -- the same by their places
 four-apart : (l : List Slot) (n : ℕ) → 4 ≤ length l
-    → every writtenSlot (take n l) ≡ (writtenIf (ltb 0 n) (getD l 0 noSlot) && (writtenIf (ltb 1 n) (getD l 1 noSlot) && (writtenIf (ltb 2 n) (getD l 2 noSlot) && writtenIf (ltb 3 n) (getD l 3 noSlot)))) && every writtenSlot (take (n - 4) (drop 4 l))
+    → every writtenSlot (take n l) ≡ fourIf n (getD l 0 noSlot) (getD l 1 noSlot) (getD l 2 noSlot) (getD l 3 noSlot) && every writtenSlot (take (n - 4) (drop 4 l))
 four-apart [] n h = absurd (omega arith)
 four-apart (a ∷ []) n h = absurd (omega arith)
 four-apart (a ∷ b ∷ []) n h = absurd (omega arith)
@@ -115,7 +118,7 @@ four-apart (a ∷ b ∷ c ∷ d ∷ l) n h = first-four a b c d l n
 module _ (x : Bool) (l : List Slot) (n : ℕ) (places : length l ≡ 16) (few : n ≤ 16) where
   -- the first four, those of them that are taken
   abbrev fours : Bool
-  fours = writtenIf (ltb 0 n) (getD l 0 noSlot) && (writtenIf (ltb 1 n) (getD l 1 noSlot) && (writtenIf (ltb 2 n) (getD l 2 noSlot) && writtenIf (ltb 3 n) (getD l 3 noSlot)))
+  fours = fourIf n (getD l 0 noSlot) (getD l 1 noSlot) (getD l 2 noSlot) (getD l 3 noSlot)
 
   -- there are no others
   pub row-short : n ≤ 4 → x && fours ≡ x && every writtenSlot (take n l)

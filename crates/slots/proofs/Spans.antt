@@ -123,7 +123,8 @@ module _ (s : Slot) where
       wrong-fill o f = simp (le-leb _ _ a, le-leb _ _ b, eq-eqb _ _ h, small, ne-eqb (s .len % 2) 0 (λ z. omega arith), ne-eqb _ _ f)
 
       -- the blocks decide
-      pub by-blocks : {r : Bool} → length (s .bytes) ≡ 128 → (eqb (s .len % 2) 0 || eqb (getD (s .bytes) (s .len) 0) 0) ≡ true → r ≡ wholeBlocks 0 (drop 1 (take (s .len) (s .bytes))) → r ≡ walkedSlot s
+      pub by-blocks : {r : Bool} → length (s .bytes) ≡ 128 → (eqb (s .len % 2) 0 || eqb (getD (s .bytes) (s .len) 0) 0) ≡ true
+          → r ≡ wholeBlocks 0 (drop 1 (take (s .len) (s .bytes))) → r ≡ walkedSlot s
       unfolding walkedSlot framedSlot
       by-blocks full f e =
           let k : leb (s .len + s .len % 2) (length (s .bytes)) ≡ true = le-leb (s .len + s .len % 2) (length (s .bytes)) (omega arith) in

@@ -12,15 +12,15 @@ use Rattle.model.proofs.Cases.{both}
 use Rattle.model.proofs.Lists.{same-true, same-self}
 use Rattle.model.proofs.Packets.{Valid, valid-facts, facts-valid, Shape, shape, plain-back}
 use Rattle.model.proofs.Sends.{triples-written}
-use Rattle.slots.specs.Slot.{writtenBytes, slotPacket, writtenSlot}
+use Rattle.slots.specs.Slot.{writtenBytes, readSlot, writtenSlot}
 use Rattle.slots.specs.Walk.{Carries}
 use Rattle.slots.specs.declared.Slot.{Slot}
 
 -- what makes a written packet
 module _ (s : Slot) (p : Packet) (v : Valid p) (some : 1 ≤ length (p .blocks)) (l : packetLength p ≡ s .len) (w : writtenBytes s ≡ writtenPacket p) where
   -- it reads as the packet
-  pub slot-reads : slotPacket s ≡ p
-  unfolding slotPacket
+  pub slot-reads : readSlot s ≡ p
+  unfolding readSlot
   slot-reads = rw (w, plain-back p v)
 
   -- and is its written form
@@ -31,42 +31,42 @@ module _ (s : Slot) (p : Packet) (v : Valid p) (some : 1 ≤ length (p .blocks))
 -- what a written packet is
 module _ (s : Slot) (e : writtenSlot s ≡ true) where
   -- the three tests
-  tests : (storable (slotPacket s) ≡ true) × (packetLength (slotPacket s) ≡ s .len) × (writtenPacket (slotPacket s) ≡ writtenBytes s)
+  tests : (storable (readSlot s) ≡ true) × (packetLength (readSlot s) ≡ s .len) × (writtenPacket (readSlot s) ≡ writtenBytes s)
   unfolding writtenSlot
   tests =
-      let t = both (storable (slotPacket s)) _ e in
-      let u = both (eqb (packetLength (slotPacket s)) (s .len)) _ (t .1) in
+      let t = both (storable (readSlot s)) _ e in
+      let u = both (eqb (packetLength (readSlot s)) (s .len)) _ (t .1) in
       (t .0, eqb-true _ _ (u .0), same-true _ _ (u .1))
 
   -- it may be queued
-  pub carried-storable : storable (slotPacket s) ≡ true
+  pub carried-storable : storable (readSlot s) ≡ true
   carried-storable = tests .0
 
   -- the packet's limits
-  parts : (Valid (slotPacket s)) × (1 ≤ length (slotPacket s .blocks))
+  parts : (Valid (readSlot s)) × (1 ≤ length (readSlot s .blocks))
   unfolding storable
-  parts = let t = both (validPacket (slotPacket s)) _ (tests .0) in (valid-facts _ (t .0), leb-true _ _ (t .1))
+  parts = let t = both (validPacket (readSlot s)) _ (tests .0) in (valid-facts _ (t .0), leb-true _ _ (t .1))
 
   -- it carries that packet
   pub carried : Carries s
   carried =
       let v = parts .0 in
       let l = tests .1 in
-      let h : Shape (slotPacket s) = shape (slotPacket s) v (parts .1) in
+      let h : Shape (readSlot s) = shape (readSlot s) v (parts .1) in
       let b = tests .2 in
       let n : length (writtenBytes s) ≡ 2 * ((s .len + 1) / 2) = ap length (sym b) ∙ h .even ∙ rw l in
       record {
         some = omega (arith, l, h .least, h .even);
         most = omega (arith, l, v .length);
         whole = omega arith;
-        triples = triples-written (slotPacket s) v (parts .1) ∙ ap started b;
+        triples = triples-written (readSlot s) v (parts .1) ∙ ap started b;
         measured = l;
       }
 
   -- in the bytes that it is written in
-  pub carried-written : writtenBytes s ≡ writtenPacket (slotPacket s)
+  pub carried-written : writtenBytes s ≡ writtenPacket (readSlot s)
   carried-written = sym (tests .2)
 
   -- and is one within the limits
-  pub carried-valid : (Valid (slotPacket s)) × (1 ≤ length (slotPacket s .blocks))
+  pub carried-valid : (Valid (readSlot s)) × (1 ≤ length (readSlot s .blocks))
   carried-valid = parts

@@ -32,11 +32,11 @@ unfoldable pub writtenBytes : Slot → List ℕ
 writtenBytes s = take (writtenLength s) (s .bytes)
 
 -- the packet that the bytes read as
-unfoldable pub slotPacket : Slot → Packet
-slotPacket s = after noPacket (readPacket (writtenBytes s))
+unfoldable pub readSlot : Slot → Packet
+readSlot s = after noPacket (readPacket (writtenBytes s))
 
 -- a slot that is the written form of the packet that it reads as, one that may be queued
 unfoldable pub writtenSlot : Slot → Bool
 writtenSlot s =
-    storable (slotPacket s)
-    && (eqb (packetLength (slotPacket s)) (s .len) && same (writtenPacket (slotPacket s)) (writtenBytes s))
+    storable (readSlot s)
+    && (eqb (packetLength (readSlot s)) (s .len) && same (writtenPacket (readSlot s)) (writtenBytes s))

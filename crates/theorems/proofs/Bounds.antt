@@ -26,7 +26,7 @@ use Rattle.caption.specs.declared.Counted.the-variants as counted
 use Rattle.caption.specs.declared.Framerate.{Framerate}
 use Rattle.writer_turns.specs.Queue.{queueOf}
 use Rattle.writer_turns.proofs.Queues.{queue-length}
-use Rattle.slots.specs.Slot.{slotPacket}
+use Rattle.slots.specs.Slot.{readSlot}
 use Rattle.writer.specs.Writer.{means}
 use Rattle.writer_sending.proofs.Triples.{left-length}
 use Rattle.writer.proofs.Kept.{Sound, sound-ok}
@@ -65,7 +65,7 @@ drained-back w s d =
     let ok = sound-ok w s in
     let h = ok .held in
     let n : length (means w .packets) ≡ w .«packet_count» =
-    length-map (take (w .«packet_count») (w .packets)) slotPacket ∙ length-take-le (w .«packet_count») (w .packets) (omega (arith, ok .few, ok .places)) in
+    length-map (take (w .«packet_count») (w .packets)) readSlot ∙ length-take-le (w .«packet_count») (w .packets) (omega (arith, ok .few, ok .places)) in
     record {
       no-packet = sym n ∙ ap length (d .no-packet);
       no-byte = omega (arith, left-length (w .sending) (w .sent) h, ap length (d .no-triple), h .even, h .within);

@@ -17,10 +17,10 @@ use Rattle.model.proofs.Cases.{by-test}
 use Rattle.model_journey.proofs.Calls.{Quiet}
 use Rattle.model_journey.proofs.Carried.{Kept, chain}
 use Rattle.model_journey.proofs.Sending.{Begins, none-begun, one-begun, begins, sentBy}
-use Rattle.slots.specs.Slot.{noSlot, writtenLength, writtenBytes, slotPacket}
+use Rattle.slots.specs.Slot.{noSlot, writtenLength, writtenBytes, readSlot}
 use Rattle.slots.specs.declared.Slot.{Slot}
 use Rattle.writer_sending.proofs.Triples.{leftFrom, Held, left-length}
-use Rattle.writer_sending.proofs.Sends.{slotPackets}
+use Rattle.writer_sending.proofs.Sends.{readSlots}
 use Rattle.writer.specs.Writer.{means, moved}
 use Rattle.writer.proofs.Moved.{begun-at}
 use Rattle.writer.proofs.Builds.{means-frame}
@@ -62,7 +62,7 @@ passed-one p false r = passed-none (p ∷ r)
 
 -- the packet of a slot of which so many bytes have left, and none once all have
 abbrev restIn : Slot → ℕ → List Packet
-restIn s sent = cond (leb (writtenLength s) sent) [] (slotPacket s ∷ [])
+restIn s sent = cond (leb (writtenLength s) sent) [] (readSlot s ∷ [])
 
 -- it is the same where the slot is let go, once none of its triples is left
 rest-rested : (s : Slot) (k : ℕ) → (let none = eqb k 0 in restIn (record { len = cond none 0 (s .len); bytes = s .bytes }) (cond none 0 (writtenLength s - 2 * k)) ≡ restIn s (writtenLength s - 2 * k))
@@ -82,7 +82,7 @@ passed-rest slot at h n r few =
     (λ t. let k = leb-true (writtenLength slot) at t in
     let m : leb (writtenLength slot) (writtenLength slot - 2 * n) ≡ true = le-leb (writtenLength slot) (writtenLength slot - 2 * n) (omega (arith, left-length slot at h)) in
     rw (t, m) (passed-none r))
-    (λ t. rw t (passed-one (slotPacket slot) (leb (writtenLength slot) (writtenLength slot - 2 * n)) r))
+    (λ t. rw t (passed-one (readSlot slot) (leb (writtenLength slot) (writtenLength slot - 2 * n)) r))
 
 -- of a queue of slots and the slot being sent, what is there once the model's o has been sent
 module _ (l : List Slot) (count : ℕ) (q : length l ≡ count) (slot : Slot) (at : ℕ) (h : Held slot at) (o : Sent) where
@@ -95,31 +95,31 @@ module _ (l : List Slot) (count : ℕ) (q : length l ≡ count) (slot : Slot) (a
   sent = writtenLength last - 2 * length (o .sending)
 
   -- as many packets as are counted
-  number : length (slotPackets l) ≡ count
-  number = length-map l slotPacket ∙ q
+  number : length (readSlots l) ≡ count
+  number = length-map l readSlot ∙ q
 
   -- no other packet is begun
-  passed-here : o .packets ≡ slotPackets l → length (o .sending) ≤ length (leftFrom at (writtenBytes slot))
-      → Passed (restIn slot at ++ slotPackets l) [] (restIn last sent ++ o .packets)
+  passed-here : o .packets ≡ readSlots l → length (o .sending) ≤ length (leftFrom at (writtenBytes slot))
+      → Passed (restIn slot at ++ readSlots l) [] (restIn last sent ++ o .packets)
   passed-here e few =
-      let z : count - length (slotPackets l) ≡ 0 = omega (arith, number) in
-      rw (e, z) (passed-rest slot at h (length (o .sending)) (slotPackets l) few)
+      let z : count - length (readSlots l) ≡ 0 = omega (arith, number) in
+      rw (e, z) (passed-rest slot at h (length (o .sending)) (readSlots l) few)
 
   -- one of the queue is begun
-  passed-on : (gone : List Packet) (p : Packet) → slotPackets l ≡ gone ++ (p ∷ o .packets)
-      → Passed (restIn slot at ++ slotPackets l) [] (restIn last sent ++ o .packets)
+  passed-on : (gone : List Packet) (p : Packet) → readSlots l ≡ gone ++ (p ∷ o .packets)
+      → Passed (restIn slot at ++ readSlots l) [] (restIn last sent ++ o .packets)
   passed-on gone p e =
       let n = ap length e in
       let m = length-append gone (p ∷ o .packets) in
       let next : count - length (o .packets) ≡ suc (length gone) = omega (arith, number) in
-      let it : slotPacket (getD l (length gone) noSlot) ≡ p =
-      sym (List·getD-map slotPacket l (length gone) noSlot)
-      ∙ ap (λ (ps : List Packet). getD ps (length gone) (slotPacket noSlot)) e ∙ getD-behind gone p (o .packets) (slotPacket noSlot) in
+      let it : readSlot (getD l (length gone) noSlot) ≡ p =
+      sym (List·getD-map readSlot l (length gone) noSlot)
+      ∙ ap (λ (ps : List Packet). getD ps (length gone) (readSlot noSlot)) e ∙ getD-behind gone p (o .packets) (readSlot noSlot) in
       rw (next, it, e)
       (passed-front (restIn slot at) (passed-front gone (passed-one p (leb (writtenLength (getD l (length gone) noSlot)) (writtenLength (getD l (length gone) noSlot) - 2 * length (o .sending))) (o .packets))))
 
   -- either way
-  passed-by : Begins (leftFrom at (writtenBytes slot)) (slotPackets l) o → Passed (restIn slot at ++ slotPackets l) [] (restIn last sent ++ o .packets)
+  passed-by : Begins (leftFrom at (writtenBytes slot)) (readSlots l) o → Passed (restIn slot at ++ readSlots l) [] (restIn last sent ++ o .packets)
   passed-by (none-begun e few) = passed-here e few
   passed-by (one-begun gone p e) = passed-on gone p e
 

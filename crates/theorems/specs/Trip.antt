@@ -7,7 +7,7 @@ use lib.Dec.{leb}
 use Rattle.model.specs.Packet.{Packet}
 use Rattle.caption.specs.declared.Answer.{Answer}
 use Rattle.caption.specs.declared.Answer.the-variants.{Accepted}
-use Rattle.slots.specs.Slot.{writtenLength, slotPacket}
+use Rattle.slots.specs.Slot.{writtenLength, readSlot}
 use Rattle.writer.specs.Writer.{means}
 use Rattle.writer.specs.declared.CCDataWriter.{CCDataWriter}
 use Rattle.parser.specs.declared.ParserAnswer.{ParserAnswer}
@@ -23,7 +23,7 @@ pub record RoundTrip (on : ParserAnswer) (frames : List (List ℕ)) (answers : L
 
 -- the packet being sent: the one that is in its slot, and none once every byte of it has left
 abbrev pub sendingOf : CCDataWriter → List Packet
-sendingOf w = cond (leb (writtenLength (w .sending)) (w .sent)) [] (slotPacket (w .sending) ∷ [])
+sendingOf w = cond (leb (writtenLength (w .sending)) (w .sent)) [] (readSlot (w .sending) ∷ [])
 
 -- Before it is drained: what was accepted is what has been given, and then what is still there. Of packets that is the one being sent, if there is
 -- one, and those queued; of pairs it is those queued.

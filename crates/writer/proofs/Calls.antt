@@ -60,7 +60,8 @@ module _ (w : CCDataWriter) {v : Bool} (e : v ≡ validWriter w) where
   refused-value o f z = rw (sym e ∙ z) (record { answer = refl; means = refl; places = refl })
 
   -- one within them is accepted
-  pub accepted-value : (x : Mux) (f : Mux → CCDataWriter) (y : CCDataWriter) → v ≡ true → y ≡ f x → means (f x) ≡ x → Answers (checked (validWriter w) (gave x)) f w (record { answer = answer.Accepted; writer = y })
+  pub accepted-value : (x : Mux) (f : Mux → CCDataWriter) (y : CCDataWriter) → v ≡ true → y ≡ f x → means (f x) ≡ x
+      → Answers (checked (validWriter w) (gave x)) f w (record { answer = answer.Accepted; writer = y })
   accepted-value x f y t q m = rw (sym e ∙ t) (answered (gave x) refl q m)
 
   -- a number asked of it is given
@@ -91,7 +92,8 @@ module _ (w : CCDataWriter) (h : Shaped w) {v : Bool} (e : v ≡ validWriter w) 
   ok = valid-ok w h valid
 
   -- the switches
-  pub switched : (a b : Bool) (y : CCDataWriter) → y ≡ withPadding a b w → Answers (checked (validWriter w) (gave (withPads a b (means w)))) (stored w) w (record { answer = answer.Accepted; writer = y })
+  pub switched : (a b : Bool) (y : CCDataWriter) → y ≡ withPadding a b w
+      → Answers (checked (validWriter w) (gave (withPads a b (means w)))) (stored w) w (record { answer = answer.Accepted; writer = y })
   switched a b y z = accepted-value w e (withPads a b (means w)) (stored w) y t (z ∙ sym (stored-pads w order a b)) (means-stored w order ok _ (grows-pads (means w) (valid-mux w h valid) a b))
 
   -- flush
@@ -109,12 +111,14 @@ module _ (w : CCDataWriter) (h : Shaped w) {v : Bool} (e : v ≡ validWriter w) 
       given-means (refused why) g = tt
 
   -- where the queues stand after it
-  first-stands : (o : Outcome (List Pair)) → withFields (after (w .field1) (mapped (queueOver (w .field1)) o)) (w .field2) w ≡ after w (mapped (stored w) (mapped (λ q. withQueues q (queueOf (w .field2)) (means w)) o))
+  first-stands : (o : Outcome (List Pair))
+      → withFields (after (w .field1) (mapped (queueOver (w .field1)) o)) (w .field2) w ≡ after w (mapped (stored w) (mapped (λ q. withQueues q (queueOf (w .field2)) (means w)) o))
   first-stands (gave q) = sym (stored-first w order q)
   first-stands (refused why) = refl
 
   -- the same for field 2
-  second-stands : (o : Outcome (List Pair)) → withFields (w .field1) (after (w .field2) (mapped (queueOver (w .field2)) o)) w ≡ after w (mapped (stored w) (mapped (λ q. withQueues (queueOf (w .field1)) q (means w)) o))
+  second-stands : (o : Outcome (List Pair))
+      → withFields (w .field1) (after (w .field2) (mapped (queueOver (w .field2)) o)) w ≡ after w (mapped (stored w) (mapped (λ q. withQueues (queueOf (w .field1)) q (means w)) o))
   second-stands (gave q) = sym (stored-second w order q)
   second-stands (refused why) = refl
 

@@ -30,7 +30,8 @@ use Rattle.writer.proofs.Calls.{answered}
 use Rattle.writer.specs.declared.CCDataWriter.{CCDataWriter}
 
 -- a state outside its limits
-pub refused-both : (w : CCDataWriter) {v : Bool} → v ≡ validWriter w → v ≡ false → (d : DTVCCPacket) → Answers (packetOutcome d w) (stored w) w (record { answer = answer.Refused BadValue; writer = w })
+pub refused-both : (w : CCDataWriter) {v : Bool} → v ≡ validWriter w → v ≡ false → (d : DTVCCPacket)
+    → Answers (packetOutcome d w) (stored w) w (record { answer = answer.Refused BadValue; writer = w })
 refused-both w e f d = let z : validWriter w ≡ false = sym e ∙ f in rw z (record { answer = refl; means = refl; places = refl })
 
 -- the ways out

@@ -10,7 +10,7 @@ use Rattle.model.specs.Lists.{every}
 use Rattle.model.specs.Mux.{Mux, freshMux, validMux, started}
 use Rattle.writer_turns.specs.Queue.{queueOf, queueOver}
 use Rattle.writer_turns.specs.declared.PairQueue.{PairQueue}
-use Rattle.slots.specs.Slot.{slotWith, slotOf, writtenLength, writtenBytes, slotPacket, writtenSlot}
+use Rattle.slots.specs.Slot.{slotWith, slotOf, writtenLength, writtenBytes, readSlot, writtenSlot}
 use Rattle.slots.specs.declared.Slot.{Slot}
 use Rattle.slots.specs.Row.{validSending}
 use Rattle.writer.specs.declared.CCDataWriter.{CCDataWriter}
@@ -21,7 +21,7 @@ means w =
     record {
       pad608 = w .«output_cea608_padding»;
       padOut = w .«output_padding»;
-      packets = map slotPacket (take (w .«packet_count») (w .packets));
+      packets = map readSlot (take (w .«packet_count») (w .packets));
       sending = drop (w .sent / 2) (started (writtenBytes (w .sending)));
       queue1 = queueOf (w .field1);
       queue2 = queueOf (w .field2);

@@ -1,5 +1,5 @@
--- A frame put together, whatever the queues and the slots hold. Document 01, "Writing frames". No public contract of `writer` reaches this file:
--- in a state within the limits it is proved to be the frame of the model. Assumes nothing.
+-- A frame put together, whatever the queues and the slots hold. No public contract of `writer` reaches this file: in a state
+-- within the limits it is proved to be the frame of the model. Assumes nothing.
 use mathlib.Core.Bool.{Bool, cond}
 use Prim.Native.Nat.{ℕ, _*_, _%_, min, max}
 use lib.Dec.{ltb}
@@ -18,7 +18,7 @@ use Rattle.writer_sending.specs.declared.Sending.{Sending}
 use Rattle.writer_building.specs.declared.Source.{Source}
 use Rattle.writer_building.specs.declared.Made.{Made}
 
--- "Turns this frame: pairs if 608 padding is on, else the lesser of pairs and max(queue 1, 2·queue 2)." A queue of field 2 has at most its places.
+-- the turns of a frame [W1]; a queue of field 2 has at most its places
 abbrev pub turnsOf : Bool → ℕ → ℕ → ℕ → ℕ
 turnsOf pad pairs n1 n2 = cond pad pairs (min pairs (max n1 (2 * min n2 mostQueued)))
 

@@ -1,4 +1,4 @@
--- A frame under construction: document 01, "Writing frames". Assumes nothing.
+-- A frame under construction: [W3], [W7] and [W8]. Assumes nothing.
 use mathlib.Core.Bool.{Bool, cond, _&&_}
 use mathlib.Core.List.{List, [], _∷_, _++_}
 use Prim.Native.Nat.{ℕ, zero, suc, _+_, _-_, _*_}
@@ -9,7 +9,7 @@ use Rattle.model.specs.Frame.{Triple, tri, mostFrame}
 use Rattle.model.specs.Rate.{mostTriples}
 use Rattle.writer_frames.specs.declared.Frame.{Frame}
 
--- "Frame: 0xC0 + count, 0xFF"
+-- the first two bytes of a frame [W3]
 unfoldable pub headed : ℕ → Frame
 headed count = record { bytes = (0xC0 + count) ∷ 0xFF ∷ replicate 93 0; len = 2 }
 
@@ -17,15 +17,15 @@ headed count = record { bytes = (0xC0 + count) ∷ 0xFF ∷ replicate 93 0; len 
 abbrev pub appended : Frame → List ℕ → Frame
 appended f x = record { bytes = sets (f .bytes) (f .len) x; len = f .len + length x }
 
--- "A frame is at most 95 bytes": room for n triples
+-- room for n triples in a frame [S5]
 unfoldable pub fits : Frame → ℕ → Bool
 fits f n = leb n mostTriples && leb (f .len) (mostFrame - 3 * n)
 
--- "0xFF first, 0xFE after"
+-- the first triple of a packet, and any other [W7]
 abbrev pub mark : ℕ → ℕ
 mark at = cond (eqb at 0) 0xFF 0xFE
 
--- "packet triples": n of them, with the bytes from `at` on
+-- n packet triples, with the bytes from `at` on [W7]
 unfoldable pub triplesAt : ℕ → ℕ → List ℕ → List Triple
 triplesAt zero at d = []
 triplesAt (suc n) at d = tri (mark at) (getD d at 0) (getD d (at + 1) 0) ∷ triplesAt n (at + 2) d
@@ -34,10 +34,10 @@ triplesAt (suc n) at d = tri (mark at) (getD d at 0) (getD d (at + 1) 0) ∷ tri
 unfoldable pub carries : ℕ → ℕ → Bool
 carries at n = leb at 128 && leb (2 * n) (128 - at)
 
--- "With output padding, FA 00 00 to the end."
+-- n triples of padding [W8]
 abbrev pub fillers : ℕ → List Triple
 fillers n = replicate n (tri 0xFA 0x00 0x00)
 
--- the frame's bytes at the front of a lent output: "output bytes past the written length are unchanged". Nothing where they do not fit
+-- the frame's bytes at the front of a lent output, what stands behind them as it was [A5]. Nothing where they do not fit
 unfoldable pub emitted : Frame → List ℕ → List ℕ
 emitted f out = cond (leb (f .len) mostFrame && leb (f .len) (length out)) (take (f .len) (f .bytes) ++ drop (f .len) out) out

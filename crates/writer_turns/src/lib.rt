@@ -171,7 +171,7 @@ fn turns_from(
     field1_turn(queue1, queue2, pad, left, frame, len)
 }
 
-// A field 1 turn, and then a field 2 turn, while turns are left: its pair; else, if field 2 has one, an empty pair before it; else padding or nothing.
+// A field 1 turn, and then a field 2 turn, while turns are left: its pair; else, if field 2 has one, an empty pair; else padding or nothing.
 fn field1_turn(
     queue1: &[u8],
     queue2: &[u8],

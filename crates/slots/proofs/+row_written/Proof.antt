@@ -48,14 +48,20 @@ row-written-row-written-requires t c κs = (omega arith, omega arith)
 
 row-written-returns : (t : ℕ) → row-written-lts.Need-returns (row-written-claims t) (row-written-at t) row-written.Post
 row-written-returns t c =
-    let s = c .before .before .before in row-fails (writtenIf (s .args .taken) (s .args .slot)) (s .args .t3) (s .args .count) (places t s) (omega arith) (c .before .before .if1 .taken) (c .before .row-written .ensures) (not-true _ (c .if2 .taken))
+    let s = c .before .before .before in
+    let a = s .args in
+    row-fails (writtenIf (a .taken) (a .slot)) (a .t3) (a .count) (places t s) (omega arith) (c .before .before .if1 .taken) (c .before .row-written .ensures) (not-true _ (c .if2 .taken))
 
 row-written-others-written-requires : (t : ℕ) → row-written-lts.Need-others-written-requires (row-written-claims t) (row-written-at t) row-written.Post
 row-written-others-written-requires t c κs = (omega arith, omega arith)
 
 row-written-returns-2 : (t : ℕ) → row-written-lts.Need-returns-2 (row-written-claims t) (row-written-at t) row-written.Post
 row-written-returns-2 t c =
-    let s = c .before .before .before .before in row-rest (writtenIf (s .args .taken) (s .args .slot)) (s .args .t3) (s .args .count) (places t s) (omega arith) (c .before .before .before .if1 .taken) (c .before .before .row-written .ensures) (test-passes refl (c .before .if2 .left)) (c .others-written .ensures)
+    let b = c .before .before in
+    let s = b .before .before in
+    let a = s .args in
+    row-rest (writtenIf (a .taken) (a .slot)) (a .t3) (a .count) (places t s) (omega arith) (b .before .if1 .taken) (b .row-written .ensures)
+    (test-passes refl (c .before .if2 .left)) (c .others-written .ensures)
 
 row-written-array-copy-out-a : (t : ℕ) → row-written-lts.Need-array-copy-out-a (row-written-claims t) (row-written-at t) row-written.Post
 row-written-array-copy-out-a t c = search needs
@@ -74,7 +80,10 @@ row-written-four-written-requires t c κs = search needs
 
 row-written-returns-3 : (t : ℕ) → row-written-lts.Need-returns-3 (row-written-claims t) (row-written-at t) row-written.Post
 row-written-returns-3 t c =
-    let s = c .before .before .before .before .before .before in c .four-written .ensures ∙ row-short (writtenIf (s .args .taken) (s .args .slot)) (s .args .t3) (s .args .count) (places t s) (omega arith) (c .before .before .before .before .before .if1 .left)
+    let b = c .before .before .before .before .before in
+    let s = b .before in
+    let a = s .args in
+    c .four-written .ensures ∙ row-short (writtenIf (a .taken) (a .slot)) (a .t3) (a .count) (places t s) (omega arith) (b .if1 .left)
 
 pub +row-written-spec : {M : Type 1} → statement M
 +row-written-spec = close μ-row-written λ t. row-written-lts.spec (row-written-claims t)

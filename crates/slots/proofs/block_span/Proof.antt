@@ -23,12 +23,15 @@ returns-3 c = let a = c .before .before .before .before .args in
     (rw w (span-short (a .h) (a .second) (λ z. omega arith) (c .before .if2 .left) (c .if3 .taken)), omega arith)
 
 returns-4 : tie.Need-returns-4
-returns-4 c = let a = c .before .before .before .before .before .args in
-    (span-low (a .h) (a .second) (λ z. omega (arith, c .before .before .before .before .wide .ensures .0)) (c .before .before .if2 .left) (omega arith) (c .before .if3 .left) (c .if4 .taken), omega arith)
+returns-4 c = let w = c .before .before .before .before in
+    let a = w .before .args in
+    (span-low (a .h) (a .second) (λ z. omega (arith, w .wide .ensures .0)) (c .before .before .if2 .left) (omega arith) (c .before .if3 .left) (c .if4 .taken), omega arith)
 
 returns-5 : tie.Need-returns-5
-returns-5 c = let a = c .before .before .before .before .before .before .args in
-    (span-high (a .h) (a .second) (λ z. omega (arith, c .before .before .before .before .before .wide .ensures .0)) (c .before .before .before .if2 .left) (omega arith) (c .before .before .if3 .left) (c .before .if4 .left) (c .if5 .taken), omega arith)
+returns-5 c = let b = c .before .before in
+    let w = b .before .before .before in
+    let a = w .before .args in
+    (span-high (a .h) (a .second) (λ z. omega (arith, w .wide .ensures .0)) (b .before .if2 .left) (omega arith) (b .if3 .left) (c .before .if4 .left) (c .if5 .taken), omega arith)
 
 add-result-2 : tie.Need-add-result-2
 add-result-2 c = search needs

@@ -67,7 +67,8 @@ loop-less c = search needs
 loop-again : tie.Need-loop-again Inv-loop μ-loop
 loop-again c = let s = c .before .before .before .before .before .before .before in
     let w = spanned (c .before .before) in
-    (c .before .before .before .before .before .before .loop .inv .0, omega arith, whole-next (take (s .args .len) (s .args .bytes .now)) _ _ (w .0) (w .1) (c .before .if1 .left) (rw (w .2) (c .if2 .left)) ∙ c .before .before .before .before .before .before .loop .inv .2)
+    let i = c .before .before .before .before .before .before .loop .inv in
+    (i .0, omega arith, whole-next (take (s .args .len) (s .args .bytes .now)) _ _ (w .0) (w .1) (c .before .if1 .left) (rw (w .2) (c .if2 .left)) ∙ i .2)
 
 returns-3 : tie.Need-returns-3 Inv-loop μ-loop
 returns-3 c = let s = c .before .before in

@@ -35,16 +35,18 @@ loop-less : tie.Need-loop-less Inv-loop μ-loop
 loop-less c = search needs
 
 loop-again : tie.Need-loop-again Inv-loop μ-loop
-loop-again c = let s = c .before .before .before .before .before in
+loop-again c = let b = c .before .before .before in
+    let s = b .before .before in
     let e : length (s .args .t1) ≡ 16 = search (needs, length-mapped, s .good) in
-    let i = c .before .before .before .before .loop .i in
-    (omega arith, sym (written-next (s .args .t1) (s .args .count) (omega arith) i (c .before .before .before .loop-test .taken) (sym (c .before .is-written .ensures) ∙ c .if1 .taken)) ∙ c .before .before .before .before .loop .inv .1)
+    let t = sym (c .before .is-written .ensures) ∙ c .if1 .taken in
+    (omega arith, sym (written-next (s .args .t1) (s .args .count) (omega arith) (b .before .loop .i) (b .loop-test .taken) t) ∙ b .before .loop .inv .1)
 
 returns : tie.Need-returns Inv-loop μ-loop
-returns c = let s = c .before .before .before .before .before in
+returns c = let b = c .before .before .before in
+    let s = b .before .before in
     let e : length (s .args .t1) ≡ 16 = search (needs, length-mapped, s .good) in
-    let i = c .before .before .before .before .loop .i in
-    sym (written-not (s .args .t1) (s .args .count) (omega arith) i (c .before .before .before .loop-test .taken) (sym (c .before .is-written .ensures) ∙ c .if1 .left)) ∙ c .before .before .before .before .loop .inv .1
+    let f = sym (c .before .is-written .ensures) ∙ c .if1 .left in
+    sym (written-not (s .args .t1) (s .args .count) (omega arith) (b .before .loop .i) (b .loop-test .taken) f) ∙ b .before .loop .inv .1
 
 returns-2 : tie.Need-returns-2 Inv-loop μ-loop
 returns-2 c = let s = c .before .before in

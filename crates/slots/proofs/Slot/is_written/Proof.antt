@@ -33,16 +33,21 @@ array-read-if5 c = search needs
 
 returns-4 : tie.Need-returns-4
 returns-4 c = let s = c .before .before .before .before .before .before .before in
-    let w = c .before .before .before .wide .ensures in
-    wrong-fill (s .args .self) (c .before .before .before .before .before .if1 .left) (c .before .before .before .before .if2 .left) (rw (w .0) at (c .before .before .if3 .left)) (omega (arith, w .0, w .1)) (c .before .if4 .taken) (c .if5 .taken) ∙ walked-written _
+    let b = c .before .before in
+    let w = b .before .wide .ensures in
+    let d = b .before .before in
+    wrong-fill (s .args .self) (d .before .if1 .left) (d .if2 .left) (rw (w .0) at (b .if3 .left)) (omega (arith, w .0, w .1)) (c .before .if4 .taken) (c .if5 .taken)
+    ∙ walked-written _
 
 blocks-whole-requires : tie.Need-blocks-whole-requires
 blocks-whole-requires c κs = search needs
 
 returns-5 : tie.Need-returns-5
 returns-5 c = let s = c .before .before .before .before .before .before .before .before in
-    let w = c .before .before .before .before .wide .ensures in
-    by-blocks (s .args .self) (c .before .before .before .before .before .before .if1 .left) (c .before .before .before .before .before .if2 .left) (rw (w .0) at (c .before .before .before .if3 .left)) (omega (arith, w .0, w .1)) (search (needs, s .good))
+    let b = c .before .before .before in
+    let w = b .before .wide .ensures in
+    let d = b .before .before in
+    by-blocks (s .args .self) (d .before .if1 .left) (d .if2 .left) (rw (w .0) at (b .if3 .left)) (omega (arith, w .0, w .1)) (search (needs, s .good))
     (⊎-elim (λ v. zero-fill (s .args .self) (v .1 .left)) (λ v. even-fill (s .args .self) (v .left)) (c .before .before .if4 .came)) (c .blocks-whole .ensures) ∙ walked-written _
 
 pub is-written-spec : {M : Type 1} → statement M

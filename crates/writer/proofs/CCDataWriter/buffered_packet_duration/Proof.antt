@@ -1,5 +1,6 @@
 -- `writer::CCDataWriter::buffered_packet_duration` meets its contract. Assumes nothing.
 use Rattle.slots.proofs.Row.{length-mapped}
+use Rattle.writer.proofs.Valid.{Shaped}
 use Rattle.writer.proofs.Calls.{refused-measure, packet-duration}
 use borrow.Author.Needs.{needs}
 use Rattle.writer.proofs.CCDataWriter.buffered_packet_duration.Statement.{statement}
@@ -14,7 +15,9 @@ packets-duration-requires c κs = search needs
 returns : tie.Need-returns
 returns c = let b = c .before .before .before in
     let s = b .before .before in
-    packet-duration (s .args .self) (let g = s .good .0 .1 .1 .1 in record { packets = search (needs, length-mapped, g .0); first = search (needs, g .1 .1 .1); second = search (needs, g .1 .1 .1 .1) }) (b .before .is-valid .ensures) (b .if1 .taken) _ (c .packets-duration .ensures)
+    let g = s .good .0 .1 .1 .1 in
+    let h : Shaped (s .args .self) = record { packets = search (needs, length-mapped); first = search (needs, g .1 .1 .1); second = search (needs, g .1 .1 .1 .1) } in
+    packet-duration (s .args .self) h (b .before .is-valid .ensures) (b .if1 .taken) _ (c .packets-duration .ensures)
 
 returns-2 : tie.Need-returns-2
 returns-2 c = refused-measure (c .before .before .args .self) (c .before .is-valid .ensures) _ (c .if1 .left)

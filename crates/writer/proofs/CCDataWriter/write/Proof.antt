@@ -16,7 +16,18 @@ use Rattle.writer_sending.proofs.move_down.Reads as move-down-reads
 
 -- what the calls ask and tell
 abbrev claims : lts.Claims
-claims = (is-valid-reads.Asked, is-valid-reads.Learnt, source-reads.Asked, source-reads.Learnt, make-reads.Asked, make-reads.Learnt, emit-reads.Asked, emit-reads.Learnt, move-down-reads.Asked, move-down-reads.Learnt)
+claims = (
+  is-valid-reads.Asked,
+  is-valid-reads.Learnt,
+  source-reads.Asked,
+  source-reads.Learnt,
+  make-reads.Asked,
+  make-reads.Learnt,
+  emit-reads.Asked,
+  emit-reads.Learnt,
+  move-down-reads.Asked,
+  move-down-reads.Learnt,
+)
 
 -- the arrays of the state have their lengths
 shaped : (s : lts.Start claims reads.Pre reads.Post) → Shaped (s .args .self)

@@ -23,8 +23,9 @@ made-of-requires : tie.Need-made-of-requires
 made-of-requires c κs = search needs
 
 returns : tie.Need-returns
-returns c =
-    built-by _ _ _ _ _ _ _ _ _ (c .before .before .before .before .before .before .turns-of .ensures) (c .before .before .before .before .before .count-of .ensures) (c .before .before .before .before .start .ensures) (c .before .before .before .take .ensures) (c .before .fill .ensures) (c .made-of .ensures)
+returns c = let t = c .before .before .before in
+    let n = t .before .before in
+    built-by _ _ _ _ _ _ _ _ _ (n .before .turns-of .ensures) (n .count-of .ensures) (t .before .start .ensures) (t .take .ensures) (c .before .fill .ensures) (c .made-of .ensures)
 
 pub build-spec : {M : Type 1} → statement M
 build-spec =

@@ -24,7 +24,9 @@ mul-if3 : tie.Need-mul-if3 Inv-loop μ-loop
 mul-if3 c = omega (arith, fits-room _ _ (sym (c .before .before .has-room .ensures) ∙ c .before .if1 .taken))
 
 returns-2 : tie.Need-returns-2 Inv-loop μ-loop
-returns-2 c = rw (sym (c .before .before .before .has-room .ensures) ∙ c .before .before .if1 .taken, not-there (c .before .before .before .before .args .at) (c .before .before .before .before .args .n) (c .before .if2 .left) (c .if3 .taken))
+returns-2 c = let b = c .before .before in
+    let a = b .before .before .args in
+    rw (sym (b .before .has-room .ensures) ∙ b .if1 .taken, not-there (a .at) (a .n) (c .before .if2 .left) (c .if3 .taken))
 
 loop-holds : tie.Need-loop-holds Inv-loop μ-loop
 loop-holds c = (fits-room _ _ (sym (c .before .before .before .before .has-room .ensures) ∙ c .before .before .before .if1 .taken), omega arith, search needs, storing-none _ _ _ _ _)
