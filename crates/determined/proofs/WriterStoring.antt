@@ -1,8 +1,8 @@
--- A packet pushed into slots. Assumes nothing.
-use Rattle.writer_storing.proofs.store.Reads as Store
+-- A packet pushed. Assumes nothing.
+use Rattle.writer_storing.proofs.place.Reads as Place
 use Rattle.determined.specs.Determines.{Determines}
 use Rattle.determined.proofs.Ways.{equal}
 
--- `store(packets, count, packet)`
-pub store : Determines (Store.Post (tt {0}))
-store = equal
+-- `place(valid, count, packet)`
+pub place : Determines (Place.Post (tt {0}))
+place = equal

@@ -305,14 +305,14 @@ module _ (w : CCDataWriter) (rate : Framerate) (room : ℕ) where
         }))
 
     -- by the rate
-    at-rate : (o : Outcome Budgets) → budgets (rate .numer) (rate .denom) ≡ o → Makes rate room w (madeAt room (sourceOf w) o)
+    at-rate : (o : Outcome Budgets) → budgets (rate .numer) (rate .denom) ≡ o → Makes rate room w (madeAt room (w .packets) (sourceOf w) o)
     unfolding madeAt
     at-rate (gave b) e = in-room b e (builtFrom (b .pairs) (b .triples) w) refl
     at-rate (refused why) e = unmade BadRate (λ out l. wrote-rate w rate out within (e ∙ rate-refused (rate .numer) (rate .denom) e))
 
   -- by the state
   pub makes : {v : Bool} → v ≡ validWriter w → Shaped w → (s : Source) → s ≡ sourceOf w → (m : Made)
-      → m ≡ cond v (madeAt room s (budgets (rate .numer) (rate .denom))) (unmadeOf s BadValue) → Makes rate room w m
+      → m ≡ cond v (madeAt room (w .packets) s (budgets (rate .numer) (rate .denom))) (unmadeOf s BadValue) → Makes rate room w m
   makes {v} e shaped s q m z =
       by-test v (λ t. rw (z, t, q) (at-rate (sym e ∙ t) shaped (budgets (rate .numer) (rate .denom)) refl))
       (λ f. rw (z, f, q) (unmade BadValue (λ out l. wrote-value w rate out (sym e ∙ f))))

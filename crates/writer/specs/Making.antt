@@ -1,9 +1,9 @@
 -- How a frame is made and a packet stored, part by part. No public contract reaches this file. Assumes nothing.
-use mathlib.Core.Bool.{Bool, _&&_}
+use mathlib.Core.Bool.{Bool, true, false, _&&_}
 use mathlib.Core.Path.{_≡_}
 use mathlib.Core.List.{List}
-use Prim.Native.Nat.{ℕ, _-_, _≤_}
-use lib.ListN.{length, take, drop}
+use Prim.Native.Nat.{ℕ, _+_, _-_, _≤_, _<_}
+use lib.ListN.{length, take, drop, set}
 use lib.Seq.{sets}
 use Rattle.model.specs.Said.{Outcome, checked}
 use Rattle.model.specs.Mux.{Mux, pushPacket, pushCea608}
@@ -17,11 +17,12 @@ use Rattle.packet.specs.declared.DTVCCPacket.{DTVCCPacket}
 use Rattle.writer_turns.specs.declared.PairQueue.{PairQueue}
 use Rattle.writer_frames.specs.Frame.{emitted}
 use Rattle.slots.specs.declared.Slot.{Slot}
+use Rattle.writer_storing.specs.declared.Placed.{Placed}
 use Rattle.writer_building.specs.Building.{built}
 use Rattle.writer_building.specs.declared.Source.{Source}
 use Rattle.writer_building.specs.declared.Made.{Made}
-use Rattle.writer.specs.Writer.{means, validWriter}
-use Rattle.writer.specs.Calls.{Writes}
+use Rattle.writer.specs.Writer.{means, validWriter, stored}
+use Rattle.writer.specs.Calls.{Answers, Writes}
 use Rattle.writer.specs.declared.CCDataWriter.{CCDataWriter}
 use Rattle.writer.specs.declared.WriterAnswer.{WriterAnswer}
 
@@ -44,7 +45,7 @@ joined w m =
       «field2_next» = m .«field2_next»;
     }
 
--- what a frame is made of
+-- what a frame is made of beside the slots
 abbrev pub sourceOf : CCDataWriter → Source
 sourceOf w =
     record {
@@ -53,7 +54,6 @@ sourceOf w =
       field1 = w .field1;
       field2 = w .field2;
       «field2_next» = w .«field2_next»;
-      packets = w .packets;
       queued = w .«packet_count»;
       slot = w .sending;
       sent = w .sent;
@@ -61,7 +61,7 @@ sourceOf w =
 
 -- the frame at budgets of `pairs` and `triples`, and what it leaves
 abbrev pub builtFrom : ℕ → ℕ → CCDataWriter → Made
-builtFrom pairs triples w = built pairs triples (sourceOf w)
+builtFrom pairs triples w = built pairs triples (w .packets) (sourceOf w)
 
 -- with the two switches of padding set [W12]
 abbrev pub withPadding : Bool → Bool → CCDataWriter → CCDataWriter
@@ -130,6 +130,14 @@ pairOutcome c w = checked (validWriter w) (pushCea608 (cea608Of c) (means w))
 -- what pushing a packet comes to
 abbrev pub packetOutcome : DTVCCPacket → CCDataWriter → Outcome Mux
 packetOutcome d w = checked (validWriter w && validDTVCC d) (pushPacket (packetOf d) (means w))
+
+-- the slot that a pushed packet gets, where it is stored
+pub record Stores (d : DTVCCPacket) (w : CCDataWriter) (r : Placed) : Type 0 where
+  pub room : r .stored ≡ true → w .«packet_count» < 16
+  pub kept : r .stored ≡ false → Answers (packetOutcome d w) (stored w) w (record { answer = r .answer; writer = w })
+  pub stored : r .stored ≡ true
+      → Answers (packetOutcome d w) (stored w) w
+      (record { answer = r .answer; writer = withPackets (w .«packet_count» + 1) (set (w .packets) (w .«packet_count») (r .slot)) w })
 
 -- what is made of a state is what a write to so many bytes leaves
 pub record Makes (r : Framerate) (room : ℕ) (w : CCDataWriter) (m : Made) : Type 0 where

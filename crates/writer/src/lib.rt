@@ -12,7 +12,7 @@ use slots::slots_written;
 use writer_building::Source;
 use writer_sending::move_down;
 use writer_sending::packets_duration;
-use writer_storing::store;
+use writer_storing::place;
 use writer_turns::PairQueue;
 ghost use mathlib.Core.Path.{_≡_};
 ghost use mathlib.Core.Bool.{cond, _&&_};
@@ -24,7 +24,7 @@ ghost use Rattle.caption.specs.Pairs.{cea608Of};
 ghost use Rattle.packet.specs.Packet.{packetOf, validDTVCC};
 ghost use Rattle.writer.specs.Writer.{means, validWriter, fresh, stored, emptied};
 ghost use Rattle.writer.specs.Calls.{saidMicros, Answers, Writes};
-ghost use Rattle.writer.specs.Making.{refusedOf, sourceOf};
+ghost use Rattle.writer.specs.Making.{refusedOf, sourceOf, withFields, pairOutcome};
 
 // The multiplexer: the two switches, the queue of packets, the packet being sent and how many of its bytes have left, each field's queue,
 // and whether field 2 has the next turn.
@@ -56,6 +56,13 @@ pub struct WriterCount {
 pub enum Micros {
     Of(u64),
     Refused(Refusal),
+}
+
+// What pushing a pair answers, and the queues after it.
+struct Pushed {
+    answer: Answer,
+    field1: PairQueue,
+    field2: PairQueue,
 }
 
 impl CCDataWriter {
@@ -155,45 +162,27 @@ impl CCDataWriter {
     pub fn push_packet(self, packet: DTVCCPacket) -> WriterAnswer
         ensures { λ r. ⌜ Answers (checked (validWriter self && validDTVCC packet) (pushPacket (packetOf packet) (means self))) (stored self) self r ⌝ }
     {
-        if self.is_valid() {
-            let slots = self.packets;
-            let after = store(slots, self.packet_count, packet);
-            let answer = after.answer;
-            let packets = after.packets;
-            let mut writer = self;
-            writer.packets = packets;
-            writer.packet_count = after.count;
-            return WriterAnswer { answer, writer };
+        let mut packets = self.packets;
+        let mut count = self.packet_count;
+        let placed = place(self.is_valid(), count, packet);
+        let answer = placed.answer;
+        let slot = placed.slot;
+        if placed.stored {
+            packets[count] = slot;
+            count += 1;
         }
-        self.refused()
+        let mut writer = self;
+        writer.packets = packets;
+        writer.packet_count = count;
+        WriterAnswer { answer, writer }
     }
 
-    // Pushes a CEA-608 byte pair, which goes to its field's queue.
+    // Pushes a CEA-608 byte pair.
     pub fn push_cea608(self, cea608: Cea608) -> WriterAnswer
         ensures { λ r. ⌜ Answers (checked (validWriter self) (pushCea608 (cea608Of cea608) (means self))) (stored self) self r ⌝ }
     {
-        if self.is_valid() {
-            let mut writer = self;
-            match cea608 {
-                Cea608::Field1(a, b) => {
-                    let queue = self.field1;
-                    let pushed = queue.push(a, b);
-                    let answer = pushed.answer;
-                    let field1 = pushed.queue;
-                    writer.field1 = field1;
-                    return WriterAnswer { answer, writer };
-                }
-                Cea608::Field2(a, b) => {
-                    let queue = self.field2;
-                    let pushed = queue.push(a, b);
-                    let answer = pushed.answer;
-                    let field2 = pushed.queue;
-                    writer.field2 = field2;
-                    return WriterAnswer { answer, writer };
-                }
-            }
-        }
-        self.refused()
+        let valid = self.is_valid();
+        self.push_pair(valid, cea608)
     }
 
     // Drops what is queued, and the packet being sent.
@@ -261,7 +250,8 @@ impl CCDataWriter {
     {
         let valid = self.is_valid();
         let source = self.source();
-        let made = source.make(valid, rate, out.len());
+        let waiting = self.packets;
+        let made = source.make(waiting, valid, rate, out.len());
         let frame = made.frame;
         frame.emit(out);
         let slots = self.packets;
@@ -285,6 +275,71 @@ impl CCDataWriter {
         WriterCount { answer, writer }
     }
 
+    // The queues after a pair, which goes to its field's.
+    fn queue_pair(self, valid: bool, cea608: Cea608) -> Pushed
+        requires { ⌜ valid ≡ validWriter self ⌝ }
+        ensures { λ r. ⌜ Answers (pairOutcome cea608 self) (stored self) self (record { answer = r .answer; writer = withFields (r .field1) (r .field2) self }) ⌝ }
+    {
+        let field1 = self.field1;
+        let field2 = self.field2;
+        if valid {
+            match cea608 {
+                Cea608::Field1(a, b) => {
+                    let pushed = field1.push(a, b);
+                    let answer = pushed.answer;
+                    let queue = pushed.queue;
+                    return Pushed {
+                        answer,
+                        field1: queue,
+                        field2,
+                    };
+                }
+                Cea608::Field2(a, b) => {
+                    let pushed = field2.push(a, b);
+                    let answer = pushed.answer;
+                    let queue = pushed.queue;
+                    return Pushed {
+                        answer,
+                        field1,
+                        field2: queue,
+                    };
+                }
+            }
+        }
+        Pushed {
+            answer: Answer::Refused(Refusal::BadValue),
+            field1,
+            field2,
+        }
+    }
+
+    // The state after a pair.
+    fn push_pair(self, valid: bool, cea608: Cea608) -> WriterAnswer
+        requires { ⌜ valid ≡ validWriter self ⌝ }
+        ensures { λ r. ⌜ Answers (pairOutcome cea608 self) (stored self) self r ⌝ }
+    {
+        let pushed = self.queue_pair(valid, cea608);
+        let answer = pushed.answer;
+        let field1 = pushed.field1;
+        let field2 = pushed.field2;
+        let packets = self.packets;
+        let sending = self.sending;
+        WriterAnswer {
+            answer,
+            writer: CCDataWriter {
+                output_cea608_padding: self.output_cea608_padding,
+                output_padding: self.output_padding,
+                packet_count: self.packet_count,
+                packets,
+                sending,
+                sent: self.sent,
+                field1,
+                field2,
+                field2_next: self.field2_next,
+            },
+        }
+    }
+
     // A state outside its limits is refused, and stays as it was.
     fn refused(self) -> WriterAnswer
         ensures { λ r. ⌜ r ≡ refusedOf self ⌝ }
@@ -295,13 +350,12 @@ impl CCDataWriter {
         }
     }
 
-    // What the next frame is made of.
+    // What the next frame is made of beside the slots.
     fn source(self) -> Source
         ensures { λ r. ⌜ r ≡ sourceOf self ⌝ }
     {
         let field1 = self.field1;
         let field2 = self.field2;
-        let packets = self.packets;
         let slot = self.sending;
         Source {
             pad: self.output_cea608_padding,
@@ -309,7 +363,6 @@ impl CCDataWriter {
             field1,
             field2,
             field2_next: self.field2_next,
-            packets,
             queued: self.packet_count,
             slot,
             sent: self.sent,

@@ -1,6 +1,7 @@
 -- A frame put together, whatever the queues and the slots hold. No public contract of `writer` reaches this file: in a state
 -- within the limits it is proved to be the frame of the model. Assumes nothing.
 use mathlib.Core.Bool.{Bool, cond}
+use mathlib.Core.List.{List}
 use Prim.Native.Nat.{ℕ, _*_, _%_, min, max}
 use lib.Dec.{ltb}
 use lib.ListN.{take, replicate}
@@ -13,6 +14,7 @@ use Rattle.caption.specs.declared.Refusal.the-variants.{BadRate, OutShort}
 use Rattle.writer_frames.specs.Frame.{headed}
 use Rattle.writer_turns.specs.Turn.{fits, takenFrom}
 use Rattle.writer_turns.specs.declared.Turns.{Turns}
+use Rattle.slots.specs.declared.Slot.{Slot}
 use Rattle.writer_sending.specs.Slots.{countOf, filled}
 use Rattle.writer_sending.specs.declared.Sending.{Sending}
 use Rattle.writer_building.specs.declared.Source.{Source}
@@ -41,9 +43,9 @@ madeOf t s =
     }
 
 -- the turns, then packet triples up to the count, then padding
-unfoldable pub built : ℕ → ℕ → Source → Made
-built pairs triples s =
-    let slots = take (s .queued) (s .packets) in
+unfoldable pub built : ℕ → ℕ → List Slot → Source → Made
+built pairs triples packets s =
+    let slots = take (s .queued) packets in
     let due = turnsOf (s .pad) pairs (s .field1 .count) (s .field2 .count) in
     let count = countOf (s .padding) triples due slots (s .slot) (s .sent) in
     let turns = takes due (s .pad) (record { field1 = s .field1; field2 = s .field2; «field2_next» = s .«field2_next»; frame = headed (count % 32) }) in
@@ -68,6 +70,6 @@ abbrev pub shownIn : ℕ → Source → Made → Made
 shownIn room s m = cond (ltb room (m .frame .len)) (unmadeOf s (OutShort (m .frame .len))) m
 
 -- the frame at a rate's budgets, for an output of `room` bytes; none without budgets [R8]
-unfoldable pub madeAt : ℕ → Source → Outcome Budgets → Made
-madeAt room s (gave b) = shownIn room s (built (b .pairs) (b .triples) s)
-madeAt room s (refused why) = unmadeOf s BadRate
+unfoldable pub madeAt : ℕ → List Slot → Source → Outcome Budgets → Made
+madeAt room packets s (gave b) = shownIn room s (built (b .pairs) (b .triples) packets s)
+madeAt room packets s (refused why) = unmadeOf s BadRate

@@ -19,15 +19,14 @@ ghost use Rattle.model.specs.Rate.{budgets};
 ghost use Rattle.caption.specs.declared.Refusal.the-variants.{BadValue};
 ghost use Rattle.writer_building.specs.Building.{turnsOf, madeOf, built, unmadeOf, madeAt};
 
-// What a frame is made of: the two switches, the queues of pairs and whose turn is next, the packets that wait, and the packet being sent with
-// how many of its bytes have left.
+// What a frame is made of beside the slots: the two switches, the queues of pairs and whose turn is next, how many packets wait, and the packet
+// being sent with how many of its bytes have left.
 pub struct Source {
     pub pad: bool,
     pub padding: bool,
     pub field1: PairQueue,
     pub field2: PairQueue,
     pub field2_next: bool,
-    pub packets: [Slot; 16],
     pub queued: usize,
     pub slot: Slot,
     pub sent: usize,
@@ -85,12 +84,11 @@ fn made_of(t: Turns, s: Sending) -> Made
 
 impl Source {
     // The frame at budgets of `pairs` and `triples`, and what it leaves.
-    fn build(self, pairs: usize, triples: usize) -> Made
-        ensures { λ r. ⌜ r ≡ built pairs triples self ⌝ }
+    fn build(self, packets: [Slot; 16], pairs: usize, triples: usize) -> Made
+        ensures { λ r. ⌜ r ≡ built pairs triples packets self ⌝ }
     {
         let field1 = self.field1;
         let field2 = self.field2;
-        let packets = self.packets;
         let slot = self.slot;
         let turns = turns_of(self.pad, pairs, field1.count, field2.count);
         let count = count_of(
@@ -146,15 +144,15 @@ impl Source {
     }
 
     // The frame at a rate, for an output of `room` bytes, and what it leaves; of a source that is not `valid` none is made.
-    pub fn make(self, valid: bool, rate: Framerate, room: usize) -> Made
-        ensures { λ r. ⌜ r ≡ cond valid (madeAt room self (budgets (rate .numer) (rate .denom))) (unmadeOf self BadValue) ⌝ }
+    pub fn make(self, packets: [Slot; 16], valid: bool, rate: Framerate, room: usize) -> Made
+        ensures { λ r. ⌜ r ≡ cond valid (madeAt room packets self (budgets (rate .numer) (rate .denom))) (unmadeOf self BadValue) ⌝ }
     {
         if valid {
             let budgets = rate.budgets();
             let Budgets::Of { pairs, triples } = budgets else {
                 return self.unmade(Refusal::BadRate);
             };
-            let made = self.build(pairs, triples);
+            let made = self.build(packets, pairs, triples);
             let frame = made.frame;
             let needed = frame.len;
             if room < needed {

@@ -2,11 +2,11 @@
 use mathlib.Core.Path.{_≡_, refl, _∙_}
 use mathlib.Core.Bool.{Bool, true, false}
 use mathlib.Core.List.{List, _++_}
-use Prim.Native.Nat.{ℕ, _+_, _≤_, _<_}
+use Prim.Native.Nat.{ℕ, _≤_, _<_}
 use native.Mathlib.Omega.{arith}
 use borrow.Author.Tests.{ne-eqb, eqb-true, eqb-false, le-leb, lt-leb, le-ltb}
 use lib.Dec.{eqb, ltb}
-use lib.ListN.{length, drop, set, replicate}
+use lib.ListN.{length, drop, replicate}
 use Rattle.model.specs.Said.{measured, putInto}
 use Rattle.model.specs.Packet.{Packet, packetLength, writtenPacket}
 use Rattle.model.proofs.Cases.{by-test}
@@ -25,8 +25,8 @@ use Rattle.packet.proofs.Holds.{within-facts, held-valid}
 use Rattle.packet.specs.declared.DTVCCPacket.{DTVCCPacket}
 use Rattle.slots.specs.Slot.{slotOf}
 use Rattle.slots.specs.declared.Slot.{Slot}
-use Rattle.writer_storing.specs.Storing.{unstored, storing}
-use Rattle.writer_storing.specs.declared.Storing.{Storing}
+use Rattle.writer_storing.specs.Placing.{unplacedAs, placing}
+use Rattle.writer_storing.specs.declared.Placed.{Placed}
 
 -- what a length that was asked for tells
 pub counted-given : (v : Bool) (r : Counted) (n m : ℕ) → saidCounted r ≡ measured v m → r ≡ counted.Count n → (v ≡ true) × (n ≡ m)
@@ -61,32 +61,37 @@ slot-written d v n r out w len l =
     let o : out ≡ b ++ drop (length b) (replicate 128 0) = w .output ∙ rw (v, k) in
     rw (l, o, sets-front (replicate 128 0) b (h .most))
 
-module _ (l : List Slot) (n : ℕ) (d : DTVCCPacket) (length-told : Counted) (e : saidCounted length-told ≡ measured (validDTVCC d) (packetLength (packetOf d))) where
-  -- a packet outside its limits
-  pub stores-none : {why : Refusal} → length-told ≡ counted.Refused why → unstored l n (Refused BadValue) ≡ storing l n d
-  unfolding storing
-  stores-none {why} z = rw (counted-refused (validDTVCC d) length-told why (packetLength (packetOf d)) e z)
+-- a packet pushed to a state outside its limits
+pub places-none : (v : Bool) (n : ℕ) (d : DTVCCPacket) → v ≡ false → unplacedAs (Refused BadValue) ≡ placing v n d
+unfolding placing
+places-none v n d f = rw f
 
-  module _ {len : ℕ} (z : length-told ≡ counted.Count len) where
+module _ (v : Bool) (n : ℕ) (d : DTVCCPacket) (t : v ≡ true) (told : Counted) (e : saidCounted told ≡ measured (validDTVCC d) (packetLength (packetOf d))) where
+  -- a packet outside its limits
+  pub places-bad : {why : Refusal} → told ≡ counted.Refused why → unplacedAs (Refused BadValue) ≡ placing v n d
+  unfolding placing
+  places-bad {why} z = rw (t, counted-refused (validDTVCC d) told why (packetLength (packetOf d)) e z)
+
+  module _ {len : ℕ} (z : told ≡ counted.Count len) where
     -- the packet is within its limits, and this is its length
     given : (validDTVCC d ≡ true) × (len ≡ packetLength (packetOf d))
-    given = counted-given _ length-told len _ e z
+    given = counted-given _ told len _ e z
 
     -- an empty packet
-    pub stores-empty : len ≡ 0 → unstored l n Accepted ≡ storing l n d
-    unfolding storing
-    stores-empty t = let g = given in rw (g .0, ← g .1, t)
+    pub places-empty : len ≡ 0 → unplacedAs Accepted ≡ placing v n d
+    unfolding placing
+    places-empty k = let g = given in rw (t, g .0, ← g .1, k)
 
     module _ (some : len ≡ 0 → ⊥) where
       -- no place is left
-      pub stores-full : 16 ≤ n → unstored l n (Refused Full) ≡ storing l n d
-      unfolding storing
-      stores-full h = let g = given in rw (g .0, ← g .1, ne-eqb len 0 some, le-leb 16 n h)
+      pub places-full : 16 ≤ n → unplacedAs (Refused Full) ≡ placing v n d
+      unfolding placing
+      places-full h = let g = given in rw (t, g .0, ← g .1, ne-eqb len 0 some, le-leb 16 n h)
 
       -- one is
-      pub stores-next : n < 16 → (r : Counted) (out : List ℕ) → Writes (validDTVCC d) (writtenPacket (packetOf d)) (replicate 128 0) r out
-          → _≡_ {A = Storing} (record { answer = Accepted; packets = set l n (record { len = len; bytes = out }); count = n + 1 }) (storing l n d)
-      unfolding storing
-      stores-next h r out w = let g = given in
-          let u : eqb (packetLength (packetOf d)) 0 ≡ false = ne-eqb (packetLength (packetOf d)) 0 (λ t. some (g .1 ∙ t)) in
-          rw (g .0, u, lt-leb 16 n h, slot-written d (g .0) (λ t. some (g .1 ∙ t)) r out w len (g .1))
+      pub places-next : n < 16 → (r : Counted) (out : List ℕ) → Writes (validDTVCC d) (writtenPacket (packetOf d)) (replicate 128 0) r out
+          → _≡_ {A = Placed} (record { answer = Accepted; stored = true; slot = record { len = len; bytes = out } }) (placing v n d)
+      unfolding placing
+      places-next h r out w = let g = given in
+          let u : eqb (packetLength (packetOf d)) 0 ≡ false = ne-eqb (packetLength (packetOf d)) 0 (λ k. some (g .1 ∙ k)) in
+          rw (t, g .0, u, lt-leb 16 n h, slot-written d (g .0) (λ k. some (g .1 ∙ k)) r out w len (g .1))

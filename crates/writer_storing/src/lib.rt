@@ -1,4 +1,4 @@
-// A packet pushed into the slots of a multiplexer: what is answered, and the slots after it. What the slots hold is not looked at.
+// A packet pushed to a multiplexer: what is answered, and the slot that it is written into.
 use basics::MOST_PACKETS;
 use caption::Answer;
 use caption::Counted;
@@ -6,48 +6,51 @@ use caption::Refusal;
 use packet::DTVCCPacket;
 use slots::Slot;
 ghost use mathlib.Core.Path.{_≡_};
-ghost use Rattle.writer_storing.specs.Storing.{storing};
+ghost use Rattle.writer_storing.specs.Placing.{unplacedAs, placing};
 
-// What pushing a packet answers, and the slots after it, of which `count` are taken.
-pub struct Storing {
+// What pushing a packet answers, and whether it is stored, in which slot.
+pub struct Placed {
     pub answer: Answer,
-    pub packets: [Slot; 16],
-    pub count: usize,
+    pub stored: bool,
+    pub slot: Slot,
 }
 
-// The slots as they are, with an answer.
-fn unstored(packets: [Slot; 16], count: usize, answer: Answer) -> Storing
-    ensures { λ r. ⌜ r ≡ (record { answer = answer; packets = packets; count = count }) ⌝ }
+// Where no packet is stored.
+fn unplaced(answer: Answer) -> Placed
+    ensures { λ r. ⌜ r ≡ unplacedAs answer ⌝ }
 {
-    Storing {
+    Placed {
         answer,
-        packets,
-        count,
+        stored: false,
+        slot: Slot {
+            len: 0,
+            bytes: [0; 128],
+        },
     }
 }
 
-// Pushes a packet: it is written into the first free slot. An empty one is accepted, even when full, and not stored.
-pub fn store(packets: [Slot; 16], count: usize, packet: DTVCCPacket) -> Storing
-    ensures { λ r. ⌜ r ≡ storing packets count packet ⌝ }
+// The slot that a packet is written into, where it is stored: `count` slots are taken, in a state that is `valid` or not.
+pub fn place(valid: bool, count: usize, packet: DTVCCPacket) -> Placed
+    ensures { λ r. ⌜ r ≡ placing valid count packet ⌝ }
 {
-    let length = packet.len();
-    let Counted::Count(len) = length else {
-        return unstored(packets, count, Answer::Refused(Refusal::BadValue));
-    };
-    if len == 0 {
-        return unstored(packets, count, Answer::Accepted);
+    if valid {
+        let length = packet.len();
+        let Counted::Count(len) = length else {
+            return unplaced(Answer::Refused(Refusal::BadValue));
+        };
+        if len == 0 {
+            return unplaced(Answer::Accepted);
+        }
+        if MOST_PACKETS <= count {
+            return unplaced(Answer::Refused(Refusal::Full));
+        }
+        let mut bytes = [0u8; 128];
+        packet.write(&mut bytes);
+        return Placed {
+            answer: Answer::Accepted,
+            stored: true,
+            slot: Slot { len, bytes },
+        };
     }
-    if MOST_PACKETS <= count {
-        return unstored(packets, count, Answer::Refused(Refusal::Full));
-    }
-    let mut bytes = [0u8; 128];
-    packet.write(&mut bytes);
-    let slot = Slot { len, bytes };
-    let mut slots = packets;
-    slots[count] = slot;
-    Storing {
-        answer: Answer::Accepted,
-        packets: slots,
-        count: count + 1,
-    }
+    unplaced(Answer::Refused(Refusal::BadValue))
 }

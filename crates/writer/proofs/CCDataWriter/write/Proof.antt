@@ -50,9 +50,10 @@ move-down-requires c κs = search needs
 
 sub-left : tie.Need-sub-left
 sub-left c = let m = c .before .before .before .before .before .before .before .before .before in
-    let v = m .before .before in
+    let o = m .before .before in
+    let v = o .before in
     let s = v .before .before in
-    makes (s .args .self) (s .args .rate) _ (v .is-valid .ensures) (shaped s) _ (m .before .source .ensures) _ (m .make .ensures) .few
+    makes (s .args .self) (s .args .rate) _ (v .is-valid .ensures) (shaped s) _ (o .source .ensures) _ (m .make .ensures) .few
 
 same-length : tie.Need-same-length
 same-length c = search needs
@@ -61,10 +62,11 @@ returns : tie.Need-returns
 returns c = let d = c .before .before .before .before .before in
     let f = d .before .before .before .before in
     let m = f .before .before .before in
-    let v = m .before .before in
+    let o = m .before .before in
+    let v = o .before in
     let s = v .before .before in
     rw (d .move-down .ensures, f .emit .ensures)
-    (makes (s .args .self) (s .args .rate) _ (v .is-valid .ensures) (shaped s) _ (m .before .source .ensures) _ (m .make .ensures) .wrote _ refl)
+    (makes (s .args .self) (s .args .rate) _ (v .is-valid .ensures) (shaped s) _ (o .source .ensures) _ (m .make .ensures) .wrote _ refl)
 
 pub write-spec : {M : Type 1} → statement M
 write-spec =

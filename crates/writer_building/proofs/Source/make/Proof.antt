@@ -19,7 +19,7 @@ unmade-requires c κs = search needs
 
 returns : tie.Need-returns
 returns c = let f = c .before .before .before in
-    rw (f .before .if1 .taken) (c .unmade .ensures ∙ made-unrated _ _ _ _ _ (f .budgets .ensures) (c .before .enum-told .given .1))
+    rw (f .before .if1 .taken) (c .unmade .ensures ∙ made-unrated _ _ _ _ _ _ (f .budgets .ensures) (c .before .enum-told .given .1))
 
 build-requires : tie.Need-build-requires
 build-requires c κs = search needs
@@ -31,12 +31,12 @@ returns-2 : tie.Need-returns-2
 returns-2 c = let b = c .before .before .before in
     let f = b .before .before .before .before in
     rw (f .before .if1 .taken)
-    (c .unmade2 .ensures ∙ made-short _ _ _ _ _ (f .budgets .ensures) _ _ (b .before .before .budgets2 .given .1) _ (b .build .ensures) (c .before .if2 .taken))
+    (c .unmade2 .ensures ∙ made-short _ _ _ _ _ _ (f .budgets .ensures) _ _ (b .before .before .budgets2 .given .1) _ (b .build .ensures) (c .before .if2 .taken))
 
 returns-3 : tie.Need-returns-3
 returns-3 c = let b = c .before .before in
     let f = b .before .before .before .before in
-    rw (f .before .if1 .taken) (made-whole _ _ _ _ _ (f .budgets .ensures) _ _ (b .before .before .budgets2 .given .1) _ (b .build .ensures) (c .if2 .left))
+    rw (f .before .if1 .taken) (made-whole _ _ _ _ _ _ (f .budgets .ensures) _ _ (b .before .before .budgets2 .given .1) _ (b .build .ensures) (c .if2 .left))
 
 unmade-requires-3 : tie.Need-unmade-requires-3
 unmade-requires-3 c κs = search needs
