@@ -19,6 +19,7 @@ pub mod Parser
 pub mod WriterFrames
 pub mod WriterTurns
 pub mod WriterSending
+pub mod WriterStoring
 pub mod WriterBuilding
 pub mod Writer
 pub mod ProgramRecords

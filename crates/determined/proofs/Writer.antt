@@ -29,7 +29,7 @@ use Rattle.writer.proofs.CCDataWriter.buffered_cea608_field2_duration.Reads as 
 use Rattle.writer.proofs.CCDataWriter.buffered_packet_duration.Reads as buffered_packet_duration
 use Rattle.writer.proofs.CCDataWriter.write.Reads as write
 use Rattle.determined.specs.Determines.{Determines, DeterminesLent}
-use Rattle.determined.proofs.Ways.{said, two}
+use Rattle.determined.proofs.Ways.{equal, said, two}
 
 module _ {A E : Type 0} where
   -- an answer and a state

@@ -1,8 +1,8 @@
 -- A frame put together. Assumes nothing.
-use Rattle.writer_building.proofs.build.Reads as Build
+use Rattle.writer_building.proofs.Source.make.Reads as make
 use Rattle.determined.specs.Determines.{Determines}
 use Rattle.determined.proofs.Ways.{equal}
 
--- `build(pad, padding, pairs, triples, field1, field2, field2_next, packets, queued, slot, sent)`
-pub build : Determines (Build.Post (tt {0}))
-build = equal
+-- `source.make(packets, valid, rate, room)`
+pub Source-make : Determines (make.Post (tt {0}))
+Source-make = equal

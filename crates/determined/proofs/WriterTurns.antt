@@ -7,6 +7,7 @@ use Rattle.caption.specs.declared.Answer.{Answer}
 use Rattle.writer_turns.specs.declared.PairQueue.{PairQueue}
 use Rattle.writer_turns.specs.declared.QueuePush.{QueuePush}
 use Rattle.writer_turns.proofs.PairQueue.push.Reads as push
+use Rattle.writer_turns.proofs.PairQueue.duration.Reads as duration
 use Rattle.writer_turns.proofs.Turns.take.Reads as take
 use Rattle.determined.specs.Determines.{Determines}
 use Rattle.determined.proofs.Ways.{equal, two}
@@ -22,6 +23,10 @@ pushes =
 -- `queue.push(a, b)`
 pub PairQueue-push : Determines (push.Post (tt {0}))
 PairQueue-push = pushes
+
+-- `queue.duration()`
+pub PairQueue-duration : Determines (duration.Post (tt {0}))
+PairQueue-duration = equal
 
 -- `turns.take(pad, turns)`
 pub Turns-take : Determines (take.Post (tt {0}))

@@ -85,7 +85,7 @@ module _ (p : Packet) (v : Valid p) (some : 1 ≤ length (p .blocks)) (rest : Li
       (λ e. let o : packetLength p % 2 ≡ 1 = omega (arith, eqb-false (packetLength p % 2) 0 e) in
       rw (e, split, o, getD-at (packetHeader p ∷ writtenBlocks (p .blocks)) 0x00 rest 0 (packetLength p) body))
 
-  -- the written form of a packet that has a block
+  -- "the written form of a nonempty packet"
   pub written-passes : walkedSlot (record { len = packetLength p; bytes = writtenPacket p ++ rest }) ≡ true
   unfolding walkedSlot framedSlot packetHeader writtenPacket
   written-passes =

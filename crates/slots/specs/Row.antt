@@ -1,4 +1,4 @@
--- The slots of a multiplexer that are written packets. Assumes nothing.
+-- The slots of a multiplexer that are written packets. [S1] and [W14]. Assumes nothing.
 use mathlib.Core.Bool.{Bool, _&&_, _||_}
 use mathlib.Core.List.{List}
 use Prim.Native.Nat.{ℕ, _%_}
@@ -13,6 +13,6 @@ use Rattle.slots.specs.declared.Slot.{Slot}
 unfoldable pub validSending : Slot → ℕ → Bool
 validSending s sent = (eqb (s .len) 0 || writtenSlot s) && (eqb (sent % 2) 0 && leb sent (writtenLength s))
 
--- at most 16 packets beside the one being sent [S1]: the slot being sent, of which `sent` bytes have left, and the first `count` of the queue
+-- within the limits [W14]: the slot being sent, of which `sent` bytes have left, and the first `count` of the queue
 unfoldable pub validSlots : Slot → ℕ → List Slot → ℕ → Bool
 validSlots s sent l count = leb count mostPackets && (validSending s sent && every writtenSlot (take count l))

@@ -1,4 +1,4 @@
--- A slot: the bytes that a packet is written in. Assumes nothing.
+-- A slot: the bytes that a packet is written in. [P8]. Assumes nothing.
 use mathlib.Core.Bool.{Bool, _&&_}
 use mathlib.Core.List.{List, []}
 use Prim.Native.Nat.{ℕ, _+_, _%_}
@@ -19,7 +19,11 @@ noSlot = record { len = 0; bytes = [] }
 abbrev pub slotWith : ℕ → List ℕ → Slot
 slotWith len bytes = record { len = len; bytes = sets (replicate 128 0) 0 bytes }
 
--- one 0x00 behind an odd length [P8]: so many bytes are written
+-- a packet in a slot: its length, and the bytes that it is written in, over zeros
+abbrev pub slotOf : Packet → Slot
+slotOf p = slotWith (packetLength p) (writtenPacket p)
+
+-- so many bytes are written, one 0x00 behind an odd length [P8]
 abbrev pub writtenLength : Slot → ℕ
 writtenLength s = s .len + s .len % 2
 

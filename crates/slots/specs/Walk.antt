@@ -11,8 +11,7 @@ use Rattle.model.specs.Mux.{started, packetTriples}
 use Rattle.slots.specs.Slot.{writtenLength, writtenBytes, readSlot}
 use Rattle.slots.specs.declared.Slot.{Slot}
 
--- a header has one byte or two [B7]: the bytes of a block whose first two are these; 0
--- where none with a number and a payload starts so
+-- the bytes of a written block [B7] whose first two are these; 0 where none with a number and a payload starts so
 unfoldable pub blockSpan : ℕ → ℕ → ℕ
 blockSpan h second =
     cond (eqb (h % 32) 0 || eqb (h / 32) 0) 0

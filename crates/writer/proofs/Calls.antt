@@ -1,43 +1,38 @@
 -- One law for each way out of a call. Assumes nothing.
 use mathlib.Core.Path.{_≡_, refl, sym, ap, _∙_}
-use mathlib.Core.Bool.{Bool, true, false}
+use mathlib.Core.Bool.{Bool, true, false, cond, _||_}
 use mathlib.Core.List.{List, [], _∷_, _++_}
-use Prim.Native.Nat.{ℕ, _+_, _-_, _*_, _≤_, _<_}
+use Prim.Native.Nat.{ℕ, _+_, _-_, _*_, _≤_, _<_, min}
 use native.Mathlib.Omega.{arith}
-use borrow.Author.Tests.{lt-ltb, le-ltb, le-leb}
-use lib.Dec.{leb}
+use borrow.Author.Tests.{lt-ltb, le-ltb, le-leb, ltb-true, ltb-false}
+use lib.Dec.{eqb, leb, ltb}
 use lib.ListN.{length, take, drop, replicate, length-append, length-replicate}
 use lib.Seq.{sets-eq, take-at}
-use Rattle.model.specs.Said.{Outcome, gave, refused, accepted, says, saysWith, after, checked, measured, mapped, putInto, badValue, badRate}
+use Rattle.model.specs.Said.{Said, Outcome, gave, refused, accepted, says, after, checked, measured, mapped, putInto, badValue, badRate}
 use Rattle.model.specs.Frame as model
 use Rattle.model.specs.Frame.{Cea608, field1, field2, Pair, pair, Triple, tri, flat, frameBytes}
-use Rattle.model.specs.Rate.{Budgets, pairsThenTriples, budgets}
-use Rattle.model.specs.Mux.{Mux, Turned, turned, turnsDue, countDue, Sent, send, padding, framed, writeFrame, writeAt, withPads, withQueues, flushMux, pushPair, pushCea608}
+use Rattle.model.specs.Rate.{Budgets, pairsAt, triplesAt, mostTriples, budgets}
+use Rattle.model.specs.Mux.{Mux, Turned, turned, turnsDue, countDue, Sent, send, padding, framed, writeFrame, writeAt, withPads, withQueues, flushMux, pushPair, pushCea608, mostQueued}
 use Rattle.model.specs.Duration.{pairsDuration, bytesDuration, bytesLeft, field1Duration, field2Duration, packetDuration}
-use Rattle.model.proofs.Cases.{by-cond, Gives}
+use Rattle.model.proofs.Cases.{by-test, by-cond, Gives}
 use Rattle.model.proofs.Frames.{flat-length, frame-length}
 use Rattle.model.proofs.Rates.{accepted-sane}
 use Rattle.caption.specs.Answers.{saidRefusal, saidAnswer}
-use Rattle.caption.specs.Rates.{saidBudgets}
-use Rattle.caption.proofs.Rates.{budgets-meant}
 use Rattle.caption.specs.declared.Answer.{Answer}
 use Rattle.caption.specs.declared.Answer.the-variants as answer
 use Rattle.caption.specs.declared.Refusal.{Refusal}
 use Rattle.caption.specs.declared.Refusal.the-variants.{BadValue, BadRate, OutShort}
 use Rattle.caption.specs.declared.Cea608.the-variants.{Field1, Field2}
 use Rattle.caption.specs.declared.Framerate.{Framerate}
-use Rattle.caption.specs.declared.Budgets as caption
-use Rattle.caption.specs.declared.Budgets.the-variants.{Of, BadRate as NoBudgets}
 use Rattle.writer_frames.specs.Frame.{headed, emitted}
 use Rattle.writer_frames.proofs.Stores.{emitted-whole}
-use Rattle.writer_turns.specs.Queue.{queueOf, queueOver}
+use Rattle.writer_turns.specs.Queue.{queueOf, queueOver, pushOutcome}
 use Rattle.writer.specs.Writer.{means, validWriter, stored, emptied}
 use Rattle.writer.specs.Calls.{Answers, written, Writes}
-use Rattle.writer.specs.Making.{unmadeOf, joined, builtFrom, withPadding, withFields, pairOutcome, Makes}
-use Rattle.writer_turns.proofs.Queues.{queue-length}
+use Rattle.writer.specs.Making.{joined, sourceOf, builtFrom, withPadding, withFields, pairOutcome, Makes}
+use Rattle.writer_turns.proofs.Queues.{Sized, queue-length}
 use Rattle.writer_frames.specs.declared.Frame.{Frame}
 use Rattle.writer_turns.specs.declared.PairQueue.{PairQueue}
-use Rattle.caption.specs.declared.Counted.{Counted}
 use Rattle.caption.specs.declared.Counted.the-variants as counted
 use Rattle.writer_sending.specs.Slots.{triplesLeft, lengthsIn}
 use Rattle.writer_sending.proofs.Queues.{sets-own}
@@ -48,6 +43,8 @@ use Rattle.writer.proofs.Valid.{Shaped, Ok, Order, valid-order, valid-o
 use Rattle.writer.proofs.Builds.{laid, Builds, built-is, leaves, count-most, count-least, means-frame}
 use Rattle.writer.proofs.Stored.{Grows, grows-pads, grows-pair, stored-pads, stored-first, stored-second, means-stored, means-emptied}
 use Rattle.writer.specs.declared.CCDataWriter.{CCDataWriter}
+use Rattle.writer_building.specs.Building.{unmadeOf, shownIn, madeAt}
+use Rattle.writer_building.specs.declared.Source.{Source}
 use Rattle.writer_building.specs.declared.Made.{Made}
 
 -- an answer, by what it says and where the state stands, if the places of what the model gives mean it
@@ -63,7 +60,8 @@ module _ (w : CCDataWriter) {v : Bool} (e : v ≡ validWriter w) where
   refused-value o f z = rw (sym e ∙ z) (record { answer = refl; means = refl; places = refl })
 
   -- one within them is accepted
-  pub accepted-value : (x : Mux) (f : Mux → CCDataWriter) (y : CCDataWriter) → v ≡ true → y ≡ f x → means (f x) ≡ x → Answers (checked (validWriter w) (gave x)) f w (record { answer = answer.Accepted; writer = y })
+  pub accepted-value : (x : Mux) (f : Mux → CCDataWriter) (y : CCDataWriter) → v ≡ true → y ≡ f x → means (f x) ≡ x
+      → Answers (checked (validWriter w) (gave x)) f w (record { answer = answer.Accepted; writer = y })
   accepted-value x f y t q m = rw (sym e ∙ t) (answered (gave x) refl q m)
 
   -- a number asked of it is given
@@ -94,7 +92,8 @@ module _ (w : CCDataWriter) (h : Shaped w) {v : Bool} (e : v ≡ validWriter w) 
   ok = valid-ok w h valid
 
   -- the switches
-  pub switched : (a b : Bool) (y : CCDataWriter) → y ≡ withPadding a b w → Answers (checked (validWriter w) (gave (withPads a b (means w)))) (stored w) w (record { answer = answer.Accepted; writer = y })
+  pub switched : (a b : Bool) (y : CCDataWriter) → y ≡ withPadding a b w
+      → Answers (checked (validWriter w) (gave (withPads a b (means w)))) (stored w) w (record { answer = answer.Accepted; writer = y })
   switched a b y z = accepted-value w e (withPads a b (means w)) (stored w) y t (z ∙ sym (stored-pads w order a b)) (means-stored w order ok _ (grows-pads (means w) (valid-mux w h valid) a b))
 
   -- flush
@@ -112,19 +111,21 @@ module _ (w : CCDataWriter) (h : Shaped w) {v : Bool} (e : v ≡ validWriter w) 
       given-means (refused why) g = tt
 
   -- where the queues stand after it
-  first-stands : (o : Outcome (List Pair)) → withFields (after (w .field1) (mapped (queueOver (w .field1)) o)) (w .field2) w ≡ after w (mapped (stored w) (mapped (λ q. withQueues q (queueOf (w .field2)) (means w)) o))
+  first-stands : (o : Outcome (List Pair))
+      → withFields (after (w .field1) (mapped (queueOver (w .field1)) o)) (w .field2) w ≡ after w (mapped (stored w) (mapped (λ q. withQueues q (queueOf (w .field2)) (means w)) o))
   first-stands (gave q) = sym (stored-first w order q)
   first-stands (refused why) = refl
 
   -- the same for field 2
-  second-stands : (o : Outcome (List Pair)) → withFields (w .field1) (after (w .field2) (mapped (queueOver (w .field2)) o)) w ≡ after w (mapped (stored w) (mapped (λ q. withQueues (queueOf (w .field1)) q (means w)) o))
+  second-stands : (o : Outcome (List Pair))
+      → withFields (w .field1) (after (w .field2) (mapped (queueOver (w .field2)) o)) w ≡ after w (mapped (stored w) (mapped (λ q. withQueues (queueOf (w .field1)) q (means w)) o))
   second-stands (gave q) = sym (stored-second w order q)
   second-stands (refused why) = refl
 
   module _ (a b : ℕ) (r : Answer) (p : PairQueue) where
     -- a pair pushed to field 1
-    pub pushed-first : saidAnswer r ≡ says (checked (leb (w .field1 .count) 64) (pushPair (pair a b) (queueOf (w .field1))))
-        → p ≡ after (w .field1) (mapped (queueOver (w .field1)) (checked (leb (w .field1 .count) 64) (pushPair (pair a b) (queueOf (w .field1)))))
+    pub pushed-first : saidAnswer r ≡ says (pushOutcome (w .field1) a b)
+        → p ≡ after (w .field1) (mapped (queueOver (w .field1)) (pushOutcome (w .field1) a b))
         → Answers (pairOutcome (Field1 a b) w) (stored w) w (record { answer = r; writer = withFields p (w .field2) w })
     unfolding means pushCea608
     pushed-first x z =
@@ -135,8 +136,8 @@ module _ (w : CCDataWriter) (h : Shaped w) {v : Bool} (e : v ≡ validWriter w) 
         pushes (field1 (pair a b)) (u ∙ sym (says-mapped _ o)) (rw n (first-stands o))
 
     -- to field 2
-    pub pushed-second : saidAnswer r ≡ says (checked (leb (w .field2 .count) 64) (pushPair (pair a b) (queueOf (w .field2))))
-        → p ≡ after (w .field2) (mapped (queueOver (w .field2)) (checked (leb (w .field2 .count) 64) (pushPair (pair a b) (queueOf (w .field2)))))
+    pub pushed-second : saidAnswer r ≡ says (pushOutcome (w .field2) a b)
+        → p ≡ after (w .field2) (mapped (queueOver (w .field2)) (pushOutcome (w .field2) a b))
         → Answers (pairOutcome (Field2 a b) w) (stored w) w (record { answer = r; writer = withFields (w .field1) p w })
     unfolding means pushCea608
     pushed-second x z =
@@ -146,24 +147,33 @@ module _ (w : CCDataWriter) (h : Shaped w) {v : Bool} (e : v ≡ validWriter w) 
         let n : p ≡ after (w .field2) (mapped (queueOver (w .field2)) o) = rw k at z in
         pushes (field2 (pair a b)) (u ∙ sym (says-mapped _ o)) (rw n (second-stands o))
 
--- the durations
-module _ (w : CCDataWriter) (ok : Ok w) where
+-- the durations of a state within its limits
+module _ (w : CCDataWriter) (h : Shaped w) {v : Bool} (e : v ≡ validWriter w) (t : v ≡ true) (m : ℕ) where
   -- field 1
-  pub first-duration : (m : ℕ) → m ≡ pairsDuration (w .field1 .count) → m ≡ field1Duration (means w)
+  pub first-duration : m ≡ pairsDuration (min (w .field1 .count) mostQueued) → accepted (m ∷ []) ≡ measured (validWriter w) (field1Duration (means w))
   unfolding means
-  first-duration m e = e ∙ rw (queue-length (w .field1) (ok .first))
+  first-duration d =
+      let k : Sized (w .field1) = valid-ok w h (sym e ∙ t) .first in
+      let n : min (w .field1 .count) mostQueued ≡ w .field1 .count = omega (arith, k .few) in
+      measured-value w e _ m t (d ∙ rw (n, queue-length (w .field1) k))
 
   -- field 2
-  pub second-duration : (m : ℕ) → m ≡ pairsDuration (w .field2 .count) → m ≡ field2Duration (means w)
+  pub second-duration : m ≡ pairsDuration (min (w .field2 .count) mostQueued) → accepted (m ∷ []) ≡ measured (validWriter w) (field2Duration (means w))
   unfolding means
-  second-duration m e = e ∙ rw (queue-length (w .field2) (ok .second))
+  second-duration d =
+      let k : Sized (w .field2) = valid-ok w h (sym e ∙ t) .second in
+      let n : min (w .field2 .count) mostQueued ≡ w .field2 .count = omega (arith, k .few) in
+      measured-value w e _ m t (d ∙ rw (n, queue-length (w .field2) k))
 
   -- packets
-  pub packet-duration : (m n : ℕ) → n ≡ lengthsIn (take (w .«packet_count») (w .packets)) + 3 * triplesLeft (w .sending .len) (w .sent) → m ≡ bytesDuration n → m ≡ packetDuration (means w)
+  pub packet-duration : m ≡ bytesDuration (lengthsIn (take (w .«packet_count») (w .packets)) + 3 * triplesLeft (w .sending .len) (w .sent))
+      → accepted (m ∷ []) ≡ measured (validWriter w) (packetDuration (means w))
   unfolding means bytesLeft
-  packet-duration m n e d =
-      let z : n ≡ bytesLeft (means w) = e ∙ rw (lengths-queued (take (w .«packet_count») (w .packets)) (ok .slots), left-triples (w .sending) (w .sent) (ok .held), ← left-length (w .sending) (w .sent) (ok .held)) in
-      d ∙ rw z
+  packet-duration d =
+      let ok = valid-ok w h (sym e ∙ t) in
+      let k = ok .held in
+      measured-value w e _ m t
+      (d ∙ rw (lengths-queued (take (w .«packet_count») (w .packets)) (ok .slots), left-triples (w .sending) (w .sent) k, ← left-length (w .sending) (w .sent) k))
 
 -- a frame in its places
 laid-length : (f : model.Frame) → laid f .len ≡ length (frameBytes f)
@@ -194,96 +204,115 @@ few-triples b s h =
     rw (length-append (t .out) (o .out ++ p), length-append (o .out) p)
     (omega (arith, leaves (turnsDue (b .pairs) s) s .few, count-least b s h, send-few (n - length (t .out)) (s .sending) (s .packets), padding-few (s .padOut) (n - length (t .out) - length (o .out))))
 
+-- a rate is refused for one reason alone
+rate-refused : (numer denom : ℕ) {why : Said} → budgets numer denom ≡ refused why → _≡_ {A = Outcome Budgets} (refused why) (refused badRate)
+unfolding budgets
+rate-refused numer denom e = by (eqb numer 0 || (eqb (pairsAt numer denom) 0 || ltb mostTriples (triplesAt numer denom))) _ e
+  where
+    -- by the test of the rate
+    by : (bad : Bool) (b : Budgets) {why : Said} → cond bad (refused badRate) (gave b) ≡ refused why → _≡_ {A = Outcome Budgets} (refused why) (refused badRate)
+    by true b e = sym e
+    by false b e = (cc)
+
 -- writing a frame
-module _ (w : CCDataWriter) (rate : Framerate) (out : List ℕ) {v : Bool} (e : v ≡ validWriter w) where
+module _ (w : CCDataWriter) (rate : Framerate) (out : List ℕ) where
   -- on a refusal all stays as it was
   wrote-refused : (why : Refusal) → written rate out w ≡ refused (saidRefusal why) → Writes rate out w (record { answer = counted.Refused why; writer = w }) out
   wrote-refused why z = record { answer = rw z; means = rw z; places = rw z; output = rw z }
 
-  module _ (t : v ≡ true) where
-    -- the state is valid
-    within : validWriter w ≡ true
-    within = sym e ∙ t
+  -- a state outside its limits
+  wrote-value : validWriter w ≡ false → Writes rate out w (record { answer = counted.Refused BadValue; writer = w }) out
+  unfolding written
+  wrote-value z = wrote-refused BadValue (rw z)
 
-    -- 8: a rate without budgets [R8]
-    pub wrote-rate : (r : caption.Budgets) → saidBudgets r ≡ saysWith pairsThenTriples (budgets (rate .numer) (rate .denom)) → r ≡ NoBudgets → Writes rate out w (record { answer = counted.Refused BadRate; writer = w }) out
+  module _ (within : validWriter w ≡ true) where
+    -- a rate without budgets
+    wrote-rate : budgets (rate .numer) (rate .denom) ≡ refused badRate → Writes rate out w (record { answer = counted.Refused BadRate; writer = w }) out
     unfolding written writeAt
-    wrote-rate r m z =
-        let b : budgets (rate .numer) (rate .denom) ≡ refused badRate = sym (rw z at (budgets-meant (rate .numer) (rate .denom) r m)) in
-        wrote-refused BadRate (rw (within, b))
+    wrote-rate b = wrote-refused BadRate (rw (within, b))
 
-    module _ (r : caption.Budgets) (p n : ℕ) (m : saidBudgets r ≡ saysWith pairsThenTriples (budgets (rate .numer) (rate .denom))) (z : r ≡ Of p n) where
-      -- the budgets
-      abbrev b : Budgets
-      b = record { pairs = p; triples = n }
-
-      -- the rate is accepted
-      given : budgets (rate .numer) (rate .denom) ≡ gave b
-      given = sym (rw z at (budgets-meant (rate .numer) (rate .denom) r m))
-
-      -- an accepted rate [G2]
-      pub sane : (p ≤ n) × (n ≤ 31)
+    module _ (shaped : Shaped w) (b : Budgets) (given : budgets (rate .numer) (rate .denom) ≡ gave b) (f : Made) (found : f ≡ builtFrom (b .pairs) (b .triples) w) where
+      -- what an accepted rate's budgets are
+      sane : (b .pairs ≤ b .triples) × (b .triples ≤ 31)
       sane = let s = accepted-sane (rate .numer) (rate .denom) given in (omega (arith, s .apart), s .few-triples)
 
-      module _ (shaped : Shaped w) (f : Made) (found : f ≡ builtFrom p n w) where
-        -- what was built is the model's
-        pub made : Builds b w f
-        made = built-is w b (valid-ok w shaped within) (sane .0) (sane .1) f found
+      -- what was built is the model's
+      made : Builds b w f
+      made = built-is w b (valid-ok w shaped within) (sane .0) (sane .1) f found
 
-        -- the bytes of the frame
-        abbrev bytes : List ℕ
-        bytes = frameBytes (writeFrame b (means w) .frame)
+      -- the bytes of the frame
+      abbrev bytes : List ℕ
+      bytes = frameBytes (writeFrame b (means w) .frame)
 
-        -- their number
-        length-is : f .frame .len ≡ length bytes
-        length-is = rw (made .frame) (laid-length (writeFrame b (means w) .frame))
+      -- their number
+      length-is : f .frame .len ≡ length bytes
+      length-is = rw (made .frame) (laid-length (writeFrame b (means w) .frame))
 
-        -- at most 95
-        pub frame-few : f .frame .len ≤ 95
-        frame-few =
-            omega (arith, length-is, frame-length (writeFrame b (means w) .frame), few-triples b (means w) (sane .0), count-most b (means w) (sane .0), sane)
+      -- no more triples than a frame may have
+      triples-most : length (writeFrame b (means w) .frame .triples) ≤ 31
+      triples-most = omega (arith, few-triples b (means w) (sane .0), count-most b (means w) (sane .0), sane)
 
-        -- 9: too few lent bytes [R9]
-        pub wrote-short : length out < f .frame .len → Writes rate out w (record { answer = counted.Refused (OutShort (f .frame .len)); writer = w }) out
-        unfolding written writeAt putInto
-        wrote-short h =
-            rw length-is (wrote-refused (OutShort (length bytes)) (rw (within, given, lt-ltb (length out) (length bytes) (omega (arith, length-is)))))
+      -- an output that is too short
+      wrote-short : length out < f .frame .len → Writes rate out w (record { answer = counted.Refused (OutShort (f .frame .len)); writer = w }) out
+      unfolding written writeAt putInto
+      wrote-short h =
+          rw length-is (wrote-refused (OutShort (length bytes)) (rw (within, given, lt-ltb (length out) (length bytes) (omega (arith, length-is)))))
 
-        -- the write is accepted
-        wrote : f .frame .len ≤ length out → written rate out w ≡ gave (record { frame = bytes; out = bytes ++ drop (length bytes) out; next = writeFrame b (means w) .next })
-        unfolding written writeAt putInto
-        wrote h = rw (within, given, le-ltb (length out) (length bytes) (omega (arith, length-is)))
+      -- the write is accepted
+      wrote : f .frame .len ≤ length out → written rate out w ≡ gave (record { frame = bytes; out = bytes ++ drop (length bytes) out; next = writeFrame b (means w) .next })
+      unfolding written writeAt putInto
+      wrote h = rw (within, given, le-ltb (length out) (length bytes) (omega (arith, length-is)))
 
-        -- the frame is in the output
-        pub wrote-done : f .frame .len ≤ length out → Writes rate out w (record { answer = f .answer; writer = joined w f }) (emitted (f .frame) out)
-        wrote-done h =
-            let k : length (writeFrame b (means w) .frame .triples) ≤ 31 = omega (arith, few-triples b (means w) (sane .0), count-most b (means w) (sane .0), sane) in
-            let d : take (f .frame .len) (f .frame .bytes) ≡ bytes = rw (made .frame) (laid-bytes (writeFrame b (means w) .frame) k) in
-            let o : emitted (f .frame) out ≡ bytes ++ drop (length bytes) out = sym (emitted-whole (f .frame) out frame-few h) ∙ rw (d, length-is) in
-            record {
-              answer = rw (wrote h, made .answer, length-is);
-              means = rw (wrote h, made .writer) (means-frame w b (valid-ok w shaped within) (valid-mux w shaped within));
-              places = rw (wrote h) (made .writer);
-              output = rw (wrote h) o;
-            }
-
-  -- "11 comes first"
-  pub wrote-value : v ≡ false → Writes rate out w (record { answer = counted.Refused BadValue; writer = w }) out
-  unfolding written
-  wrote-value f = let z : validWriter w ≡ false = sym e ∙ f in wrote-refused BadValue (rw z)
+      -- the frame is in the output
+      wrote-done : f .frame .len ≤ length out → Writes rate out w (record { answer = f .answer; writer = joined w f }) (emitted (f .frame) out)
+      wrote-done h =
+          let few : f .frame .len ≤ 95 = omega (arith, length-is, frame-length (writeFrame b (means w) .frame), triples-most) in
+          let d : take (f .frame .len) (f .frame .bytes) ≡ bytes = rw (made .frame) (laid-bytes (writeFrame b (means w) .frame) triples-most) in
+          let o : emitted (f .frame) out ≡ bytes ++ drop (length bytes) out = sym (emitted-whole (f .frame) out few h) ∙ rw (d, length-is) in
+          record {
+            answer = rw (wrote h, made .answer, length-is);
+            means = rw (wrote h, made .writer) (means-frame w b (valid-ok w shaped within) (valid-mux w shaped within));
+            places = rw (wrote h) (made .writer);
+            output = rw (wrote h) o;
+          }
 
 -- nothing is put in
 unemitted : (out : List ℕ) → emitted (record { bytes = replicate 95 0; len = 0 }) out ≡ out
 unfolding emitted
 unemitted out = rw (le-leb 0 (length out) (omega arith))
 
--- where no frame is written the state and the output stay as they were
-pub unmade-makes : (w : CCDataWriter) (rate : Framerate) (room : ℕ) (m : Made) (a : Counted) → m ≡ unmadeOf w a → ((out : List ℕ) → length out ≡ room → Writes rate out w (record { answer = a; writer = w }) out) → Makes rate room w m
-unmade-makes w rate room m a e h =
-    let z : w .«packet_count» - 0 ≡ w .«packet_count» = omega arith in
-    rw e (
-    record {
-      few = omega arith;
-      wrote = λ out l. rw (z, sets-own (w .packets) (w .«packet_count»), unemitted out) (h out l);
-    }
-    )
+-- what is made of a state, for an output of `room` bytes
+module _ (w : CCDataWriter) (rate : Framerate) (room : ℕ) where
+  -- where no frame is written the state and the output stay as they were
+  unmade : (why : Refusal) → ((out : List ℕ) → length out ≡ room → Writes rate out w (record { answer = counted.Refused why; writer = w }) out)
+      → Makes rate room w (unmadeOf (sourceOf w) why)
+  unmade why h =
+      let z : w .«packet_count» - 0 ≡ w .«packet_count» = omega arith in
+      record {
+        few = omega arith;
+        wrote = λ out l. rw (z, sets-own (w .packets) (w .«packet_count»), unemitted out) (h out l);
+      }
+
+  module _ (within : validWriter w ≡ true) (shaped : Shaped w) where
+    -- by the room that there is
+    in-room : (b : Budgets) → budgets (rate .numer) (rate .denom) ≡ gave b → (m : Made) → m ≡ builtFrom (b .pairs) (b .triples) w → Makes rate room w (shownIn room (sourceOf w) m)
+    in-room b e m f =
+        by-test (ltb room (m .frame .len))
+        (λ t. rw t (unmade (OutShort (m .frame .len)) (λ out l. wrote-short w rate out within shaped b e m f (rw l (ltb-true room (m .frame .len) t)))))
+        (λ t. rw t (record {
+          few = made w rate [] within shaped b e m f .few;
+          wrote = λ out l. wrote-done w rate out within shaped b e m f (rw l (ltb-false room (m .frame .len) t));
+        }))
+
+    -- by the rate
+    at-rate : (o : Outcome Budgets) → budgets (rate .numer) (rate .denom) ≡ o → Makes rate room w (madeAt room (w .packets) (sourceOf w) o)
+    unfolding madeAt
+    at-rate (gave b) e = in-room b e (builtFrom (b .pairs) (b .triples) w) refl
+    at-rate (refused why) e = unmade BadRate (λ out l. wrote-rate w rate out within (e ∙ rate-refused (rate .numer) (rate .denom) e))
+
+  -- by the state
+  pub makes : {v : Bool} → v ≡ validWriter w → Shaped w → (s : Source) → s ≡ sourceOf w → (m : Made)
+      → m ≡ cond v (madeAt room (w .packets) s (budgets (rate .numer) (rate .denom))) (unmadeOf s BadValue) → Makes rate room w m
+  makes {v} e shaped s q m z =
+      by-test v (λ t. rw (z, t, q) (at-rate (sym e ∙ t) shaped (budgets (rate .numer) (rate .denom)) refl))
+      (λ f. rw (z, f, q) (unmade BadValue (λ out l. wrote-value w rate out (sym e ∙ f))))

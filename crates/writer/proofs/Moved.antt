@@ -20,7 +20,7 @@ use Rattle.slots.specs.declared.Slot.{Slot}
 use Rattle.slots.specs.Row.{validSending}
 use Rattle.writer.specs.Writer.{means, laidIn, moved}
 use Rattle.writer_sending.proofs.Triples.{leftFrom}
-use Rattle.writer_sending.proofs.Sends.{slotPackets}
+use Rattle.writer_sending.proofs.Sends.{readSlots}
 use Rattle.writer_sending.proofs.Ends.{Tail, Ends, ends}
 use Rattle.writer.proofs.Valid.{Shaped, Ok, Order, all-each}
 use Rattle.writer.specs.declared.CCDataWriter.{CCDataWriter}
@@ -58,7 +58,7 @@ begun-at l slot count (suc n) h k = getD-within l n slot noSlot (omega arith) �
 module _ (w : CCDataWriter) (ok : Ok w) (m : ℕ) where
   -- what they leave in the model
   abbrev pub sends : Sent
-  sends = send m (leftFrom (w .sent) (writtenBytes (w .sending))) (slotPackets (take (w .«packet_count») (w .packets)))
+  sends = send m (leftFrom (w .sent) (writtenBytes (w .sending))) (readSlots (take (w .«packet_count») (w .packets)))
 
   -- as many packets as are counted
   taken-length : length (take (w .«packet_count») (w .packets)) ≡ w .«packet_count»
@@ -123,7 +123,7 @@ module _ (w : CCDataWriter) (ok : Ok w) (m : ℕ) where
       unfolding means writtenBytes started
       means-moved =
           let f = mux-facts x v in
-          let ps : slotPackets (take (length (sends .packets)) (sets (w .packets) 0 slots)) ≡ sends .packets =
+          let ps : readSlots (take (length (sends .packets)) (sets (w .packets) 0 slots)) ≡ sends .packets =
           rw slots-front (sym (drop-map readSlot next (take (w .«packet_count») (w .packets))) ∙ sym (rw taken-length at (ended .back))) in
           let ts : leftFrom (cond none 0 at) (writtenBytes rest) ≡ sends .sending =
           by-test none (λ e. let z : length (sends .sending) ≡ 0 = eqb-true (length (sends .sending)) 0 e in rw e (sym (none-in (sends .sending) z))) (λ e. rw e (sym (tail .same))) in
@@ -136,7 +136,7 @@ module _ (w : CCDataWriter) (ok : Ok w) (m : ℕ) where
       begun-valid o = by (w .«packet_count» - length (sends .packets)) (omega arith)
         where
           -- by its place
-          by : (n : ℕ) → n ≤ w .«packet_count» → (eqb (getD (w .sending ∷ take (w .«packet_count») (w .packets)) n noSlot .len) 0 || writtenSlot (getD (w .sending ∷ take (w .«packet_count») (w .packets)) n noSlot)) ≡ true
+          by : (n : ℕ) → n ≤ w .«packet_count» → (let x = getD (w .sending ∷ take (w .«packet_count») (w .packets)) n noSlot in (eqb (x .len) 0 || writtenSlot x) ≡ true)
           by zero h = both (eqb (w .sending .len) 0 || writtenSlot (w .sending)) _ (o .sending) .0
           by (suc n) h =
               let e : writtenSlot (getD (take (w .«packet_count») (w .packets)) n noSlot) ≡ true = all-each (take (w .«packet_count») (w .packets)) (ok .slots) n (omega (arith, taken-length)) in

@@ -21,14 +21,14 @@ use Rattle.writer_turns.specs.Queue.{pairsOf, queueOf, pairBytes, queueOver}
 use Rattle.writer_turns.proofs.Queues.{over-same, over-queue, over-sized}
 use Rattle.writer_turns.proofs.Steps.{not-not}
 use Rattle.basics.proofs.Runs.{sets-front}
-use Rattle.slots.specs.Slot.{slotWith, writtenBytes, readSlot, writtenSlot}
+use Rattle.slots.specs.Slot.{slotOf, writtenBytes, readSlot, writtenSlot}
 use Rattle.slots.proofs.Written.{slot-reads, facts-written}
 use Rattle.slots.specs.declared.Slot.{Slot}
 use Rattle.slots.specs.Row.{validSending}
 use Rattle.writer.specs.Writer.{means, stored, emptied}
 use Rattle.writer.specs.Making as making
 use Rattle.writer.specs.Making.{withPadding, withFields}
-use Rattle.writer_sending.proofs.Sends.{slotPackets}
+use Rattle.writer_sending.proofs.Sends.{readSlots}
 use Rattle.writer.proofs.Valid.{Shaped, Ok, Order}
 use Rattle.writer.specs.declared.CCDataWriter.{CCDataWriter}
 
@@ -70,10 +70,6 @@ module _ (s : Mux) (v : validMux s ≡ true) where
       (λ e. by-test (leb mostPackets (length (s .packets))) (λ f. rw (e, f) tt)
       (λ f. rw (e, f) (record { more = p ∷ []; packets = refl; sending = refl; valid = rw (e, f) at g })))
 
--- a packet in a slot: its length, and the bytes that it is written in, over zeros
-abbrev pub slotOf : Packet → Slot
-slotOf p = slotWith (packetLength p) (writtenPacket p)
-
 module _ (p : Packet) (k : storable p ≡ true) where
   -- the limits of a packet that may be queued
   limits : (Valid p) × (1 ≤ length (p .blocks))
@@ -97,7 +93,7 @@ module _ (p : Packet) (k : storable p ≡ true) where
   slot-written = facts-written (slotOf p) p (limits .0) (limits .1) refl slot-bytes
 
 -- the slots of packets that may be queued
-slots-packets : (ps : List Packet) → every storable ps ≡ true → slotPackets (map slotOf ps) ≡ ps
+slots-packets : (ps : List Packet) → every storable ps ≡ true → readSlots (map slotOf ps) ≡ ps
 unfolding every
 slots-packets [] e = refl
 slots-packets (p ∷ ps) e = let t = both (storable p) (every storable ps) e in rw (slot-packet p (t .0), slots-packets ps (t .1))
@@ -115,7 +111,7 @@ behind-storable [] qs e = e
 behind-storable (p ∷ ps) qs e = behind-storable ps qs (both (storable p) (every storable (ps ++ qs)) e .1)
 
 -- packets behind packets
-packets-append : (l m : List Slot) → slotPackets (l ++ m) ≡ slotPackets l ++ slotPackets m
+packets-append : (l m : List Slot) → readSlots (l ++ m) ≡ readSlots l ++ readSlots m
 packets-append [] m = refl
 packets-append (s ∷ l) m = ap (λ (ps : List Packet). readSlot s ∷ ps) (packets-append l m)
 
@@ -184,7 +180,8 @@ module _ (w : CCDataWriter) (o : Order w) where
     front =
         let d : drop (w .«packet_count») (x .packets) ≡ g .more = rw (g .packets) (packets-more (g .more)) in
         let n = more-length in
-        let l : length (take (w .«packet_count») (w .packets) ++ map slotOf (g .more)) ≡ length (x .packets) = length-append (take (w .«packet_count») (w .packets)) (map slotOf (g .more)) ∙ (omega (arith, taken-length, more-length)) in
+        let l : length (take (w .«packet_count») (w .packets) ++ map slotOf (g .more)) ≡ length (x .packets) =
+        length-append (take (w .«packet_count») (w .packets)) (map slotOf (g .more)) ∙ (omega (arith, taken-length, more-length)) in
         rw (d, sets-eq (map slotOf (g .more)) (w .packets) (w .«packet_count») (omega (arith, more-length, f .packets, ok .places)))
         (take-at (take (w .«packet_count») (w .packets) ++ map slotOf (g .more)) (drop (w .«packet_count» + length (map slotOf (g .more))) (w .packets)) (length (x .packets)) l)
 
@@ -192,7 +189,7 @@ module _ (w : CCDataWriter) (o : Order w) where
     pub means-stored : means (stored w x) ≡ x
     unfolding means
     means-stored =
-        let ps : slotPackets (take (w .«packet_count») (w .packets) ++ map slotOf (g .more)) ≡ means w .packets ++ g .more =
+        let ps : readSlots (take (w .«packet_count») (w .packets) ++ map slotOf (g .more)) ≡ means w .packets ++ g .more =
         packets-append (take (w .«packet_count») (w .packets)) (map slotOf (g .more)) ∙ rw (slots-packets (g .more) more-storable) in
         rw (front, ps, over-queue (w .field1) (ok .first) (x .queue1) (f .queue1), over-queue (w .field2) (ok .second) (x .queue2) (f .queue2), not-not (x .next1), ← g .packets, ← g .sending)
 

@@ -21,7 +21,7 @@ use Rattle.slots.specs.Row.{validSending, validSlots}
 use Rattle.slots.proofs.Row.{and-false}
 use Rattle.writer.specs.Writer.{means, inOrder, validWriter}
 use Rattle.writer_sending.proofs.Triples.{Held, left-length}
-use Rattle.writer_sending.proofs.Sends.{slotPackets}
+use Rattle.writer_sending.proofs.Sends.{readSlots}
 use Rattle.writer.specs.declared.CCDataWriter.{CCDataWriter}
 
 -- each slot passes
@@ -32,7 +32,7 @@ all-each (s ∷ l) e zero h = both (writtenSlot s) (every writtenSlot l) e .0
 all-each (s ∷ l) e (suc i) h = all-each l (both (writtenSlot s) (every writtenSlot l) e .1) i (omega arith)
 
 -- each packet may be queued
-all-storable : (l : List Slot) → every writtenSlot l ≡ true → every storable (slotPackets l) ≡ true
+all-storable : (l : List Slot) → every writtenSlot l ≡ true → every storable (readSlots l) ≡ true
 unfolding every
 all-storable [] e = refl
 all-storable (s ∷ l) e = let t = both (writtenSlot s) (every writtenSlot l) e in and-both _ _ (carried-storable s (t .0)) (all-storable l (t .1))
@@ -106,7 +106,7 @@ module _ (w : CCDataWriter) where
     unfolding means
     order-mux o =
         let ok = order-ok o in
-        let n : length (slotPackets (take (w .«packet_count») (w .packets))) ≡ w .«packet_count» =
+        let n : length (readSlots (take (w .«packet_count») (w .packets))) ≡ w .«packet_count» =
         length-map (take (w .«packet_count») (w .packets)) readSlot ∙ length-take-le (w .«packet_count») (w .packets) (o .packets) in
         facts-mux (means w) (record {
           packets = omega (arith, n, ok .few);
@@ -130,15 +130,19 @@ module _ (w : CCDataWriter) where
     pub over-second : w .field1 .count ≤ 64 → 64 < w .field2 .count → false ≡ validWriter w
     unfolding inOrder
     over-second a b =
-        simp (le-leb (2 * w .field1 .count) (length (w .field1 .bytes)) (omega (arith, h .first)), lt-leb (2 * w .field2 .count) (length (w .field2 .bytes)) (omega (arith, h .second)), and-false (leb (w .«packet_count») (length (w .packets)))) refl
+        let few = le-leb (2 * w .field1 .count) (length (w .field1 .bytes)) (omega (arith, h .first)) in
+        let over = lt-leb (2 * w .field2 .count) (length (w .field2 .bytes)) (omega (arith, h .second)) in
+        simp (few, over, and-false (leb (w .«packet_count») (length (w .packets)))) refl
         ∙ order-valid
 
     -- the slots decide
     pub by-slots : {r : Bool} → w .field1 .count ≤ 64 → w .field2 .count ≤ 64 → r ≡ validSlots (w .sending) (w .sent) (w .packets) (w .«packet_count») → r ≡ validWriter w
     unfolding inOrder validSlots
     by-slots b d f =
+        let few1 = le-leb (2 * w .field1 .count) (length (w .field1 .bytes)) (omega (arith, h .first)) in
+        let few2 = le-leb (2 * w .field2 .count) (length (w .field2 .bytes)) (omega (arith, h .second)) in
         f
-        ∙ simp (le-leb (2 * w .field1 .count) (length (w .field1 .bytes)) (omega (arith, h .first)), le-leb (2 * w .field2 .count) (length (w .field2 .bytes)) (omega (arith, h .second)), h .packets) refl
+        ∙ simp (few1, few2, h .packets) refl
         ∙ order-valid
 
     -- a state within its limits, by its parts

@@ -1,4 +1,4 @@
--- What the calls of the multiplexer answer, what the state that comes back means, and where it stands. Assumes nothing.
+-- What the calls of the multiplexer answer, what the state that comes back means, and where it stands [A1] [A2]. Assumes nothing.
 use mathlib.Core.Path.{_≡_}
 use mathlib.Core.List.{List, [], _∷_}
 use Prim.Native.Nat.{ℕ}
@@ -15,7 +15,7 @@ use Rattle.writer.specs.declared.WriterCount.{WriterCount}
 use Rattle.writer.specs.declared.Micros.{Micros}
 use Rattle.writer.specs.declared.Micros.the-variants.{Of, Refused}
 
--- what a duration says: microseconds [D1]
+-- microseconds [D1] [D2], or a refusal
 abbrev pub saidMicros : Micros → Said
 saidMicros (Of n) = accepted (n ∷ [])
 saidMicros (Refused why) = saidRefusal why

@@ -1,9 +1,9 @@
 -- How a frame is made and a packet stored, part by part. No public contract reaches this file. Assumes nothing.
-use mathlib.Core.Path.{_≡_}
 use mathlib.Core.Bool.{Bool, true, false, _&&_}
+use mathlib.Core.Path.{_≡_}
 use mathlib.Core.List.{List}
 use Prim.Native.Nat.{ℕ, _+_, _-_, _≤_, _<_}
-use lib.ListN.{length, take, drop, set, replicate}
+use lib.ListN.{length, take, drop, set}
 use lib.Seq.{sets}
 use Rattle.model.specs.Said.{Outcome, checked}
 use Rattle.model.specs.Mux.{Mux, pushPacket, pushCea608}
@@ -12,39 +12,25 @@ use Rattle.caption.specs.declared.Cea608.{Cea608}
 use Rattle.caption.specs.declared.Framerate.{Framerate}
 use Rattle.caption.specs.declared.Answer.the-variants.{Refused}
 use Rattle.caption.specs.declared.Refusal.the-variants.{BadValue}
-use Rattle.caption.specs.declared.Counted.{Counted}
 use Rattle.packet.specs.Packet.{packetOf, validDTVCC}
 use Rattle.packet.specs.declared.DTVCCPacket.{DTVCCPacket}
 use Rattle.writer_turns.specs.declared.PairQueue.{PairQueue}
 use Rattle.writer_frames.specs.Frame.{emitted}
 use Rattle.slots.specs.declared.Slot.{Slot}
+use Rattle.writer_storing.specs.declared.Placed.{Placed}
 use Rattle.writer_building.specs.Building.{built}
+use Rattle.writer_building.specs.declared.Source.{Source}
 use Rattle.writer_building.specs.declared.Made.{Made}
 use Rattle.writer.specs.Writer.{means, validWriter, stored}
 use Rattle.writer.specs.Calls.{Answers, Writes}
 use Rattle.writer.specs.declared.CCDataWriter.{CCDataWriter}
 use Rattle.writer.specs.declared.WriterAnswer.{WriterAnswer}
-use Rattle.writer.specs.declared.Placed.{Placed}
 
--- 11 before all others [A4]: the state as it was
+-- a state outside its limits, refused as it was [A2] [A4]
 abbrev pub refusedOf : CCDataWriter → WriterAnswer
 refusedOf w = record { answer = Refused BadValue; writer = w }
 
--- where no frame is written all is left
-abbrev pub unmadeOf : CCDataWriter → Counted → Made
-unmadeOf w answer =
-    record {
-      answer = answer;
-      frame = record { bytes = replicate 95 0; len = 0 };
-      field1 = w .field1;
-      field2 = w .field2;
-      «field2_next» = w .«field2_next»;
-      slot = w .sending;
-      sent = w .sent;
-      next = 0;
-    }
-
--- places come free as items leave [S3]: the state with what a frame leaves of it, without the packets that were begun
+-- the state with what a frame leaves of it, without the packets that were begun [S3]
 abbrev pub joined : CCDataWriter → Made → CCDataWriter
 joined w m =
     record {
@@ -59,12 +45,25 @@ joined w m =
       «field2_next» = m .«field2_next»;
     }
 
+-- what a frame is made of beside the slots
+abbrev pub sourceOf : CCDataWriter → Source
+sourceOf w =
+    record {
+      pad = w .«output_cea608_padding»;
+      padding = w .«output_padding»;
+      field1 = w .field1;
+      field2 = w .field2;
+      «field2_next» = w .«field2_next»;
+      queued = w .«packet_count»;
+      slot = w .sending;
+      sent = w .sent;
+    }
+
 -- the frame at budgets of `pairs` and `triples`, and what it leaves
 abbrev pub builtFrom : ℕ → ℕ → CCDataWriter → Made
-builtFrom pairs triples w =
-    built (w .«output_cea608_padding») (w .«output_padding») pairs triples (w .field1) (w .field2) (w .«field2_next») (take (w .«packet_count») (w .packets)) (w .sending) (w .sent)
+builtFrom pairs triples w = built pairs triples (w .packets) (sourceOf w)
 
--- the two padding switches [W12]
+-- with the two switches of padding set [W12]
 abbrev pub withPadding : Bool → Bool → CCDataWriter → CCDataWriter
 withPadding a b w =
     record {
@@ -109,7 +108,7 @@ withPackets n l w =
       «field2_next» = w .«field2_next»;
     }
 
--- what is queued and being sent is dropped, the switches stay [W13]
+-- without what is queued and what is being sent [W13]
 abbrev pub flushed : CCDataWriter → CCDataWriter
 flushed w =
     record {
@@ -136,7 +135,9 @@ packetOutcome d w = checked (validWriter w && validDTVCC d) (pushPacket (packetO
 pub record Stores (d : DTVCCPacket) (w : CCDataWriter) (r : Placed) : Type 0 where
   pub room : r .stored ≡ true → w .«packet_count» < 16
   pub kept : r .stored ≡ false → Answers (packetOutcome d w) (stored w) w (record { answer = r .answer; writer = w })
-  pub stored : r .stored ≡ true → Answers (packetOutcome d w) (stored w) w (record { answer = r .answer; writer = withPackets (w .«packet_count» + 1) (set (w .packets) (w .«packet_count») (r .slot)) w })
+  pub stored : r .stored ≡ true
+      → Answers (packetOutcome d w) (stored w) w
+      (record { answer = r .answer; writer = withPackets (w .«packet_count» + 1) (set (w .packets) (w .«packet_count») (r .slot)) w })
 
 -- what is made of a state is what a write to so many bytes leaves
 pub record Makes (r : Framerate) (room : ℕ) (w : CCDataWriter) (m : Made) : Type 0 where

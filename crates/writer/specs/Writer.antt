@@ -1,4 +1,5 @@
--- The multiplexer's state: what it is in the model, the states that break a limit, and the places of what a call leaves. Assumes nothing.
+-- The multiplexer's state: what it is in the model, the states that break a limit, and the places of what a call leaves: [S1] to
+-- [S3] and [W14]. Assumes nothing.
 use mathlib.Core.Bool.{Bool, cond, not, _&&_}
 use mathlib.Core.List.{List, [], _∷_, map}
 use Prim.Native.Nat.{ℕ, _-_, _*_, _/_}
@@ -6,11 +7,10 @@ use lib.Dec.{eqb, leb}
 use lib.ListN.{length, getD, take, drop, replicate}
 use lib.Seq.{sets}
 use Rattle.model.specs.Lists.{every}
-use Rattle.model.specs.Packet.{packetLength, writtenPacket}
 use Rattle.model.specs.Mux.{Mux, freshMux, validMux, started}
 use Rattle.writer_turns.specs.Queue.{queueOf, queueOver}
 use Rattle.writer_turns.specs.declared.PairQueue.{PairQueue}
-use Rattle.slots.specs.Slot.{slotWith, writtenLength, writtenBytes, readSlot, writtenSlot}
+use Rattle.slots.specs.Slot.{slotWith, slotOf, writtenLength, writtenBytes, readSlot, writtenSlot}
 use Rattle.slots.specs.declared.Slot.{Slot}
 use Rattle.slots.specs.Row.{validSending}
 use Rattle.writer.specs.declared.CCDataWriter.{CCDataWriter}
@@ -36,7 +36,7 @@ inOrder w =
     && (leb (2 * w .field2 .count) (length (w .field2 .bytes))
     && (validSending (w .sending) (w .sent) && every writtenSlot (take (w .«packet_count») (w .packets)))))
 
--- a state within its limits [W14]; any other is 11 [R11]
+-- within the limits [W14]; else every call refuses with 11 [R11]
 unfoldable pub validWriter : CCDataWriter → Bool
 validWriter w = inOrder w && validMux (means w)
 
@@ -64,7 +64,7 @@ fresh =
 -- where a push or a switch leaves a multiplexer: the packets behind those that were there are in the next slots, as they are written
 abbrev pub stored : CCDataWriter → Mux → CCDataWriter
 stored w x =
-    let slots = map (λ p. slotWith (packetLength p) (writtenPacket p)) (drop (w .«packet_count») (x .packets)) in
+    let slots = map slotOf (drop (w .«packet_count») (x .packets)) in
     laidIn (w .field1) (w .field2) (w .sending) (w .sent) (sets (w .packets) (w .«packet_count») slots) x
 
 -- where a flush leaves it: no slot is being sent

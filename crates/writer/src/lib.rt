@@ -1,8 +1,6 @@
 // The multiplexer: packets and CEA-608 pairs in, frames of `cc_data` out.
-use basics::MOST_PACKETS;
 use basics::MOST_QUEUED;
 use caption::Answer;
-use caption::Budgets;
 use caption::Cea608;
 use caption::Counted;
 use caption::Framerate;
@@ -11,23 +9,22 @@ use caption::Truth;
 use packet::DTVCCPacket;
 use slots::Slot;
 use slots::slots_written;
-use writer_building::Made;
-use writer_frames::Frame;
-use writer_sending::bytes_left;
+use writer_building::Source;
 use writer_sending::move_down;
+use writer_sending::packets_duration;
+use writer_storing::place;
 use writer_turns::PairQueue;
 ghost use mathlib.Core.Path.{_≡_};
-ghost use mathlib.Core.Bool.{true, false, cond, _&&_};
-ghost use Prim.Native.Nat.{_≤_};
+ghost use mathlib.Core.Bool.{cond, _&&_};
 ghost use Rattle.model.specs.Said.{gave, measured, checked};
 ghost use Rattle.model.specs.Mux.{freshMux, withPads, flushMux, pushPacket, pushCea608};
-ghost use Rattle.model.specs.Duration.{pairsDuration, bytesDuration, field1Duration, field2Duration, packetDuration};
+ghost use Rattle.model.specs.Duration.{field1Duration, field2Duration, packetDuration};
 ghost use Rattle.caption.specs.Answers.{saidTruth};
 ghost use Rattle.caption.specs.Pairs.{cea608Of};
 ghost use Rattle.packet.specs.Packet.{packetOf, validDTVCC};
 ghost use Rattle.writer.specs.Writer.{means, validWriter, fresh, stored, emptied};
 ghost use Rattle.writer.specs.Calls.{saidMicros, Answers, Writes};
-ghost use Rattle.writer.specs.Making.{refusedOf, builtFrom, unmadeOf, withFields, pairOutcome, Stores, Makes};
+ghost use Rattle.writer.specs.Making.{refusedOf, sourceOf, withFields, pairOutcome};
 
 // The multiplexer: the two switches, the queue of packets, the packet being sent and how many of its bytes have left, each field's queue,
 // and whether field 2 has the next turn.
@@ -61,6 +58,13 @@ pub enum Micros {
     Refused(Refusal),
 }
 
+// What pushing a pair answers, and the queues after it.
+struct Pushed {
+    answer: Answer,
+    field1: PairQueue,
+    field2: PairQueue,
+}
+
 impl CCDataWriter {
     // A multiplexer with nothing queued, and no padding.
     pub fn new() -> CCDataWriter
@@ -85,6 +89,23 @@ impl CCDataWriter {
             field2: queue,
             field2_next: false,
         }
+    }
+
+    // Whether the state is within its limits.
+    pub fn is_valid(self) -> bool
+        ensures { λ r. ⌜ r ≡ validWriter self ⌝ }
+    {
+        let field1 = self.field1;
+        let field2 = self.field2;
+        let slot = self.sending;
+        if MOST_QUEUED < field1.count {
+            return false;
+        }
+        if MOST_QUEUED < field2.count {
+            return false;
+        }
+        let packets = self.packets;
+        slots_written(slot, self.sent, packets, self.packet_count)
     }
 
     // Whether to output padding CEA-608 bytes where not enough has been pushed.
@@ -143,31 +164,17 @@ impl CCDataWriter {
     {
         let mut packets = self.packets;
         let mut count = self.packet_count;
-        let valid = self.is_valid();
-        let placed = self.place(valid, packet);
+        let placed = place(self.is_valid(), count, packet);
         let answer = placed.answer;
         let slot = placed.slot;
         if placed.stored {
             packets[count] = slot;
             count += 1;
         }
-        let sending = self.sending;
-        let field1 = self.field1;
-        let field2 = self.field2;
-        WriterAnswer {
-            answer,
-            writer: CCDataWriter {
-                output_cea608_padding: self.output_cea608_padding,
-                output_padding: self.output_padding,
-                packet_count: count,
-                packets,
-                sending,
-                sent: self.sent,
-                field1,
-                field2,
-                field2_next: self.field2_next,
-            },
-        }
+        let mut writer = self;
+        writer.packets = packets;
+        writer.packet_count = count;
+        WriterAnswer { answer, writer }
     }
 
     // Pushes a CEA-608 byte pair.
@@ -176,35 +183,6 @@ impl CCDataWriter {
     {
         let valid = self.is_valid();
         self.push_pair(valid, cea608)
-    }
-
-    // Writes the next frame at a rate: 608 pairs by turns, then packet triples.
-    pub fn write(self, rate: Framerate, out: &mut [u8]) -> WriterCount
-        ensures { λ r. ⌜ Writes rate (now (out .entry)) self r (now (out .exit)) ⌝ }
-    {
-        let valid = self.is_valid();
-        let made = self.make(valid, rate, out.len());
-        let frame = made.frame;
-        frame.emit(out);
-        let slots = self.packets;
-        let packets = move_down(slots, self.packet_count, made.next);
-        let left = self.packet_count - made.next;
-        let answer = made.answer;
-        let sending = made.slot;
-        let field1 = made.field1;
-        let field2 = made.field2;
-        let writer = CCDataWriter {
-            output_cea608_padding: self.output_cea608_padding,
-            output_padding: self.output_padding,
-            packet_count: left,
-            packets,
-            sending,
-            sent: made.sent,
-            field1,
-            field2,
-            field2_next: made.field2_next,
-        };
-        WriterCount { answer, writer }
     }
 
     // Drops what is queued, and the packet being sent.
@@ -238,7 +216,7 @@ impl CCDataWriter {
     {
         if self.is_valid() {
             let queue = self.field1;
-            return Micros::Of(pairs_duration(queue.count));
+            return Micros::Of(queue.duration());
         }
         Micros::Refused(Refusal::BadValue)
     }
@@ -249,7 +227,7 @@ impl CCDataWriter {
     {
         if self.is_valid() {
             let queue = self.field2;
-            return Micros::Of(pairs_duration(queue.count));
+            return Micros::Of(queue.duration());
         }
         Micros::Refused(Refusal::BadValue)
     }
@@ -261,64 +239,40 @@ impl CCDataWriter {
         if self.is_valid() {
             let packets = self.packets;
             let slot = self.sending;
-            let bytes = bytes_left(packets, self.packet_count, slot, self.sent);
-            return Micros::Of(bytes_duration(bytes));
+            return Micros::Of(packets_duration(packets, self.packet_count, slot, self.sent));
         }
         Micros::Refused(Refusal::BadValue)
     }
 
-    // Whether the state is within its limits.
-    pub fn is_valid(self) -> bool
-        ensures { λ r. ⌜ r ≡ validWriter self ⌝ }
+    // Writes the next frame at a rate: 608 pairs by turns, then packet triples.
+    pub fn write(self, rate: Framerate, out: &mut [u8]) -> WriterCount
+        ensures { λ r. ⌜ Writes rate (now (out .entry)) self r (now (out .exit)) ⌝ }
     {
-        let field1 = self.field1;
-        let field2 = self.field2;
-        let slot = self.sending;
-        if MOST_QUEUED < field1.count {
-            return false;
-        }
-        if MOST_QUEUED < field2.count {
-            return false;
-        }
-        let packets = self.packets;
-        slots_written(slot, self.sent, packets, self.packet_count)
-    }
-
-    // A state outside its limits is refused, and stays as it was.
-    fn refused(self) -> WriterAnswer
-        ensures { λ r. ⌜ r ≡ refusedOf self ⌝ }
-    {
-        WriterAnswer {
-            answer: Answer::Refused(Refusal::BadValue),
-            writer: self,
-        }
-    }
-
-    // The slot that a packet is written into, where it is stored.
-    fn place(self, valid: bool, packet: DTVCCPacket) -> Placed
-        requires { ⌜ valid ≡ validWriter self ⌝ }
-        ensures { λ r. ⌜ Stores packet self r ⌝ }
-    {
-        if valid {
-            let length = packet.len();
-            let Counted::Count(len) = length else {
-                return unplaced(Answer::Refused(Refusal::BadValue));
-            };
-            if len == 0 {
-                return unplaced(Answer::Accepted);
-            }
-            if self.packet_count == MOST_PACKETS {
-                return unplaced(Answer::Refused(Refusal::Full));
-            }
-            let mut bytes = [0u8; 128];
-            packet.write(&mut bytes);
-            return Placed {
-                answer: Answer::Accepted,
-                stored: true,
-                slot: Slot { len, bytes },
-            };
-        }
-        unplaced(Answer::Refused(Refusal::BadValue))
+        let valid = self.is_valid();
+        let source = self.source();
+        let waiting = self.packets;
+        let made = source.make(waiting, valid, rate, out.len());
+        let frame = made.frame;
+        frame.emit(out);
+        let slots = self.packets;
+        let packets = move_down(slots, self.packet_count, made.next);
+        let left = self.packet_count - made.next;
+        let answer = made.answer;
+        let sending = made.slot;
+        let field1 = made.field1;
+        let field2 = made.field2;
+        let writer = CCDataWriter {
+            output_cea608_padding: self.output_cea608_padding,
+            output_padding: self.output_padding,
+            packet_count: left,
+            packets,
+            sending,
+            sent: made.sent,
+            field1,
+            field2,
+            field2_next: made.field2_next,
+        };
+        WriterCount { answer, writer }
     }
 
     // The queues after a pair, which goes to its field's.
@@ -386,113 +340,32 @@ impl CCDataWriter {
         }
     }
 
-    // The frame at a rate, for an output of `room` bytes, and what it leaves.
-    fn make(self, valid: bool, rate: Framerate, room: usize) -> Made
-        requires { ⌜ valid ≡ validWriter self ⌝ }
-        ensures { λ r. ⌜ Makes rate room self r ⌝ }
+    // A state outside its limits is refused, and stays as it was.
+    fn refused(self) -> WriterAnswer
+        ensures { λ r. ⌜ r ≡ refusedOf self ⌝ }
     {
-        if valid {
-            let budgets = rate.budgets();
-            let Budgets::Of { pairs, triples } = budgets else {
-                return self.unmade(Counted::Refused(Refusal::BadRate));
-            };
-            let made = self.build(pairs, triples);
-            let frame = made.frame;
-            let needed = frame.len;
-            if room < needed {
-                return self.unmade(Counted::Refused(Refusal::OutShort { needed }));
-            }
-            return made;
+        WriterAnswer {
+            answer: Answer::Refused(Refusal::BadValue),
+            writer: self,
         }
-        self.unmade(Counted::Refused(Refusal::BadValue))
     }
 
-    // The frame at budgets of `pairs` and `triples`, and what it leaves.
-    fn build(self, pairs: usize, triples: usize) -> Made
-        ensures { λ r. ⌜ r ≡ builtFrom pairs triples self ⌝ }
+    // What the next frame is made of beside the slots.
+    fn source(self) -> Source
+        ensures { λ r. ⌜ r ≡ sourceOf self ⌝ }
     {
-        let slots = self.packets;
-        let slot = self.sending;
         let field1 = self.field1;
         let field2 = self.field2;
-        writer_building::build(
-            self.output_cea608_padding,
-            self.output_padding,
-            pairs,
-            triples,
-            field1,
-            field2,
-            self.field2_next,
-            slots,
-            self.packet_count,
-            slot,
-            self.sent,
-        )
-    }
-
-    // What is made where no frame is written.
-    fn unmade(self, answer: Counted) -> Made
-        ensures { λ r. ⌜ r ≡ unmadeOf self answer ⌝ }
-    {
         let slot = self.sending;
-        let field1 = self.field1;
-        let field2 = self.field2;
-        Made {
-            answer,
-            frame: Frame {
-                bytes: [0; 95],
-                len: 0,
-            },
+        Source {
+            pad: self.output_cea608_padding,
+            padding: self.output_padding,
             field1,
             field2,
             field2_next: self.field2_next,
+            queued: self.packet_count,
             slot,
             sent: self.sent,
-            next: 0,
         }
     }
-}
-
-// What pushing a pair answers, and the queues after it.
-struct Pushed {
-    answer: Answer,
-    field1: PairQueue,
-    field2: PairQueue,
-}
-
-// What pushing a packet answers, and whether it is stored, in which slot.
-struct Placed {
-    answer: Answer,
-    stored: bool,
-    slot: Slot,
-}
-
-// Where no packet is stored.
-fn unplaced(answer: Answer) -> Placed
-    ensures { λ r. ⌜ (r .answer ≡ answer) × (r .stored ≡ false) ⌝ }
-{
-    Placed {
-        answer,
-        stored: false,
-        slot: Slot {
-            len: 0,
-            bytes: [0; 128],
-        },
-    }
-}
-
-// `n` pairs take 1001/60000 of a second each: microseconds, upward.
-fn pairs_duration(n: usize) -> u64
-    requires { ⌜ n ≤ 64 ⌝ }
-    ensures { λ r. ⌜ r ≡ pairsDuration n ⌝ }
-{
-    (n as u64 * 1_001_000_000 + 59_999) / 60_000
-}
-
-// Bytes leave two at a time, at 1200000 in 1001 seconds: microseconds, upward.
-fn bytes_duration(bytes: usize) -> u64
-    requires { ⌜ bytes ≤ 4096 ⌝ }
-    ensures { λ r. ⌜ r ≡ bytesDuration bytes ⌝ }
-{
-    ((bytes as u64 + 1) / 2 * 2_002_000_000 + 1_199_999) / 1_200_000
 }

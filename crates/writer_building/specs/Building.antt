@@ -1,20 +1,26 @@
--- A frame put together, whatever the queues and the slots hold. No public contract of `writer` reaches this file:
--- in a state within the limits it is proved to be the frame of the model. Assumes nothing.
+-- A frame put together, whatever the queues and the slots hold. No public contract of `writer` reaches this file: in a state
+-- within the limits it is proved to be the frame of the model. Assumes nothing.
 use mathlib.Core.Bool.{Bool, cond}
 use mathlib.Core.List.{List}
 use Prim.Native.Nat.{ℕ, _*_, _%_, min, max}
+use lib.Dec.{ltb}
+use lib.ListN.{take, replicate}
+use Rattle.model.specs.Said.{Outcome, gave, refused}
+use Rattle.model.specs.Rate.{Budgets}
 use Rattle.model.specs.Mux.{mostQueued}
-use Rattle.caption.specs.declared.Counted.the-variants.{Count}
+use Rattle.caption.specs.declared.Counted.the-variants.{Count, Refused}
+use Rattle.caption.specs.declared.Refusal.{Refusal}
+use Rattle.caption.specs.declared.Refusal.the-variants.{BadRate, OutShort}
 use Rattle.writer_frames.specs.Frame.{headed}
 use Rattle.writer_turns.specs.Turn.{fits, takenFrom}
-use Rattle.writer_turns.specs.declared.PairQueue.{PairQueue}
 use Rattle.writer_turns.specs.declared.Turns.{Turns}
 use Rattle.slots.specs.declared.Slot.{Slot}
 use Rattle.writer_sending.specs.Slots.{countOf, filled}
 use Rattle.writer_sending.specs.declared.Sending.{Sending}
+use Rattle.writer_building.specs.declared.Source.{Source}
 use Rattle.writer_building.specs.declared.Made.{Made}
 
--- the turns of a frame [W1]. A queue of field 2 has at most its places.
+-- the turns of a frame [W1]; a queue of field 2 has at most its places
 abbrev pub turnsOf : Bool → ℕ → ℕ → ℕ → ℕ
 turnsOf pad pairs n1 n2 = cond pad pairs (min pairs (max n1 (2 * min n2 mostQueued)))
 
@@ -37,9 +43,33 @@ madeOf t s =
     }
 
 -- the turns, then packet triples up to the count, then padding
-unfoldable pub built : Bool → Bool → ℕ → ℕ → PairQueue → PairQueue → Bool → List Slot → Slot → ℕ → Made
-built pad padding pairs triples q1 q2 next2 slots slot sent =
-    let due = turnsOf pad pairs (q1 .count) (q2 .count) in
-    let count = countOf padding triples due slots slot sent in
-    let turns = takes due pad (record { field1 = q1; field2 = q2; «field2_next» = next2; frame = headed (count % 32) }) in
-    madeOf turns (filled slots slot sent (turns .frame) count padding)
+unfoldable pub built : ℕ → ℕ → List Slot → Source → Made
+built pairs triples packets s =
+    let slots = take (s .queued) packets in
+    let due = turnsOf (s .pad) pairs (s .field1 .count) (s .field2 .count) in
+    let count = countOf (s .padding) triples due slots (s .slot) (s .sent) in
+    let turns = takes due (s .pad) (record { field1 = s .field1; field2 = s .field2; «field2_next» = s .«field2_next»; frame = headed (count % 32) }) in
+    madeOf turns (filled slots (s .slot) (s .sent) (turns .frame) count (s .padding))
+
+-- where no frame is written all is left [A2]
+abbrev pub unmadeOf : Source → Refusal → Made
+unmadeOf s why =
+    record {
+      answer = Refused why;
+      frame = record { bytes = replicate 95 0; len = 0 };
+      field1 = s .field1;
+      field2 = s .field2;
+      «field2_next» = s .«field2_next»;
+      slot = s .slot;
+      sent = s .sent;
+      next = 0;
+    }
+
+-- a frame that an output of `room` bytes holds; else [R9] tells how many it has
+abbrev pub shownIn : ℕ → Source → Made → Made
+shownIn room s m = cond (ltb room (m .frame .len)) (unmadeOf s (OutShort (m .frame .len))) m
+
+-- the frame at a rate's budgets, for an output of `room` bytes; none without budgets [R8]
+unfoldable pub madeAt : ℕ → List Slot → Source → Outcome Budgets → Made
+madeAt room packets s (gave b) = shownIn room s (built (b .pairs) (b .triples) packets s)
+madeAt room packets s (refused why) = unmadeOf s BadRate

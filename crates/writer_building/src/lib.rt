@@ -1,7 +1,10 @@
 // A frame put together: the turns of the two fields, the packet triples and the padding, and what they leave.
 use basics::MOST_QUEUED;
 use basics::lesser;
+use caption::Budgets;
 use caption::Counted;
+use caption::Framerate;
+use caption::Refusal;
 use slots::Slot;
 use writer_frames::Frame;
 use writer_sending::Sending;
@@ -10,9 +13,24 @@ use writer_sending::fill;
 use writer_turns::PairQueue;
 use writer_turns::Turns;
 ghost use mathlib.Core.Path.{_≡_};
+ghost use mathlib.Core.Bool.{cond};
 ghost use Prim.Native.Nat.{max};
-ghost use lib.ListN.{take};
-ghost use Rattle.writer_building.specs.Building.{turnsOf, madeOf, built};
+ghost use Rattle.model.specs.Rate.{budgets};
+ghost use Rattle.caption.specs.declared.Refusal.the-variants.{BadValue};
+ghost use Rattle.writer_building.specs.Building.{turnsOf, madeOf, built, unmadeOf, madeAt};
+
+// What a frame is made of beside the slots: the two switches, the queues of pairs and whose turn is next, how many packets wait, and the packet
+// being sent with how many of its bytes have left.
+pub struct Source {
+    pub pad: bool,
+    pub padding: bool,
+    pub field1: PairQueue,
+    pub field2: PairQueue,
+    pub field2_next: bool,
+    pub queued: usize,
+    pub slot: Slot,
+    pub sent: usize,
+}
 
 // What writing a frame answers, the frame, and what it leaves of the state: each field's queue, whose turn is next, the packet being sent and
 // how many of its bytes have left; `next` packets of the queue were begun.
@@ -64,34 +82,84 @@ fn made_of(t: Turns, s: Sending) -> Made
     }
 }
 
-// The frame at budgets of `pairs` and `triples`, and what it leaves: `pad` and `padding` are the two switches, `field1`, `field2` and
-// `field2_next` the queues of pairs and whose turn is next, `packets`, `queued`, `slot` and `sent` the packets that wait and the one being sent.
-pub fn build(
-    pad: bool,
-    padding: bool,
-    pairs: usize,
-    triples: usize,
-    field1: PairQueue,
-    field2: PairQueue,
-    field2_next: bool,
-    packets: [Slot; 16],
-    queued: usize,
-    slot: Slot,
-    sent: usize,
-) -> Made
-    ensures { λ r. ⌜ r ≡ built pad padding pairs triples field1 field2 «field2_next» (take queued packets) slot sent ⌝ }
-{
-    let turns = turns_of(pad, pairs, field1.count, field2.count);
-    let count = count_of(padding, triples, turns, packets, queued, slot, sent);
-    let empty = Frame::start(count);
-    let start = Turns {
-        field1,
-        field2,
-        field2_next,
-        frame: empty,
-    };
-    let t = start.take(pad, turns);
-    let frame = t.frame;
-    let s = fill(packets, queued, slot, sent, frame, count, padding);
-    made_of(t, s)
+impl Source {
+    // The frame at budgets of `pairs` and `triples`, and what it leaves.
+    fn build(self, packets: [Slot; 16], pairs: usize, triples: usize) -> Made
+        ensures { λ r. ⌜ r ≡ built pairs triples packets self ⌝ }
+    {
+        let field1 = self.field1;
+        let field2 = self.field2;
+        let slot = self.slot;
+        let turns = turns_of(self.pad, pairs, field1.count, field2.count);
+        let count = count_of(
+            self.padding,
+            triples,
+            turns,
+            packets,
+            self.queued,
+            slot,
+            self.sent,
+        );
+        let empty = Frame::start(count);
+        let start = Turns {
+            field1,
+            field2,
+            field2_next: self.field2_next,
+            frame: empty,
+        };
+        let t = start.take(self.pad, turns);
+        let frame = t.frame;
+        let s = fill(
+            packets,
+            self.queued,
+            slot,
+            self.sent,
+            frame,
+            count,
+            self.padding,
+        );
+        made_of(t, s)
+    }
+
+    // What is made where no frame is written: all is left.
+    fn unmade(self, why: Refusal) -> Made
+        ensures { λ r. ⌜ r ≡ unmadeOf self why ⌝ }
+    {
+        let field1 = self.field1;
+        let field2 = self.field2;
+        let slot = self.slot;
+        Made {
+            answer: Counted::Refused(why),
+            frame: Frame {
+                bytes: [0; 95],
+                len: 0,
+            },
+            field1,
+            field2,
+            field2_next: self.field2_next,
+            slot,
+            sent: self.sent,
+            next: 0,
+        }
+    }
+
+    // The frame at a rate, for an output of `room` bytes, and what it leaves; of a source that is not `valid` none is made.
+    pub fn make(self, packets: [Slot; 16], valid: bool, rate: Framerate, room: usize) -> Made
+        ensures { λ r. ⌜ r ≡ cond valid (madeAt room packets self (budgets (rate .numer) (rate .denom))) (unmadeOf self BadValue) ⌝ }
+    {
+        if valid {
+            let budgets = rate.budgets();
+            let Budgets::Of { pairs, triples } = budgets else {
+                return self.unmade(Refusal::BadRate);
+            };
+            let made = self.build(packets, pairs, triples);
+            let frame = made.frame;
+            let needed = frame.len;
+            if room < needed {
+                return self.unmade(Refusal::OutShort { needed });
+            }
+            return made;
+        }
+        self.unmade(Refusal::BadValue)
+    }
 }

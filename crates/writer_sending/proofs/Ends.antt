@@ -16,7 +16,7 @@ use Rattle.slots.specs.Walk.{Carries}
 use Rattle.slots.proofs.Written.{carried as carries-packet}
 use Rattle.slots.specs.declared.Slot.{Slot}
 use Rattle.writer_sending.proofs.Triples.{leftFrom, Held, left-length, left-drop, left-end}
-use Rattle.writer_sending.proofs.Sends.{slotPackets, send-over, send-under, send-last, held-begun, begun-triples}
+use Rattle.writer_sending.proofs.Sends.{readSlots, send-over, send-under, send-last, held-begun, begun-triples}
 
 -- triples that are left of a slot
 pub record Tail (s : Slot) (ts : List Triple) : Type 0 where
@@ -55,13 +55,14 @@ module _ (s : Slot) (at : ℕ) (h : Held s at) where
 -- what is left of a queue of slots, and of the slot begun last
 pub record Ends (ss : List Slot) (slot : Slot) (r : Sent) : Type 0 where
   pub few : length (r .packets) ≤ length ss
-  pub back : r .packets ≡ drop (length ss - length (r .packets)) (slotPackets ss)
+  pub back : r .packets ≡ drop (length ss - length (r .packets)) (readSlots ss)
   pub tail : Tail (getD (slot ∷ ss) (length ss - length (r .packets)) noSlot) (r .sending)
 
 -- no other packet is begun
-ends-here : (ss : List Slot) (slot : Slot) (at m : ℕ) → Held slot at → Ends ss slot (record { out = take m (leftFrom at (writtenBytes slot)); sending = drop m (leftFrom at (writtenBytes slot)); packets = slotPackets ss })
+ends-here : (ss : List Slot) (slot : Slot) (at m : ℕ) → Held slot at
+    → Ends ss slot (record { out = take m (leftFrom at (writtenBytes slot)); sending = drop m (leftFrom at (writtenBytes slot)); packets = readSlots ss })
 ends-here ss slot at m h =
-    let l : length (slotPackets ss) ≡ length ss = length-map ss readSlot in
+    let l : length (readSlots ss) ≡ length ss = length-map ss readSlot in
     let d : length ss - length ss ≡ 0 = omega arith in
     record { few = omega arith; back = rw (l, d); tail = rw (l, d) (tail-after slot at h m) }
 
@@ -73,7 +74,7 @@ ends-onward s slot ss ts r e =
     record { few = omega arith; back = rw d (e .back); tail = rw d (e .tail) }
 
 -- the law of what is left
-pub ends : (ss : List Slot) (slot : Slot) (at m : ℕ) → every writtenSlot ss ≡ true → Held slot at → Ends ss slot (send m (leftFrom at (writtenBytes slot)) (slotPackets ss))
+pub ends : (ss : List Slot) (slot : Slot) (at m : ℕ) → every writtenSlot ss ≡ true → Held slot at → Ends ss slot (send m (leftFrom at (writtenBytes slot)) (readSlots ss))
 unfolding every
 ends [] slot at m all h = rw (send-last m (leftFrom at (writtenBytes slot))) (ends-here [] slot at m h)
 ends (s ∷ ss) slot at m all h =
@@ -81,7 +82,7 @@ ends (s ∷ ss) slot at m all h =
     let t = both (writtenSlot s) (every writtenSlot ss) all in
     let k : Carries s = carries-packet s (t .0) in
     by-test (leb m (length ts))
-    (λ e. rw (send-under m ts (readSlot s) (slotPackets ss) (leb-true m (length ts) e)) (ends-here (s ∷ ss) slot at m h))
-    (λ e. rw (send-over m ts (readSlot s) (slotPackets ss) (leb-false m (length ts) e), begun-triples s k)
-    (ends-onward s slot ss ts (send (m - length ts) (leftFrom 0 (writtenBytes s)) (slotPackets ss))
+    (λ e. rw (send-under m ts (readSlot s) (readSlots ss) (leb-true m (length ts) e)) (ends-here (s ∷ ss) slot at m h))
+    (λ e. rw (send-over m ts (readSlot s) (readSlots ss) (leb-false m (length ts) e), begun-triples s k)
+    (ends-onward s slot ss ts (send (m - length ts) (leftFrom 0 (writtenBytes s)) (readSlots ss))
     (ends ss s 0 (m - length ts) (t .1) (held-begun s k))))

@@ -20,7 +20,7 @@ use Rattle.slots.specs.Slot.{noSlot, writtenLength, writtenBytes, writtenSlot}
 use Rattle.slots.specs.declared.Slot.{Slot}
 use Rattle.writer_sending.specs.Slots.{triplesLeft, sentOver, lacks, padded, startsAt, filled}
 use Rattle.writer_sending.proofs.Triples.{leftFrom, Held, left-triples}
-use Rattle.writer_sending.proofs.Sends.{slotPackets, stands, sends-stand}
+use Rattle.writer_sending.proofs.Sends.{readSlots, stands, sends-stand}
 use Rattle.writer_sending.proofs.Ends.{ends}
 
 -- no more triples than are due
@@ -40,10 +40,11 @@ padded-is true f t count ts len room few =
     rw (k, fits-true (appended f (flat ts)) (count - t - length ts) (omega (arith, flat-length ts))) (appended-flat f ts (fillers (count - t - length ts)))
 padded-is false f t count ts len room few = rw (append-nil ts)
 
-module _ (l : List Slot) (slot : Slot) (sent : ℕ) (f : Frame) (t count : ℕ) (e : every writtenSlot l ≡ true) (h : Held slot sent) (len : f .len ≡ 2 + 3 * t) (within : t ≤ count) (few : count ≤ 31) where
+module _ (l : List Slot) (slot : Slot) (sent : ℕ) (f : Frame) (t count : ℕ) (e : every writtenSlot l ≡ true) (h : Held slot sent)
+    (len : f .len ≡ 2 + 3 * t) (within : t ≤ count) (few : count ≤ 31) where
   -- what the model sends
   abbrev sends : Sent
-  sends = send (count - t) (leftFrom sent (writtenBytes slot)) (slotPackets l)
+  sends = send (count - t) (leftFrom sent (writtenBytes slot)) (readSlots l)
 
   -- so many packets are begun
   abbrev begun : ℕ
@@ -71,8 +72,13 @@ module _ (l : List Slot) (slot : Slot) (sent : ℕ) (f : Frame) (t count : ℕ) 
 
   -- in all
   pub filled-is : (on : Bool) → filled l slot sent f count on
-      ≡ record { slot = record { len = cond none 0 (last .len); bytes = last .bytes }; sent = cond none 0 gone; next = begun; frame = appended f (flat (sends .out ++ padding on (count - t - length (sends .out)))) }
+      ≡ record {
+        slot = record { len = cond none 0 (last .len); bytes = last .bytes };
+        sent = cond none 0 gone;
+        next = begun;
+        frame = appended f (flat (sends .out ++ padding on (count - t - length (sends .out))));
+      }
   unfolding filled
   filled-is on =
       let z : 0 + begun ≡ begun = omega arith in
-      rw (sent-is, left-is, z, padded-is on f t count (sends .out) len (omega (arith, send-few (count - t) (leftFrom sent (writtenBytes slot)) (slotPackets l))) few)
+      rw (sent-is, left-is, z, padded-is on f t count (sends .out) len (omega (arith, send-few (count - t) (leftFrom sent (writtenBytes slot)) (readSlots l))) few)

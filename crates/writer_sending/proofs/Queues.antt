@@ -69,10 +69,12 @@ module _ (l : List Slot) (count : ℕ) (n : length l ≡ 16) where
 
   module _ (s₀ s : Sending) (m₀ m i : ℕ) (w : Running s₀ s m₀ m i) where
     -- one packet more
-    pub running-more : (k : ℕ) (f : Frame) → i < min count 16 → k ≡ leftOf s → k < m → f ≡ carriedBy k s .frame → Running s₀ (record { slot = getD l i noSlot; sent = 0; next = i + 1; frame = f }) m₀ (m - k) (i + 1)
+    pub running-more : (k : ℕ) (f : Frame) → i < min count 16 → k ≡ leftOf s → k < m → f ≡ carriedBy k s .frame
+        → Running s₀ (record { slot = getD l i noSlot; sent = 0; next = i + 1; frame = f }) m₀ (m - k) (i + 1)
     unfolding sentOver
     running-more k f h e g z =
-        let a : sentOver (drop i (take count l)) m s ≡ sentOver (drop (i + 1) (take count l)) (m - leftOf s) (onward (getD l i noSlot) s) = rw (next-slot i h, lt-leb m (leftOf s) (omega (arith, e))) in
+        let a : sentOver (drop i (take count l)) m s ≡ sentOver (drop (i + 1) (take count l)) (m - leftOf s) (onward (getD l i noSlot) s) =
+        rw (next-slot i h, lt-leb m (leftOf s) (omega (arith, e))) in
         record { some = omega arith; at = refl; same = let n : s .next + 1 ≡ i + 1 = omega (arith, w .at) in rw (z, e) (sym (rw n at a) ∙ w .same) }
 
     -- the packet being sent has enough

@@ -25,8 +25,8 @@ use Rattle.writer_sending.proofs.Triples.{leftFrom, Held, left-length, 
 use Rattle.writer_sending.specs.declared.Sending.{Sending}
 
 -- the packets that slots are
-abbrev pub slotPackets : List Slot → List Packet
-slotPackets l = map readSlot l
+abbrev pub readSlots : List Slot → List Packet
+readSlots l = map readSlot l
 
 -- what leaves the queue does not come back
 pub send-fewer : (m : ℕ) (ts : List Triple) (ps : List Packet) → length (send m ts ps .packets) ≤ length ps
@@ -68,7 +68,7 @@ pub begun-triples : (s : Slot) → Carries s → packetTriples (readSlot s) ≡ 
 begun-triples s c = c .triples
 
 -- the triples of the slots are those of the packets
-pub triples-queued : (l : List Slot) → every writtenSlot l ≡ true → triplesOf l ≡ triplesQueued (slotPackets l)
+pub triples-queued : (l : List Slot) → every writtenSlot l ≡ true → triplesOf l ≡ triplesQueued (readSlots l)
 unfolding every summed triplesQueued
 triples-queued [] e = refl
 triples-queued (s ∷ l) e =
@@ -78,7 +78,7 @@ triples-queued (s ∷ l) e =
     rw (triples-queued l (t .1), begun-triples s c, n, left-triples s 0 (held-begun s c))
 
 -- and so are their lengths
-pub lengths-queued : (l : List Slot) → every writtenSlot l ≡ true → lengthsIn l ≡ lengthsOf (slotPackets l)
+pub lengths-queued : (l : List Slot) → every writtenSlot l ≡ true → lengthsIn l ≡ lengthsOf (readSlots l)
 unfolding every summed lengthsOf
 lengths-queued [] e = refl
 lengths-queued (s ∷ l) e =
@@ -119,20 +119,29 @@ module _ (s : Sending) (m : ℕ) (h : Held (s .slot) (s .sent)) (room : s .frame
 
   -- where it stands once the next packet is begun
   stands-onward : (x : Slot) (l : List Slot) → Carries x → leftOf s < m
-      → stands l (onward x s) (send (m - leftOf s) (leftFrom 0 (writtenBytes x)) (slotPackets l)) ≡ stands (x ∷ l) s (send m ts (slotPackets (x ∷ l)))
+      → stands l (onward x s) (send (m - leftOf s) (leftFrom 0 (writtenBytes x)) (readSlots l)) ≡ stands (x ∷ l) s (send m ts (readSlots (x ∷ l)))
   stands-onward x l c g =
-      let r : Sent = send (m - length ts) (leftFrom 0 (writtenBytes x)) (slotPackets l) in
+      let r : Sent = send (m - length ts) (leftFrom 0 (writtenBytes x)) (readSlots l) in
       let k : ℕ = length l - length (r .packets) in
-      let d : suc (length l) - length (r .packets) ≡ suc k = omega (arith, send-fewer (m - length ts) (leftFrom 0 (writtenBytes x)) (slotPackets l), length-map l readSlot) in
+      let d : suc (length l) - length (r .packets) ≡ suc k = omega (arith, send-fewer (m - length ts) (leftFrom 0 (writtenBytes x)) (readSlots l), length-map l readSlot) in
       let z : s .next + suc k ≡ s .next + 1 + k = omega arith in
       let v = h .even in
       let w = h .within in
       let q : leftOf s ≡ (writtenLength (s .slot) - s .sent) / 2 = left-triples (s .slot) (s .sent) h in
-      rw (carried (s .frame) (s .slot) (s .sent) (leftOf s) h (omega arith) (omega arith), n-is, take-all (length ts) ts (omega arith), send-over m ts (readSlot x) (slotPackets l) (omega (arith, n-is)), begun-triples x c, d, z, appended-flat (s .frame) ts (r .out))
+      rw (
+        carried (s .frame) (s .slot) (s .sent) (leftOf s) h (omega arith) (omega arith),
+        n-is,
+        take-all (length ts) ts (omega arith),
+        send-over m ts (readSlot x) (readSlots l) (omega (arith, n-is)),
+        begun-triples x c,
+        d,
+        z,
+        appended-flat (s .frame) ts (r .out),
+      )
 
 -- m packet triples, from where sending stands
 pub sends-stand : (l : List Slot) (m : ℕ) (s : Sending) → every writtenSlot l ≡ true → Held (s .slot) (s .sent) → s .frame .len + 3 * m ≤ 95
-    → sentOver l m s ≡ stands l s (send m (leftFrom (s .sent) (writtenBytes (s .slot))) (slotPackets l))
+    → sentOver l m s ≡ stands l s (send m (leftFrom (s .sent) (writtenBytes (s .slot))) (readSlots l))
 unfolding sentOver every
 sends-stand [] m s e h room = rw (send-last m (leftFrom (s .sent) (writtenBytes (s .slot)))) (stands-here s m h room [] [] refl)
 sends-stand (x ∷ l) m s e h room =
@@ -141,7 +150,7 @@ sends-stand (x ∷ l) m s e h room =
     let ts : List Triple = leftFrom (s .sent) (writtenBytes (s .slot)) in
     let n : leftOf s ≡ length ts = n-is s m h room in
     by-test (leb m (leftOf s))
-    (λ f. rw (f, send-under m ts (readSlot x) (slotPackets l) (omega (arith, leb-true m (leftOf s) f))) (stands-here s m h room (x ∷ l) (slotPackets (x ∷ l)) (length-map (x ∷ l) readSlot)))
+    (λ f. rw (f, send-under m ts (readSlot x) (readSlots l) (omega (arith, leb-true m (leftOf s) f))) (stands-here s m h room (x ∷ l) (readSlots (x ∷ l)) (length-map (x ∷ l) readSlot)))
     (λ f. let g : leftOf s < m = leb-false m (leftOf s) f in
     let v = h .even in
     let w = h .within in

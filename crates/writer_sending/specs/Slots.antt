@@ -1,5 +1,5 @@
--- Packet triples slot by slot, whatever the slots hold: how many are left, and what a frame takes of them. No public contract of `writer` reaches
--- this file: where the slots are written packets, it is proved to be what the model sends. Assumes nothing.
+-- Packet triples slot by slot, whatever the slots hold: how many are left, and what a frame takes of them [W7].
+-- No public contract of `writer` reaches this file: where the slots are written packets, it is proved to be what the model sends. Assumes nothing.
 use mathlib.Core.Bool.{Bool, cond, _&&_}
 use mathlib.Core.List.{List, [], _∷_}
 use Prim.Native.Nat.{ℕ, _+_, _-_, _*_, _/_, _%_, min}
@@ -32,7 +32,7 @@ triplesOf l = summed (λ s. triplesLeft (s .len) 0) l
 abbrev pub lengthsIn : List Slot → ℕ
 lengthsIn l = summed (λ s. min (s .len) mostPacket) l
 
--- the count of a frame [W2]
+-- the count of a frame with so many turns [W2]
 abbrev pub countOf : Bool → ℕ → ℕ → List Slot → Slot → ℕ → ℕ
 countOf padding triples turns l slot sent = cond padding triples (min triples (turns + (triplesLeft (slot .len) sent + triplesOf l)))
 
@@ -54,7 +54,7 @@ finished s m = carriedBy (min m (leftOf s)) s
 abbrev pub onward : Slot → Sending → Sending
 onward slot s = let r = carriedBy (leftOf s) s in record { slot = slot; sent = 0; next = r .next + 1; frame = r .frame }
 
--- packet triples up to the count [W7]: m of them, of the packet being sent first, and of the slots behind it
+-- m packet triples, of the packet being sent first, and of the slots behind it [W7]
 unfoldable pub sentOver : List Slot → ℕ → Sending → Sending
 sentOver [] m s = finished s m
 sentOver (x ∷ l) m s = cond (leb m (leftOf s)) (finished s m) (sentOver l (m - leftOf s) (onward x s))
@@ -69,7 +69,7 @@ rested s =
 abbrev pub lacks : ℕ → Frame → ℕ
 lacks count f = count - (f .len - 2) / 3
 
--- padding up to the count [W8]
+-- with output padding on, fillers up to the count [W8]
 abbrev pub padded : Bool → ℕ → Frame → Frame
 padded padding count f = cond (padding && fits f (lacks count f)) (appended f (flat (fillers (lacks count f)))) f
 

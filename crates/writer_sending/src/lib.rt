@@ -8,6 +8,7 @@ ghost use mathlib.Core.Path.{_≡_};
 ghost use Prim.Native.Nat.{_+_, _-_, _*_, _/_, _≤_, min, max};
 ghost use lib.ListN.{take, drop};
 ghost use lib.Seq.{sets};
+ghost use Rattle.model.specs.Duration.{bytesDuration};
 ghost use Rattle.writer_sending.specs.Slots.{triplesLeft, triplesOf, lengthsIn, countOf, finished, sentOver, rested, filled};
 
 // Where sending stands: the packet being sent and how many of its bytes have left, how many packets of the queue were begun, and the frame.
@@ -196,7 +197,7 @@ fn length_in(held: Slot) -> usize
 }
 
 // The lengths of the packets queued, and three bytes for each triple left of the packet being sent.
-pub fn bytes_left(packets: [Slot; 16], count: usize, slot: Slot, sent: usize) -> usize
+fn bytes_left(packets: [Slot; 16], count: usize, slot: Slot, sent: usize) -> usize
     ensures { λ r. ⌜ (r ≡ lengthsIn (take count packets) + 3 * triplesLeft (slot .len) sent) × (r ≤ 4096) ⌝ }
 {
     let queued = lesser(count, MOST_PACKETS);
@@ -208,6 +209,15 @@ pub fn bytes_left(packets: [Slot; 16], count: usize, slot: Slot, sent: usize) ->
         i += 1;
     }
     sum
+}
+
+// How long the packets queued, and what is left of the packet being sent, take to leave: two bytes at a time, 1200000 in 1001 seconds.
+// Microseconds, upward.
+pub fn packets_duration(packets: [Slot; 16], count: usize, slot: Slot, sent: usize) -> u64
+    ensures { λ r. ⌜ r ≡ bytesDuration (lengthsIn (take count packets) + 3 * triplesLeft (slot .len) sent) ⌝ }
+{
+    let bytes = bytes_left(packets, count, slot, sent);
+    ((bytes as u64 + 1) / 2 * 2_002_000_000 + 1_199_999) / 1_200_000
 }
 
 // The slots of the packets left, moved down to the first places, once `begun` of the queue have been begun.

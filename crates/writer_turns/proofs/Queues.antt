@@ -10,11 +10,11 @@ use borrow.Author.Tests.{le-leb, lt-leb}
 use lib.Dec.{leb}
 use lib.ListN.{length, take, drop, getD, length-append, length-drop, take-append-drop}
 use lib.Seq.{length-take-le, take-at, take-all, sets, length-sets}
-use Rattle.model.specs.Said.{Said, Outcome, after, says, mapped, checked, badValue, full, accepted}
+use Rattle.model.specs.Said.{Said, after, says, mapped, badValue, full, accepted}
 use Rattle.model.specs.Frame.{Pair, pair}
-use Rattle.model.specs.Mux.{isNull, pushPair, queued, mostQueued}
+use Rattle.model.specs.Mux.{isNull, pushPair, queued}
 use Rattle.basics.proofs.Runs.{sets-append, sets-front}
-use Rattle.writer_turns.specs.Queue.{pairsOf, queueOf, pairBytes, queueOver}
+use Rattle.writer_turns.specs.Queue.{pairsOf, queueOf, pairBytes, queueOver, pushOutcome}
 use Rattle.writer_turns.specs.Step.{pushed}
 use Rattle.writer_turns.specs.declared.PairQueue.{PairQueue}
 
@@ -150,13 +150,9 @@ down-bytes q n s h e =
 
 -- One law for each way out of a push, in the order of the tests.
 module _ (q : PairQueue) (a b : ℕ) where
-  -- what the push comes to
-  abbrev outcome : Outcome (List Pair)
-  outcome = checked (leb (q .count) mostQueued) (pushPair (pair a b) (queueOf q))
-
   -- what it is to say, and the queue that it is to leave
   abbrev Pushed : Said → PairQueue → Type 0
-  Pushed said r = (said ≡ says outcome) × (r ≡ after q (mapped (queueOver q) outcome))
+  Pushed said r = (said ≡ says (pushOutcome q a b)) × (r ≡ after q (mapped (queueOver q) (pushOutcome q a b)))
 
   -- more pairs than places
   pub push-over : 64 < q .count → Pushed badValue q

@@ -15,7 +15,7 @@ use Rattle.model.proofs.Cases.{by-cond}
 use Rattle.writer_frames.specs.Frame as frames
 use Rattle.writer_frames.proofs.Stores.{fits-true}
 use Rattle.writer_turns.specs.Queue.{pairsOf, queueOf, queueOver}
-use Rattle.writer_turns.specs.Turn.{fits, turnsFrom, takenFrom}
+use Rattle.writer_turns.specs.Turn.{fits, turnsBy, turnsFrom, takenFrom}
 use Rattle.writer_turns.specs.Step.{Fits, Done}
 use Rattle.writer_turns.proofs.Queues.{Sized, no-pairs, some-pairs, pairs-length, queue-length}
 use Rattle.writer_turns.specs.declared.Course.{Course}
@@ -69,6 +69,18 @@ sent-done h a b len f g m k e d =
 
 -- Turns of a frame that has `len` bytes: one law for each way out, in the order of the tests.
 module _ (pad : Bool) (q1 q2 : List ℕ) (len : ℕ) (f : List ℕ) where
+  -- what turns from field 1's on are to do
+  abbrev From1 : ℕ → Course → List ℕ → Type 0
+  From1 n r l = Done (turn1 n pad (pairsOf q1) (pairsOf q2)) len f r l
+
+  -- and from field 2's on
+  abbrev From2 : ℕ → Course → List ℕ → Type 0
+  From2 n r l = Done (turn2 n pad (pairsOf q1) (pairsOf q2)) len f r l
+
+  -- a triple that is put into the frame
+  abbrev Put : List ℕ → ℕ → ℕ → ℕ → Type 0
+  Put g h a b = g ≡ cond (leb len 92) (sets f len (h ∷ a ∷ b ∷ [])) f
+
   -- no turn is left, and field 1 has the next
   pub none-left1 : (n : ℕ) → n ≡ 0 → Done (turn1 n pad (pairsOf q1) (pairsOf q2)) len f (record { left1 = length q1 / 2; left2 = length q2 / 2; «field2_next» = false; len = len }) f
   unfolding turn1 flat
@@ -89,37 +101,40 @@ module _ (pad : Bool) (q1 q2 : List ℕ) (len : ℕ) (f : List ℕ) where
     one-room = omega (arith, some, room)
 
     -- field 1 has a pair
-    pub pair1 : {g : List ℕ} {r : Course} {l : List ℕ} → 1 < length q1 → g ≡ cond (leb len 92) (sets f len (0xFC ∷ getD q1 0 0 ∷ getD q1 1 0 ∷ [])) f → Done (turn2 (n - 1) pad (pairsOf (take (length q1 - 2) (drop 2 q1))) (pairsOf q2)) (len + 3) g r l → Done (turn1 n pad (pairsOf q1) (pairsOf q2)) len f r l
+    pub pair1 : {g : List ℕ} {r : Course} {l : List ℕ} → 1 < length q1 → Put g 0xFC (getD q1 0 0) (getD q1 1 0)
+        → Done (turn2 (n - 1) pad (pairsOf (take (length q1 - 2) (drop 2 q1))) (pairsOf q2)) (len + 3) g r l → From1 n r l
     unfolding turn1
     pair1 {g} h e d = rw (one-more, some-pairs q1 h) (sent-done _ _ _ len f g _ one-room e d)
 
     -- field 1 has none, and field 2 has one
-    pub empty1 : {g : List ℕ} {r : Course} {l : List ℕ} → length q1 ≤ 1 → 1 < length q2 → g ≡ cond (leb len 92) (sets f len (0xFC ∷ 0x80 ∷ 0x80 ∷ [])) f → Done (turn2 (n - 1) pad (pairsOf q1) (pairsOf q2)) (len + 3) g r l → Done (turn1 n pad (pairsOf q1) (pairsOf q2)) len f r l
+    pub empty1 : {g : List ℕ} {r : Course} {l : List ℕ} → length q1 ≤ 1 → 1 < length q2 → Put g 0xFC 0x80 0x80 → Done (turn2 (n - 1) pad (pairsOf q1) (pairsOf q2)) (len + 3) g r l → From1 n r l
     unfolding turn1
     empty1 {g} h k e d = rw (one-more, no-pairs q1 h, some-pairs q2 k) (sent-done _ _ _ len f g _ one-room e (rw (no-pairs q1 h, some-pairs q2 k) at d))
 
     -- neither has one, and there is padding
-    pub padded1 : {g : List ℕ} {r : Course} {l : List ℕ} → length q1 ≤ 1 → length q2 ≤ 1 → pad ≡ true → g ≡ cond (leb len 92) (sets f len (0xF8 ∷ 0x80 ∷ 0x80 ∷ [])) f → Done (turn2 (n - 1) pad (pairsOf q1) (pairsOf q2)) (len + 3) g r l → Done (turn1 n pad (pairsOf q1) (pairsOf q2)) len f r l
+    pub padded1 : {g : List ℕ} {r : Course} {l : List ℕ} → length q1 ≤ 1 → length q2 ≤ 1 → pad ≡ true → Put g 0xF8 0x80 0x80
+        → Done (turn2 (n - 1) pad (pairsOf q1) (pairsOf q2)) (len + 3) g r l → From1 n r l
     unfolding turn1
     padded1 {g} h k p e d = rw (one-more, no-pairs q1 h, no-pairs q2 k, p) (sent-done _ _ _ len f g _ one-room e (rw (no-pairs q1 h, no-pairs q2 k, p) at d))
 
     -- there is none
-    pub nothing1 : {r : Course} {l : List ℕ} → length q1 ≤ 1 → length q2 ≤ 1 → pad ≡ false → Done (turn2 (n - 1) pad (pairsOf q1) (pairsOf q2)) len f r l → Done (turn1 n pad (pairsOf q1) (pairsOf q2)) len f r l
+    pub nothing1 : {r : Course} {l : List ℕ} → length q1 ≤ 1 → length q2 ≤ 1 → pad ≡ false → From2 (n - 1) r l → From1 n r l
     unfolding turn1
     nothing1 h k p d = rw (one-more, no-pairs q1 h, no-pairs q2 k, p) (rw (no-pairs q1 h, no-pairs q2 k, p) at d)
 
     -- field 2 has a pair
-    pub pair2 : {g : List ℕ} {r : Course} {l : List ℕ} → 1 < length q2 → g ≡ cond (leb len 92) (sets f len (0xFD ∷ getD q2 0 0 ∷ getD q2 1 0 ∷ [])) f → Done (turn1 (n - 1) pad (pairsOf q1) (pairsOf (take (length q2 - 2) (drop 2 q2)))) (len + 3) g r l → Done (turn2 n pad (pairsOf q1) (pairsOf q2)) len f r l
+    pub pair2 : {g : List ℕ} {r : Course} {l : List ℕ} → 1 < length q2 → Put g 0xFD (getD q2 0 0) (getD q2 1 0)
+        → Done (turn1 (n - 1) pad (pairsOf q1) (pairsOf (take (length q2 - 2) (drop 2 q2)))) (len + 3) g r l → From2 n r l
     unfolding turn1
     pair2 {g} h e d = rw (one-more, some-pairs q2 h) (sent-done _ _ _ len f g _ one-room e d)
 
     -- field 2 has none, and there is padding
-    pub padded2 : {g : List ℕ} {r : Course} {l : List ℕ} → length q2 ≤ 1 → pad ≡ true → g ≡ cond (leb len 92) (sets f len (0xF9 ∷ 0x80 ∷ 0x80 ∷ [])) f → Done (turn1 (n - 1) pad (pairsOf q1) (pairsOf q2)) (len + 3) g r l → Done (turn2 n pad (pairsOf q1) (pairsOf q2)) len f r l
+    pub padded2 : {g : List ℕ} {r : Course} {l : List ℕ} → length q2 ≤ 1 → pad ≡ true → Put g 0xF9 0x80 0x80 → Done (turn1 (n - 1) pad (pairsOf q1) (pairsOf q2)) (len + 3) g r l → From2 n r l
     unfolding turn1
     padded2 {g} h p e d = rw (one-more, no-pairs q2 h, p) (sent-done _ _ _ len f g _ one-room e (rw (no-pairs q2 h, p) at d))
 
     -- there is none
-    pub nothing2 : {r : Course} {l : List ℕ} → length q2 ≤ 1 → pad ≡ false → Done (turn1 (n - 1) pad (pairsOf q1) (pairsOf q2)) len f r l → Done (turn2 n pad (pairsOf q1) (pairsOf q2)) len f r l
+    pub nothing2 : {r : Course} {l : List ℕ} → length q2 ≤ 1 → pad ≡ false → Done (turn1 (n - 1) pad (pairsOf q1) (pairsOf q2)) len f r l → From2 n r l
     unfolding turn1
     nothing2 h p d = rw (one-more, no-pairs q2 h, p) (rw (no-pairs q2 h, p) at d)
 
@@ -154,7 +169,7 @@ module _ (t : Turns) (n : ℕ) (pad : Bool) where
   lent q = pairsOf (take (2 * q .count - 0) (drop 0 (q .bytes)))
 
   -- the turns of queues that are lent as the bytes of their pairs
-  pub lent-turns : {len : ℕ} {f g : List ℕ} {c : Course} → Done (cond (not (t .«field2_next»)) (turn1 n pad (lent (t .field1)) (lent (t .field2))) (turn2 n pad (lent (t .field1)) (lent (t .field2)))) len f c g
+  pub lent-turns : {len : ℕ} {f g : List ℕ} {c : Course} → Done (turnsBy (not (t .«field2_next»)) n pad (lent (t .field1)) (lent (t .field2))) len f c g
       → Done (turnsFrom n pad t) len f c g
   unfolding turnsFrom queueOf
   lent-turns d =

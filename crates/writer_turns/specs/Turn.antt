@@ -1,8 +1,9 @@
--- The turns of the two fields. Assumes nothing.
+-- The turns of the two fields: [W4] to [W6]. Assumes nothing.
 use mathlib.Core.Bool.{Bool, cond, not, _&&_}
+use mathlib.Core.List.{List}
 use Prim.Native.Nat.{ℕ}
 use lib.Dec.{leb}
-use Rattle.model.specs.Frame.{flat}
+use Rattle.model.specs.Frame.{Pair, flat}
 use Rattle.model.specs.Mux.{Turned, turn1, turn2, mostQueued}
 use Rattle.writer_frames.specs.Frame.{appended}
 use Rattle.writer_frames.specs.Frame as frames
@@ -23,9 +24,13 @@ taken t r =
       frame = appended (t .frame) (flat (r .out));
     }
 
--- whose turn is next is kept from frame to frame [W4]
+-- n turns, from field 1's on or from field 2's [W4]
+abbrev pub turnsBy : Bool → ℕ → Bool → List Pair → List Pair → Turned
+turnsBy first n pad q1 q2 = cond first (turn1 n pad q1 q2) (turn2 n pad q1 q2)
+
+-- of a state, from the field on whose turn is next
 unfoldable pub turnsFrom : ℕ → Bool → Turns → Turned
-turnsFrom n pad t = cond (not (t .«field2_next»)) (turn1 n pad (queueOf (t .field1)) (queueOf (t .field2))) (turn2 n pad (queueOf (t .field1)) (queueOf (t .field2)))
+turnsFrom n pad t = turnsBy (not (t .«field2_next»)) n pad (queueOf (t .field1)) (queueOf (t .field2))
 
 -- the turns, from the field whose turn is next
 abbrev pub takenFrom : ℕ → Bool → Turns → Turns

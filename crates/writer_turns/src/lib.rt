@@ -1,5 +1,6 @@
 // The 608 part of a frame: the queue of a field, and the turns that the two fields take.
 use basics::MOST_QUEUED;
+use basics::lesser;
 use basics::put_bytes;
 use caption::Answer;
 use caption::Refusal;
@@ -7,15 +8,15 @@ use writer_frames::Frame;
 use writer_frames::put;
 ghost use mathlib.Core.Path.{_≡_};
 ghost use mathlib.Core.Bool.{cond, not};
-ghost use Prim.Native.Nat.{_+_, _-_, _*_, _≤_};
-ghost use lib.Dec.{leb};
-ghost use lib.ListN.{drop};
-ghost use Rattle.model.specs.Said.{says, after, mapped, checked};
+ghost use Prim.Native.Nat.{_+_, _-_, _*_, _/_, _≤_, min};
+ghost use lib.ListN.{length, drop};
+ghost use Rattle.model.specs.Said.{says, after, mapped};
 ghost use Rattle.model.specs.Frame.{pair, mostFrame};
-ghost use Rattle.model.specs.Mux.{isNull, pushPair, turn1, turn2, mostQueued};
+ghost use Rattle.model.specs.Mux.{isNull, turn1, turn2, mostQueued};
+ghost use Rattle.model.specs.Duration.{pairsDuration};
 ghost use Rattle.caption.specs.Answers.{saidAnswer};
-ghost use Rattle.writer_turns.specs.Queue.{pairsOf, queueOf, queueOver};
-ghost use Rattle.writer_turns.specs.Turn.{fits, takenFrom};
+ghost use Rattle.writer_turns.specs.Queue.{pairsOf, queueOf, queueOver, pushOutcome};
+ghost use Rattle.writer_turns.specs.Turn.{fits, turnsBy, takenFrom};
 ghost use Rattle.writer_turns.specs.Step.{Done};
 
 // A field's queue: 64 places of two bytes, of which `count` are taken. The first leaves next.
@@ -33,35 +34,40 @@ pub struct QueuePush {
 impl PairQueue {
     // Pushes a pair: 0x80,0x80 is accepted and dropped, even on a full queue.
     pub fn push(mut self, a: u8, b: u8) -> QueuePush
-        ensures { λ r. ⌜ saidAnswer (r .answer) ≡ says (checked (leb (self .count) mostQueued) (pushPair (pair a b) (queueOf self))) ⌝ }
-        ensures { λ r. ⌜ r .queue ≡ after self (mapped (queueOver self) (checked (leb (self .count) mostQueued) (pushPair (pair a b) (queueOf self)))) ⌝ }
+        ensures { λ r. ⌜ saidAnswer (r .answer) ≡ says (pushOutcome self a b) ⌝ }
+        ensures { λ r. ⌜ r .queue ≡ after self (mapped (queueOver self) (pushOutcome self a b)) ⌝ }
     {
-        let n = self.count;
-        if MOST_QUEUED < n {
-            return QueuePush {
-                answer: Answer::Refused(Refusal::BadValue),
-                queue: self,
-            };
+        let count = self.count;
+        if MOST_QUEUED < count {
+            return self.with(Answer::Refused(Refusal::BadValue));
         }
         if is_null(a, b) {
-            return QueuePush {
-                answer: Answer::Accepted,
-                queue: self,
-            };
+            return self.with(Answer::Accepted);
         }
-        if n == MOST_QUEUED {
-            return QueuePush {
-                answer: Answer::Refused(Refusal::Full),
-                queue: self,
-            };
+        if count == MOST_QUEUED {
+            return self.with(Answer::Refused(Refusal::Full));
         }
-        self.bytes[2 * n] = a;
-        self.bytes[2 * n + 1] = b;
-        self.count = n + 1;
+        self.bytes[2 * count] = a;
+        self.bytes[2 * count + 1] = b;
+        self.count = count + 1;
+        self.with(Answer::Accepted)
+    }
+
+    // The queue with an answer.
+    fn with(self, answer: Answer) -> QueuePush
+        ensures { λ r. ⌜ r ≡ (record { answer = answer; queue = self }) ⌝ }
+    {
         QueuePush {
-            answer: Answer::Accepted,
+            answer,
             queue: self,
         }
+    }
+
+    // How long the pairs take to leave, at most as many as there are places: 1001/60000 of a second each, in microseconds, upward.
+    pub fn duration(self) -> u64
+        ensures { λ r. ⌜ r ≡ pairsDuration (min (self .count) mostQueued) ⌝ }
+    {
+        (lesser(self.count, MOST_QUEUED) as u64 * 1_001_000_000 + 59_999) / 60_000
     }
 
     // The last `left` pairs, in the places from the first on; what stands behind them stays.
@@ -69,10 +75,10 @@ impl PairQueue {
         requires { ⌜ (left ≤ self .count) × (self .count ≤ mostQueued) ⌝ }
         ensures { λ r. ⌜ r ≡ queueOver self (drop (self .count - left) (queueOf self)) ⌝ }
     {
-        let n = self.count;
+        let count = self.count;
         let from = self.bytes;
         let mut bytes = self.bytes;
-        put_bytes(&mut bytes, 0, &from[2 * (n - left)..2 * n]);
+        put_bytes(&mut bytes, 0, &from[2 * (count - left)..2 * count]);
         PairQueue { bytes, count: left }
     }
 }
@@ -100,35 +106,38 @@ impl Turns {
     pub fn take(self, pad: bool, turns: usize) -> Turns
         ensures { λ r. ⌜ r ≡ cond (fits self turns) (takenFrom turns pad self) self ⌝ }
     {
-        let q1 = self.field1;
-        let q2 = self.field2;
-        let f = self.frame;
-        if MOST_QUEUED < q1.count {
+        let queue1 = self.field1;
+        let queue2 = self.field2;
+        let frame = self.frame;
+        if MOST_QUEUED < queue1.count {
             return self;
         }
-        if MOST_QUEUED < q2.count {
+        if MOST_QUEUED < queue2.count {
             return self;
         }
-        if f.has_room(turns) {
-            let bytes1 = q1.bytes;
-            let bytes2 = q2.bytes;
-            let mut bytes = f.bytes;
-            let c = turns_from(
+        if frame.has_room(turns) {
+            let bytes1 = queue1.bytes;
+            let bytes2 = queue2.bytes;
+            let mut bytes = frame.bytes;
+            let course = turns_from(
                 self.field2_next,
-                &bytes1[0..2 * q1.count],
-                &bytes2[0..2 * q2.count],
+                &bytes1[0..2 * queue1.count],
+                &bytes2[0..2 * queue2.count],
                 pad,
                 turns,
                 &mut bytes,
-                f.len,
+                frame.len,
             );
-            let field1 = q1.down_to(c.left1);
-            let field2 = q2.down_to(c.left2);
+            let field1 = queue1.down_to(course.left1);
+            let field2 = queue2.down_to(course.left2);
             return Turns {
                 field1,
                 field2,
-                field2_next: c.field2_next,
-                frame: Frame { bytes, len: c.len },
+                field2_next: course.field2_next,
+                frame: Frame {
+                    bytes,
+                    len: course.len,
+                },
             };
         }
         self
@@ -136,7 +145,7 @@ impl Turns {
 }
 
 // What turns leave: how many pairs of each queue, whether field 2 has the next turn, and how many bytes the frame then has.
-pub struct Course {
+struct Course {
     pub left1: usize,
     pub left2: usize,
     pub field2_next: bool,
@@ -146,84 +155,86 @@ pub struct Course {
 // The turns from field 2 on, or from field 1 on. The queues are lent as the bytes of the pairs that have not left, the frame with `len` bytes in it.
 fn turns_from(
     field2_next: bool,
-    q1: &[u8],
-    q2: &[u8],
+    queue1: &[u8],
+    queue2: &[u8],
     pad: bool,
     left: usize,
     frame: &mut [u8; 95],
     len: usize,
 ) -> Course
     requires { ⌜ len + 3 * left ≤ mostFrame ⌝ }
-    ensures { λ r. ⌜ Done (cond (not «field2_next») (turn1 left pad (pairsOf (now (q1 .entry))) (pairsOf (now (q2 .entry)))) (turn2 left pad (pairsOf (now (q1 .entry))) (pairsOf (now (q2 .entry))))) len (now (frame .entry)) r (now (frame .exit)) ⌝ }
+    ensures { λ r. ⌜ Done (turnsBy (not «field2_next») left pad (pairsOf (now (queue1 .entry))) (pairsOf (now (queue2 .entry)))) len (now (frame .entry)) r (now (frame .exit)) ⌝ }
 {
     if field2_next {
-        return field2_turn(q1, q2, pad, left, frame, len);
+        return field2_turn(queue1, queue2, pad, left, frame, len);
     }
-    field1_turn(q1, q2, pad, left, frame, len)
+    field1_turn(queue1, queue2, pad, left, frame, len)
 }
 
-// A field 1 turn, and then a field 2 turn, while turns are left: its pair; else, if field 2 has one, an empty pair before it; else padding or nothing.
+// A field 1 turn, and then a field 2 turn, while turns are left: its pair; else, if field 2 has one, an empty pair; else padding or nothing.
 fn field1_turn(
-    q1: &[u8],
-    q2: &[u8],
+    queue1: &[u8],
+    queue2: &[u8],
     pad: bool,
     left: usize,
     frame: &mut [u8; 95],
     len: usize,
 ) -> Course
     requires { ⌜ len + 3 * left ≤ mostFrame ⌝ }
-    ensures { λ r. ⌜ Done (turn1 left pad (pairsOf (now (q1 .entry))) (pairsOf (now (q2 .entry)))) len (now (frame .entry)) r (now (frame .exit)) ⌝ }
+    ensures { λ r. ⌜ Done (turn1 left pad (pairsOf (now (queue1 .entry))) (pairsOf (now (queue2 .entry)))) len (now (frame .entry)) r (now (frame .exit)) ⌝ }
 {
     if left == 0 {
-        return Course {
-            left1: q1.len() / 2,
-            left2: q2.len() / 2,
-            field2_next: false,
-            len,
-        };
+        return course_end(queue1, queue2, false, len);
     }
-    if 1 < q1.len() {
-        put(frame, len, 0xFC, q1[0], q1[1]);
-        return field2_turn(&q1[2..], q2, pad, left - 1, frame, len + 3);
+    if 1 < queue1.len() {
+        put(frame, len, 0xFC, queue1[0], queue1[1]);
+        return field2_turn(&queue1[2..], queue2, pad, left - 1, frame, len + 3);
     }
-    if 1 < q2.len() {
+    if 1 < queue2.len() {
         put(frame, len, 0xFC, 0x80, 0x80);
-        return field2_turn(q1, q2, pad, left - 1, frame, len + 3);
+        return field2_turn(queue1, queue2, pad, left - 1, frame, len + 3);
     }
     if pad {
         put(frame, len, 0xF8, 0x80, 0x80);
-        return field2_turn(q1, q2, pad, left - 1, frame, len + 3);
+        return field2_turn(queue1, queue2, pad, left - 1, frame, len + 3);
     }
-    field2_turn(q1, q2, pad, left - 1, frame, len)
+    field2_turn(queue1, queue2, pad, left - 1, frame, len)
 }
 
 // A field 2 turn, and then a field 1 turn, while turns are left: its pair; else padding or nothing.
 fn field2_turn(
-    q1: &[u8],
-    q2: &[u8],
+    queue1: &[u8],
+    queue2: &[u8],
     pad: bool,
     left: usize,
     frame: &mut [u8; 95],
     len: usize,
 ) -> Course
     requires { ⌜ len + 3 * left ≤ mostFrame ⌝ }
-    ensures { λ r. ⌜ Done (turn2 left pad (pairsOf (now (q1 .entry))) (pairsOf (now (q2 .entry)))) len (now (frame .entry)) r (now (frame .exit)) ⌝ }
+    ensures { λ r. ⌜ Done (turn2 left pad (pairsOf (now (queue1 .entry))) (pairsOf (now (queue2 .entry)))) len (now (frame .entry)) r (now (frame .exit)) ⌝ }
 {
     if left == 0 {
-        return Course {
-            left1: q1.len() / 2,
-            left2: q2.len() / 2,
-            field2_next: true,
-            len,
-        };
+        return course_end(queue1, queue2, true, len);
     }
-    if 1 < q2.len() {
-        put(frame, len, 0xFD, q2[0], q2[1]);
-        return field1_turn(q1, &q2[2..], pad, left - 1, frame, len + 3);
+    if 1 < queue2.len() {
+        put(frame, len, 0xFD, queue2[0], queue2[1]);
+        return field1_turn(queue1, &queue2[2..], pad, left - 1, frame, len + 3);
     }
     if pad {
         put(frame, len, 0xF9, 0x80, 0x80);
-        return field1_turn(q1, q2, pad, left - 1, frame, len + 3);
+        return field1_turn(queue1, queue2, pad, left - 1, frame, len + 3);
     }
-    field1_turn(q1, q2, pad, left - 1, frame, len)
+    field1_turn(queue1, queue2, pad, left - 1, frame, len)
+}
+
+// Where no turn is left: what is told of the queues and the frame as they are.
+fn course_end(queue1: &[u8], queue2: &[u8], field2_next: bool, len: usize) -> Course
+    ensures { λ r. ⌜ r ≡ (record { left1 = length (now (queue1 .entry)) / 2; left2 = length (now (queue2 .entry)) / 2; «field2_next» = «field2_next»; len = len }) ⌝ }
+{
+    Course {
+        left1: queue1.len() / 2,
+        left2: queue2.len() / 2,
+        field2_next,
+        len,
+    }
 }

@@ -21,7 +21,10 @@ pad-requires c κs = search needs
 
 returns : tie.Need-returns
 unfolding filled
-returns c = rw (c .before .pad .ensures, c .before .before .lacking2 .ensures, c .before .before .before .before .before .rest .ensures, c .before .before .before .before .before .before .send .ensures, c .before .before .before .before .before .before .before .lacking .ensures, c .before .before .before .before .if1 .taken)
+returns c = let l = c .before .before in
+    let i = l .before .before in
+    let r = i .before in
+    rw (c .before .pad .ensures, l .lacking2 .ensures, r .rest .ensures, r .before .send .ensures, r .before .before .lacking .ensures, i .if1 .taken)
 
 returns-2 : tie.Need-returns-2
 unfolding filled

@@ -20,7 +20,9 @@ lesser-requires : tie.Need-lesser-requires Inv-loop μ-loop
 lesser-requires c κs = search needs
 
 loop-holds : tie.Need-loop-holds Inv-loop μ-loop
-loop-holds c = ⊎-elim (λ v. (omega (arith, v .0 .taken), λ n. moving-none _ _ n _ _ (v .0 .taken) (omega (arith, v .1, c .before .lesser .ensures)))) (λ v. (omega (arith, v .1), λ n. moving-first _ _ n _ _ (v .1))) (c .if1 .came)
+loop-holds c =
+    ⊎-elim (λ v. (omega (arith, v .0 .taken), λ n. moving-none _ _ n _ _ (v .0 .taken) (omega (arith, v .1, c .before .lesser .ensures))))
+    (λ v. (omega (arith, v .1), λ n. moving-first _ _ n _ _ (v .1))) (c .if1 .came)
 
 mul-left : tie.Need-mul-left Inv-loop μ-loop
 mul-left c = search needs

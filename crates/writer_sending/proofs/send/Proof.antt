@@ -31,8 +31,8 @@ returns : tie.Need-returns Inv-loop μ-loop
 returns c = let s = c .before .before .before .before .before .before .before in
     let n : length (s .args .t1) ≡ 16 = search (needs, length-mapped, s .good) in
     let t = c .before .before .triples-left .ensures .0 in
-    running-within _ _ n _ _ _ _ _ (c .before .before .before .before .before .loop .inv n) _
-    (omega (arith, c .before .before .before .before .before .before .lesser .ensures, c .before .before .before .before .loop-test .taken)) (omega (arith, t, c .before .if1 .taken)) (c .finish .ensures)
+    let b = c .before .before .before .before in
+    running-within _ _ n _ _ _ _ _ (b .before .loop .inv n) _ (omega (arith, b .before .before .lesser .ensures, b .loop-test .taken)) (omega (arith, t, c .before .if1 .taken)) (c .finish .ensures)
 
 carry-requires : tie.Need-carry-requires Inv-loop μ-loop
 carry-requires c κs = search needs

@@ -11,6 +11,7 @@ use Rattle.writer_turns.proofs.+field1_turn+field2_turn.Lts-field1_turn
 use Rattle.writer_turns.proofs.field2_turn.Reads as field2-turn
 use Rattle.writer_turns.proofs.field2_turn.Kinds as field2-turn-kinds
 use Rattle.writer_turns.proofs.+field1_turn+field2_turn.Lts-field2_turn as field2-turn-lts
+use Rattle.writer_turns.proofs.course_end.Reads as course-end-reads
 use Rattle.writer_frames.proofs.put.Reads as put-reads
 use Rattle.writer_turns.proofs.+field1_turn+field2_turn.{statement}
 use Rattle.writer_turns.proofs.+field1_turn+field2_turn.Tie.{close}
@@ -39,14 +40,17 @@ field2-turn-below t =
 
 -- what field1-turn's calls ask and tell
 abbrev field1-turn-claims : ℕ → field1-turn-lts.Claims
-field1-turn-claims t = (put-reads.Asked, put-reads.Learnt, field2-turn-below t, field2-turn.Post)
+field1-turn-claims t = (course-end-reads.Asked, course-end-reads.Learnt, put-reads.Asked, put-reads.Learnt, field2-turn-below t, field2-turn.Post)
 
 -- what field2-turn's calls ask and tell
 abbrev field2-turn-claims : ℕ → field2-turn-lts.Claims
-field2-turn-claims t = (put-reads.Asked, put-reads.Learnt, field1-turn-below t, field1-turn.Post)
+field2-turn-claims t = (course-end-reads.Asked, course-end-reads.Learnt, put-reads.Asked, put-reads.Learnt, field1-turn-below t, field1-turn.Post)
+
+field1-turn-course-end-requires : (t : ℕ) → field1-turn-lts.Need-course-end-requires (field1-turn-claims t) (field1-turn-at t) field1-turn.Post
+field1-turn-course-end-requires t c κs = search needs
 
 field1-turn-returns : (t : ℕ) → field1-turn-lts.Need-returns (field1-turn-claims t) (field1-turn-at t) field1-turn.Post
-field1-turn-returns t c = let s = c .before .before .before in none-left1 (s .args .pad) _ _ _ _ _ (c .if1 .taken)
+field1-turn-returns t c = let b = c .before in rw (c .course-end .ensures) (none-left1 (b .before .before .before .args .pad) _ _ _ _ _ (b .if1 .taken))
 
 field1-turn-shared-slice-read-put : (t : ℕ) → field1-turn-lts.Need-shared-slice-read-put (field1-turn-claims t) (field1-turn-at t) field1-turn.Post
 field1-turn-shared-slice-read-put t c = search needs
@@ -76,8 +80,10 @@ field1-turn-field2-turn-requires : (t : ℕ) → field1-turn-lts.Need-field2-tur
 field1-turn-field2-turn-requires t c κs = search needs
 
 field1-turn-returns-2 : (t : ℕ) → field1-turn-lts.Need-returns-2 (field1-turn-claims t) (field1-turn-at t) field1-turn.Post
-field1-turn-returns-2 t c = let s = c .before .before .before .before .before .before .before .before .before .before .before in
-    pair1 (s .args .pad) _ _ _ _ _ (c .before .before .before .before .before .before .before .before .if1 .left) (s .pre .1) (c .before .before .before .before .before .before .before .if2 .taken) (c .before .before .before .put .ensures) (c .field2-turn .ensures)
+field1-turn-returns-2 t c = let p = c .before .before .before in
+    let g = p .before .before .before .before in
+    let s = g .before .before .before .before in
+    pair1 (s .args .pad) _ _ _ _ _ (g .before .if1 .left) (s .pre .1) (g .if2 .taken) (p .put .ensures) (c .field2-turn .ensures)
 
 field1-turn-put-requires-2 : (t : ℕ) → field1-turn-lts.Need-put-requires-2 (field1-turn-claims t) (field1-turn-at t) field1-turn.Post
 field1-turn-put-requires-2 t c κs = search needs
@@ -92,8 +98,9 @@ field1-turn-field2-turn-requires-2 : (t : ℕ) → field1-turn-lts.Need-field2-t
 field1-turn-field2-turn-requires-2 t c κs = search needs
 
 field1-turn-returns-3 : (t : ℕ) → field1-turn-lts.Need-returns-3 (field1-turn-claims t) (field1-turn-at t) field1-turn.Post
-field1-turn-returns-3 t c = let s = c .before .before .before .before .before .before .before .before .before in
-    empty1 (s .args .pad) _ _ _ _ _ (c .before .before .before .before .before .before .if1 .left) (s .pre .1) (c .before .before .before .before .before .if2 .left) (c .before .before .before .before .if3 .taken) (c .before .before .put2 .ensures) (c .field2-turn2 .ensures)
+field1-turn-returns-3 t c = let g = c .before .before .before .before in
+    let s = g .before .before .before .before .before in
+    empty1 (s .args .pad) _ _ _ _ _ (g .before .before .if1 .left) (s .pre .1) (g .before .if2 .left) (g .if3 .taken) (c .before .before .put2 .ensures) (c .field2-turn2 .ensures)
 
 field1-turn-put-requires-3 : (t : ℕ) → field1-turn-lts.Need-put-requires-3 (field1-turn-claims t) (field1-turn-at t) field1-turn.Post
 field1-turn-put-requires-3 t c κs = search needs
@@ -108,8 +115,11 @@ field1-turn-field2-turn-requires-3 : (t : ℕ) → field1-turn-lts.Need-field2-t
 field1-turn-field2-turn-requires-3 t c κs = search needs
 
 field1-turn-returns-4 : (t : ℕ) → field1-turn-lts.Need-returns-4 (field1-turn-claims t) (field1-turn-at t) field1-turn.Post
-field1-turn-returns-4 t c = let s = c .before .before .before .before .before .before .before .before .before .before in
-    padded1 (s .args .pad) _ _ _ _ _ (c .before .before .before .before .before .before .before .if1 .left) (s .pre .1) (c .before .before .before .before .before .before .if2 .left) (c .before .before .before .before .before .if3 .left) (c .before .before .before .before .if4 .taken) (c .before .before .put3 .ensures) (c .field2-turn3 .ensures)
+field1-turn-returns-4 t c = let g = c .before .before .before .before in
+    let h = g .before in
+    let s = h .before .before .before .before .before in
+    padded1 (s .args .pad) _ _ _ _ _ (h .before .before .if1 .left) (s .pre .1) (h .before .if2 .left) (h .if3 .left) (g .if4 .taken)
+    (c .before .before .put3 .ensures) (c .field2-turn3 .ensures)
 
 field1-turn-sub-field2-turn-5 : (t : ℕ) → field1-turn-lts.Need-sub-field2-turn-5 (field1-turn-claims t) (field1-turn-at t) field1-turn.Post
 field1-turn-sub-field2-turn-5 t c = search needs
@@ -118,11 +128,15 @@ field1-turn-field2-turn-requires-4 : (t : ℕ) → field1-turn-lts.Need-field2-t
 field1-turn-field2-turn-requires-4 t c κs = search needs
 
 field1-turn-returns-5 : (t : ℕ) → field1-turn-lts.Need-returns-5 (field1-turn-claims t) (field1-turn-at t) field1-turn.Post
-field1-turn-returns-5 t c = let s = c .before .before .before .before .before .before .before .before in
-    nothing1 (s .args .pad) _ _ _ _ _ (c .before .before .before .before .before .if1 .left) (s .pre .1) (c .before .before .before .before .if2 .left) (c .before .before .before .if3 .left) (c .before .before .if4 .left) (c .field2-turn4 .ensures)
+field1-turn-returns-5 t c = let h = c .before .before .before in
+    let s = h .before .before .before .before .before in
+    nothing1 (s .args .pad) _ _ _ _ _ (h .before .before .if1 .left) (s .pre .1) (h .before .if2 .left) (h .if3 .left) (c .before .before .if4 .left) (c .field2-turn4 .ensures)
+
+field2-turn-course-end-requires : (t : ℕ) → field2-turn-lts.Need-course-end-requires (field2-turn-claims t) (field2-turn-at t) field2-turn.Post
+field2-turn-course-end-requires t c κs = search needs
 
 field2-turn-returns : (t : ℕ) → field2-turn-lts.Need-returns (field2-turn-claims t) (field2-turn-at t) field2-turn.Post
-field2-turn-returns t c = let s = c .before .before .before in none-left2 (s .args .pad) _ _ _ _ _ (c .if1 .taken)
+field2-turn-returns t c = let b = c .before in rw (c .course-end .ensures) (none-left2 (b .before .before .before .args .pad) _ _ _ _ _ (b .if1 .taken))
 
 field2-turn-shared-slice-read-put : (t : ℕ) → field2-turn-lts.Need-shared-slice-read-put (field2-turn-claims t) (field2-turn-at t) field2-turn.Post
 field2-turn-shared-slice-read-put t c = search needs
@@ -152,8 +166,10 @@ field2-turn-field1-turn-requires : (t : ℕ) → field2-turn-lts.Need-field1-tur
 field2-turn-field1-turn-requires t c κs = search needs
 
 field2-turn-returns-2 : (t : ℕ) → field2-turn-lts.Need-returns-2 (field2-turn-claims t) (field2-turn-at t) field2-turn.Post
-field2-turn-returns-2 t c = let s = c .before .before .before .before .before .before .before .before .before .before .before in
-    pair2 (s .args .pad) _ _ _ _ _ (c .before .before .before .before .before .before .before .before .if1 .left) (s .pre .1) (c .before .before .before .before .before .before .before .if2 .taken) (c .before .before .before .put .ensures) (c .field1-turn .ensures)
+field2-turn-returns-2 t c = let p = c .before .before .before in
+    let g = p .before .before .before .before in
+    let s = g .before .before .before .before in
+    pair2 (s .args .pad) _ _ _ _ _ (g .before .if1 .left) (s .pre .1) (g .if2 .taken) (p .put .ensures) (c .field1-turn .ensures)
 
 field2-turn-put-requires-2 : (t : ℕ) → field2-turn-lts.Need-put-requires-2 (field2-turn-claims t) (field2-turn-at t) field2-turn.Post
 field2-turn-put-requires-2 t c κs = search needs
@@ -168,8 +184,9 @@ field2-turn-field1-turn-requires-2 : (t : ℕ) → field2-turn-lts.Need-field1-t
 field2-turn-field1-turn-requires-2 t c κs = search needs
 
 field2-turn-returns-3 : (t : ℕ) → field2-turn-lts.Need-returns-3 (field2-turn-claims t) (field2-turn-at t) field2-turn.Post
-field2-turn-returns-3 t c = let s = c .before .before .before .before .before .before .before .before .before in
-    padded2 (s .args .pad) _ _ _ _ _ (c .before .before .before .before .before .before .if1 .left) (s .pre .1) (c .before .before .before .before .before .if2 .left) (c .before .before .before .before .if3 .taken) (c .before .before .put2 .ensures) (c .field1-turn2 .ensures)
+field2-turn-returns-3 t c = let g = c .before .before .before .before in
+    let s = g .before .before .before .before .before in
+    padded2 (s .args .pad) _ _ _ _ _ (g .before .before .if1 .left) (s .pre .1) (g .before .if2 .left) (g .if3 .taken) (c .before .before .put2 .ensures) (c .field1-turn2 .ensures)
 
 field2-turn-sub-field1-turn-4 : (t : ℕ) → field2-turn-lts.Need-sub-field1-turn-4 (field2-turn-claims t) (field2-turn-at t) field2-turn.Post
 field2-turn-sub-field1-turn-4 t c = search needs
@@ -178,13 +195,15 @@ field2-turn-field1-turn-requires-3 : (t : ℕ) → field2-turn-lts.Need-field1-t
 field2-turn-field1-turn-requires-3 t c κs = search needs
 
 field2-turn-returns-4 : (t : ℕ) → field2-turn-lts.Need-returns-4 (field2-turn-claims t) (field2-turn-at t) field2-turn.Post
-field2-turn-returns-4 t c = let s = c .before .before .before .before .before .before .before in
-    nothing2 (s .args .pad) _ _ _ _ _ (c .before .before .before .before .if1 .left) (s .pre .1) (c .before .before .before .if2 .left) (c .before .before .if3 .left) (c .field1-turn3 .ensures)
+field2-turn-returns-4 t c = let h = c .before .before in
+    let s = h .before .before .before .before .before in
+    nothing2 (s .args .pad) _ _ _ _ _ (h .before .before .if1 .left) (s .pre .1) (h .before .if2 .left) (h .if3 .left) (c .field1-turn3 .ensures)
 
 pub +field1-turn+field2-turn-spec : {M : Type 1} → statement M
 +field1-turn+field2-turn-spec = close μ-field1-turn μ-field2-turn (λ t. field1-turn-lts.spec (field1-turn-claims t)
     (field1-turn-at t)
     field1-turn.Post
+    (field1-turn-course-end-requires t)
     (field1-turn-returns t)
     (field1-turn-shared-slice-read-put t)
     (field1-turn-shared-slice-read-put-2 t)
@@ -213,6 +232,7 @@ pub +field1-turn+field2-turn-spec : {M : Type 1} → statement M
     (field2-turn-claims t)
     (field2-turn-at t)
     field2-turn.Post
+    (field2-turn-course-end-requires t)
     (field2-turn-returns t)
     (field2-turn-shared-slice-read-put t)
     (field2-turn-shared-slice-read-put-2 t)

@@ -1,6 +1,7 @@
 -- `writer::CCDataWriter::flush` meets its contract. Assumes nothing.
 use mathlib.Core.Path.{sym}
 use Rattle.slots.proofs.Row.{length-mapped}
+use Rattle.writer.proofs.Valid.{Shaped}
 use Rattle.writer.proofs.Stored.{flushed-is}
 use Rattle.writer.proofs.Calls.{refused-value, flushes}
 use borrow.Author.Needs.{needs}
@@ -12,7 +13,8 @@ is-valid-requires c κs = search needs
 
 returns : tie.Need-returns
 returns c = let s = c .before .before .before .before .before in
-    flushes (s .args .self) (record { packets = search (needs, length-mapped, s .good); first = search needs; second = search needs }) (c .before .before .before .before .is-valid .ensures) (c .before .before .before .if1 .taken) _ (sym (flushed-is (s .args .self)))
+    let h : Shaped (s .args .self) = record { packets = search (needs, length-mapped, s .good); first = search needs; second = search needs } in
+    flushes (s .args .self) h (c .before .before .before .before .is-valid .ensures) (c .before .before .before .if1 .taken) _ (sym (flushed-is (s .args .self)))
 
 refused-requires : tie.Need-refused-requires
 refused-requires c κs = search needs

@@ -22,7 +22,8 @@ push-requires c κs = search needs
 returns : tie.Need-returns
 returns c = let s = c .before .before .before .before .before .before .before .before in
     let k = c .before .before .before .cea608 .given in
-    rw (k .1) (pushed-first (s .args .self) (shaped s) (s .pre) (c .before .before .before .before .before .if1 .taken) (k .0 .0) (k .0 .1 .0) _ _ (c .before .push .ensures .0) (c .before .push .ensures .1))
+    let p = c .before .push .ensures in
+    rw (k .1) (pushed-first (s .args .self) (shaped s) (s .pre) (c .before .before .before .before .before .if1 .taken) (k .0 .0) (k .0 .1 .0) _ _ (p .0) (p .1))
 
 enum-known-cea608-2 : tie.Need-enum-known-cea608-2
 enum-known-cea608-2 c = search needs
@@ -33,7 +34,8 @@ push-requires-2 c κs = search needs
 returns-2 : tie.Need-returns-2
 returns-2 c = let s = c .before .before .before .before .before .before .before .before in
     let k = c .before .before .before .cea6082 .given in
-    rw (k .1) (pushed-second (s .args .self) (shaped s) (s .pre) (c .before .before .before .before .before .if1 .taken) (k .0 .0) (k .0 .1 .0) _ _ (c .before .push2 .ensures .0) (c .before .push2 .ensures .1))
+    let p = c .before .push2 .ensures in
+    rw (k .1) (pushed-second (s .args .self) (shaped s) (s .pre) (c .before .before .before .before .before .if1 .taken) (k .0 .0) (k .0 .1 .0) _ _ (p .0) (p .1))
 
 returns-3 : tie.Need-returns-3
 returns-3 c = let s = c .before .before .before in refused-value (s .args .self) (s .pre) _ _ (c .if1 .left)

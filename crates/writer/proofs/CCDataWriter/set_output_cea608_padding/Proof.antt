@@ -1,6 +1,7 @@
 -- `writer::CCDataWriter::set_output_cea608_padding` meets its contract. Assumes nothing.
 use mathlib.Core.Path.{refl}
 use Rattle.slots.proofs.Row.{length-mapped}
+use Rattle.writer.proofs.Valid.{Shaped}
 use Rattle.writer.proofs.Calls.{refused-value, switched}
 use borrow.Author.Needs.{needs}
 use Rattle.writer.proofs.CCDataWriter.set_output_cea608_padding.Statement.{statement}
@@ -11,7 +12,8 @@ is-valid-requires c κs = search needs
 
 returns : tie.Need-returns
 returns c = let s = c .before .before in
-    switched (s .args .self) (record { packets = search (needs, length-mapped, s .good); first = search needs; second = search needs }) (c .before .is-valid .ensures) (c .if1 .taken) _ _ _ refl
+    let h : Shaped (s .args .self) = record { packets = search (needs, length-mapped, s .good); first = search needs; second = search needs } in
+    switched (s .args .self) h (c .before .is-valid .ensures) (c .if1 .taken) _ _ _ refl
 
 refused-requires : tie.Need-refused-requires
 refused-requires c κs = search needs

@@ -30,13 +30,15 @@ passed r =
     let n = r .before .before in
     let e = flats (r .before .before .before .before .before .before .before .before .before) in
     let g = n .before .before .if1 .left in
-    (record { first = g; second = n .if2 .left; room = fits-room _ _ (sym (r .before .has-room .ensures) ∙ r .if3 .taken) }, (record { few = g; flat = e .0 }, record { few = n .if2 .left; flat = e .1 }))
+    let h = n .if2 .left in
+    (record { first = g; second = h; room = fits-room _ _ (sym (r .before .has-room .ensures) ∙ r .if3 .taken) }, (record { few = g; flat = e .0 }, record { few = h; flat = e .1 }))
 
 returns : tie.Need-returns
 returns c = let a = c .before .before .before .before .before .args in no-fit (a .self) (a .turns) (a .pad) (over1 (a .self) (a .turns) (a .pad) (c .if1 .taken)) refl
 
 returns-2 : tie.Need-returns-2
-returns-2 c = let a = c .before .before .before .before .before .before .before .args in no-fit (a .self) (a .turns) (a .pad) (over2 (a .self) (a .turns) (a .pad) (c .before .before .if1 .left) (c .if2 .taken)) refl
+returns-2 c = let a = c .before .before .before .before .before .before .before .args in
+    no-fit (a .self) (a .turns) (a .pad) (over2 (a .self) (a .turns) (a .pad) (c .before .before .if1 .left) (c .if2 .taken)) refl
 
 has-room-requires : tie.Need-has-room-requires
 has-room-requires c κs = search needs
@@ -84,10 +86,14 @@ returns-3 : tie.Need-returns-3
 returns-3 c = let r = c .before .before .before .before .before .before .before .before .before .before .before .before .before in
     let a = r .before .before .before .before .before .before .before .before .before .args in
     let p = passed r in
-    took (a .self) (a .turns) (a .pad) (p .0) (p .1 .0) (p .1 .1) (lent-turns (a .self) (a .turns) (a .pad) (c .before .before .turns-from .ensures)) (c .before .down-to .ensures) (c .down-to2 .ensures)
+    let l = lent-turns (a .self) (a .turns) (a .pad) (c .before .before .turns-from .ensures) in
+    took (a .self) (a .turns) (a .pad) (p .0) (p .1 .0) (p .1 .1) l (c .before .down-to .ensures) (c .down-to2 .ensures)
 
 returns-4 : tie.Need-returns-4
-returns-4 c = let a = c .before .before .before .before .before .before .before .before .before .args in no-fit (a .self) (a .turns) (a .pad) (over3 (a .self) (a .turns) (a .pad) (c .before .before .before .before .if1 .left) (c .before .before .if2 .left) (sym (c .before .has-room .ensures) ∙ c .if3 .left)) refl
+returns-4 c = let b = c .before .before in
+    let d = b .before .before in
+    let a = d .before .before .before .before .before .args in
+    no-fit (a .self) (a .turns) (a .pad) (over3 (a .self) (a .turns) (a .pad) (d .if1 .left) (b .if2 .left) (sym (c .before .has-room .ensures) ∙ c .if3 .left)) refl
 
 pub take-spec : {M : Type 1} → statement M
 take-spec =

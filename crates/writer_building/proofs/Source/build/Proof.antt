@@ -1,8 +1,8 @@
--- `writer_building::build` meets its contract: each call gives what it says, one after another. Assumes nothing.
+-- `writer_building::Source::build` meets its contract: each call gives what it says, one after another. Assumes nothing.
 use Rattle.writer_building.proofs.Builds.{built-by}
 use borrow.Author.Needs.{needs}
-use Rattle.writer_building.proofs.build.Statement.{statement}
-use Rattle.writer_building.proofs.build.Tie as tie
+use Rattle.writer_building.proofs.Source.build.Statement.{statement}
+use Rattle.writer_building.proofs.Source.build.Tie as tie
 
 turns-of-requires : tie.Need-turns-of-requires
 turns-of-requires c κs = search needs
@@ -23,8 +23,9 @@ made-of-requires : tie.Need-made-of-requires
 made-of-requires c κs = search needs
 
 returns : tie.Need-returns
-returns c =
-    built-by _ _ _ _ _ _ _ _ _ _ _ _ _ _ _ _ (c .before .before .before .before .before .before .turns-of .ensures) (c .before .before .before .before .before .count-of .ensures) (c .before .before .before .before .start .ensures) (c .before .before .before .take .ensures) (c .before .fill .ensures) (c .made-of .ensures)
+returns c = let t = c .before .before .before in
+    let n = t .before .before in
+    built-by _ _ _ _ _ _ _ _ _ _ (n .before .turns-of .ensures) (n .count-of .ensures) (t .before .start .ensures) (t .take .ensures) (c .before .fill .ensures) (c .made-of .ensures)
 
 pub build-spec : {M : Type 1} → statement M
 build-spec =
