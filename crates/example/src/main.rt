@@ -21,10 +21,11 @@ fn write_one(frame: &mut [u8; 95]) -> Counted {
     done.answer
 }
 
-// The first item of a frame.
-fn read_one(frame: &[u8]) -> Item {
+// The first item of a frame of `n` bytes.
+fn read_one(frame: &[u8; 95], n: usize) -> Item {
+    let all = &frame[..];
     let fresh = CCDataParser::new();
-    let pushed = fresh.push(frame);
+    let pushed = fresh.push(program_records::part(all, 0, n));
     let parser = pushed.parser;
     let drawn = parser.draw();
     drawn.item
@@ -41,7 +42,7 @@ fn bytes_of(counted: Counted) -> usize {
 fn main() {
     let mut frame = [0u8; 95];
     let n = bytes_of(write_one(&mut frame));
-    let item = read_one(program_records::part(&frame, 0, n));
+    let item = read_one(&frame, n);
     match item {
         Item::Packet => {
             io::write_all(STDOUT_FILENO, b"the packet came back\n");
