@@ -1,4 +1,4 @@
-// Drives every entry point of the libraries by a script: records of mark CC 5C from standard input to its end, each an operation and its
+// Makes the calls that a script names: records of mark CC 5C from standard input to its end, each an operation and its
 // argument bytes, and for each a line that tells what the call answered. Reads and writes go through two buffers of fixed size, whatever the
 // input's length and cut.
 ghost use mathlib.Core.Path.{_≡_};

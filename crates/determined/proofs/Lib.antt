@@ -26,7 +26,10 @@ pub mod ProgramRecords
 pub mod ProgramLines
 pub mod CcreadReport
 pub mod ScriptAnswers
-pub mod ScriptValues
-pub mod ScriptMachines
+pub mod Asked
+pub mod ScriptBlocks
+pub mod ScriptPackets
+pub mod ScriptParsers
+pub mod ScriptWriters
 pub mod ScriptOperations
 pub mod ProgramStreams

@@ -57,7 +57,7 @@ blockIn d =
 unfoldable pub readBlock : List ℕ → Outcome Block
 readBlock d = cond (isShort d) (refused (lengthMismatch (needed d) (length d))) (gave (blockIn d))
 
--- The payload as a part of the caller's bytes: empty where the block is refused, has no payload or has number 0 [B6].
+-- the part of the caller's bytes that is the payload [B6]
 unfoldable pub partIn : List ℕ → List ℕ
 partIn d = cond (isShort d) [] (blockIn d .payload)
 

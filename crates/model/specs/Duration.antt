@@ -5,7 +5,7 @@ use lib.ListN.{length}
 use Rattle.model.specs.Packet.{Packet, packetLength}
 use Rattle.model.specs.Mux.{Mux}
 
--- a / b, rounded up [D1]
+-- a / b, rounded up [D1] [D2]
 unfoldable pub ceil : ℕ → ℕ → ℕ
 ceil a b = (a + (b - 1)) / b
 

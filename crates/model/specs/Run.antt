@@ -12,7 +12,7 @@ use Rattle.model.specs.Demux.{Demux, Item, draw, takeFrame}
 use Rattle.model.specs.Rate.{Budgets, mostTriples}
 use Rattle.model.specs.Mux.{Mux, Framed, withPads, pushPacket, pushPair, pushCea608, isNull, writeFrame}
 
--- what is done to a multiplexer, in any order; no flush [J1]. A write is at its budgets
+-- what is done to a multiplexer, in any order; no flush [J0]. A write is at its budgets
 pub data Call : Type 0 where
   pushes : Packet → Call
   pushes608 : Cea608 → Call
@@ -58,13 +58,13 @@ run (c ∷ cs) s =
     let r = run cs (k .last) in
     record { frames = k .frames ++ r .frames; packets = k .packets ++ r .packets; pairs1 = k .pairs1 ++ r .pairs1; pairs2 = k .pairs2 ++ r .pairs2; last = r .last }
 
--- What the budgets of an accepted rate are bounded by [G2]. Budgets that no rate has are within these bounds too.
+-- What the budgets of an accepted rate are bounded by [G1] [G2]. Budgets that no rate has are within these bounds too.
 pub record Accepted (b : Budgets) : Type 0 where
   pub some-pair : 1 ≤ b .pairs
   pub apart : b .pairs + 4 ≤ b .triples
   pub most : b .triples ≤ mostTriples
 
--- a write is at an accepted rate with at least one padding on [J1]; a packet is one that breaks no limit
+-- a write is at an accepted rate with at least one padding on [J0]; a packet is one that breaks no limit
 abbrev pub AllowedCall : Call → Mux → Type 0
 AllowedCall (pushes p) s = validPacket p ≡ true
 AllowedCall (pushes608 x) s = Unit {0}
@@ -124,7 +124,7 @@ ofField2 [] = []
 ofField2 (field1 x ∷ xs) = ofField2 xs
 ofField2 (field2 x ∷ xs) = x ∷ ofField2 xs
 
--- pairs other than 80 80, which are never queued [J1]
+-- pairs other than 80 80, which are never queued [W11]
 unfoldable pub others : List Pair → List Pair
 others [] = []
 others (x ∷ xs) = cond (isNull x) (others xs) (x ∷ others xs)

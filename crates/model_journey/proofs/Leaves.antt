@@ -86,8 +86,8 @@ module _ (f : Field) where
       let w = goes cs s′ j (r .1) (omega (arith, length-append (v .gone) (queueOf f s′))) (v .nearer i (writesIn cs) h k) in
       rw (came-append f (call (writes b) s) (run cs s′), none-accepted f) (left-then [] i j (v .gone) (append-nil _ ∙ v .cut) w (omega arith))
 
--- the pair at place i has left after 2i accepted writes [J3], whatever is pushed or switched between them, after 2i writes or more
--- the first i places of what was queued have gone.
+-- the pair at place i has left after 2i accepted writes [J3]: after so many or more, whatever is pushed or switched between them, the first i
+-- places of what was queued have gone
 pub leaves : (f : Field) (cs : List Call) (s : Mux) → AtRates cs → LeavesInTime f cs s
 leaves f cs s r i h k = goes f cs s i r h (omega arith)
 

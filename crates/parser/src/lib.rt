@@ -138,7 +138,7 @@ impl CCDataParser {
         ParserAnswer { answer, parser }
     }
 
-    // Draws the next item: first the list's pairs in order, then the packets, oldest first.
+    // Draws the next item: a pair of the list as long as there is one, then the packet that has waited longest.
     pub fn draw(self) -> Drawn
         ensures { λ r. ⌜ Draws self r ⌝ }
     {
@@ -174,7 +174,7 @@ impl CCDataParser {
         }
     }
 
-    // Returns to fresh, with 608 off.
+    // Drops all that is held, and turns 608 off.
     pub fn flush(self) -> ParserAnswer
         ensures { λ r. ⌜ Answers (quiet (flushDemux (means self))) (λ _. fresh) self r ⌝ }
     {

@@ -13,14 +13,14 @@ use Rattle.program_records.specs.Text.{word}
 use Rattle.script_answers.specs.Steps.{Effect, Did}
 use Rattle.script_answers.specs.Rows.{Sought, sought, Asked}
 use Rattle.script_answers.proofs.Rows.{behind}
-use Rattle.script_values.specs.declared.OnBlock.{OnBlock}
-use Rattle.script_values.specs.declared.OnPacket.{OnPacket}
-use Rattle.script_values.specs.Blocks.{blockRows}
-use Rattle.script_values.specs.Packets.{packetRows}
-use Rattle.script_machines.specs.declared.OnParser.{OnParser}
-use Rattle.script_machines.specs.declared.OnWriter.{OnWriter}
-use Rattle.script_machines.specs.Parsers.{parserRows}
-use Rattle.script_machines.specs.Writers.{writerRows}
+use Rattle.script_blocks.specs.declared.OnBlock.{OnBlock}
+use Rattle.script_packets.specs.declared.OnPacket.{OnPacket}
+use Rattle.script_blocks.specs.Blocks.{blockRows}
+use Rattle.script_packets.specs.Packets.{packetRows}
+use Rattle.script_parsers.specs.declared.OnParser.{OnParser}
+use Rattle.script_writers.specs.declared.OnWriter.{OnWriter}
+use Rattle.script_parsers.specs.Parsers.{parserRows}
+use Rattle.script_writers.specs.Writers.{writerRows}
 use Rattle.script_operations.specs.declared.Machine.{Machine}
 use Rattle.script_operations.specs.declared.Stepped.{Stepped}
 use Rattle.script_operations.specs.Ran.{within, bad, withBlock, withPacket, withParser, withWriter, onMachines, operated, ran}

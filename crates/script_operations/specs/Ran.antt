@@ -15,10 +15,10 @@ use Rattle.writer.specs.Writer as writer
 use Rattle.program_records.specs.Text.{word}
 use Rattle.script_answers.specs.Steps.{Effect, stays}
 use Rattle.script_answers.specs.Rows.{Sought, sought}
-use Rattle.script_values.specs.Blocks.{blockRows}
-use Rattle.script_values.specs.Packets.{packetRows}
-use Rattle.script_machines.specs.Parsers.{parserRows}
-use Rattle.script_machines.specs.Writers.{writerRows}
+use Rattle.script_blocks.specs.Blocks.{blockRows}
+use Rattle.script_packets.specs.Packets.{packetRows}
+use Rattle.script_parsers.specs.Parsers.{parserRows}
+use Rattle.script_writers.specs.Writers.{writerRows}
 use Rattle.script_operations.specs.declared.Machine.{Machine}
 
 -- at first block 1, packet 0, both empty, a fresh demultiplexer with 608 off, and a fresh multiplexer

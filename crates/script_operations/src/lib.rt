@@ -7,10 +7,10 @@ use packet::DTVCCPacket;
 use parser::CCDataParser;
 use program_records::byte_at;
 use program_records::part;
-use script_machines::OnParser;
-use script_machines::OnWriter;
-use script_values::OnBlock;
-use script_values::OnPacket;
+use script_blocks::OnBlock;
+use script_packets::OnPacket;
+use script_parsers::OnParser;
+use script_writers::OnWriter;
 use service::Service;
 use writer::CCDataWriter;
 
@@ -100,11 +100,11 @@ fn run_on_machines(out: &mut [u8], at: usize, m: Machine, op: u8, args: &[u8]) -
     let p = m.p;
     let r = m.r;
     let w = m.w;
-    let on_r = script_machines::on_parser(out, at, r, op, args);
+    let on_r = script_parsers::on_parser(out, at, r, op, args);
     if on_r.ran {
         return left_parser(m, on_r);
     }
-    let on_w = script_machines::on_writer(out, at, p, w, op, args);
+    let on_w = script_writers::on_writer(out, at, p, w, op, args);
     if on_w.ran {
         return left_writer(m, on_w);
     }
@@ -120,11 +120,11 @@ pub fn run_record(out: &mut [u8], at: usize, m: Machine, record: &[u8]) -> Stepp
     let args = part(record, 1, record.len());
     let s = m.s;
     let p = m.p;
-    let on_s = script_values::on_block(out, at, s, op, args);
+    let on_s = script_blocks::on_block(out, at, s, op, args);
     if on_s.ran {
         return left_block(m, on_s);
     }
-    let on_p = script_values::on_packet(out, at, s, p, op, args);
+    let on_p = script_packets::on_packet(out, at, s, p, op, args);
     if on_p.ran {
         return left_packet(m, on_p);
     }

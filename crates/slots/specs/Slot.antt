@@ -1,4 +1,4 @@
--- A slot: the bytes that a packet is written in. [P8]. Assumes nothing.
+-- A slot: the bytes that a packet is written in [P8]. Assumes nothing.
 use mathlib.Core.Bool.{Bool, _&&_}
 use mathlib.Core.List.{List, []}
 use Prim.Native.Nat.{ℕ, _+_, _%_}

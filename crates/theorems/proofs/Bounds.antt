@@ -97,8 +97,8 @@ module _ {w₀ w : CCDataWriter} {fs₀ : List (List ℕ)} {is₀ : Items} (new 
   abbrev reached : Follows freshMux [] fs₀ is₀ w (Padded before)
   reached = from-fresh new before
 
-  -- the pair at place i has left after 2i accepted writes [J3], whatever is pushed or switched between them, once 2i writes or more have
-  -- been accepted the first i places of what was queued have gone.
+  -- the pair at place i has left after 2i accepted writes [J3]: once so many or more are accepted, whatever is pushed or switched between them,
+  -- the first i places of what was queued have gone
   pub pair-leaves : {w′ : CCDataWriter} {fs : List (List ℕ)} {is : Items} → Calls w fs is w′ → (f : Field) → LeavesInTime f w fs is w′
   pair-leaves {w′} c f i there writes =
       let k = follows c (reached .sound) in

@@ -1,4 +1,4 @@
--- Demand 3 about the functions themselves: whatever code meets their contracts, what is pushed is drawn. Assumes nothing.
+-- [J1] of the functions themselves: whatever code meets their contracts, what is pushed is drawn. Assumes nothing.
 use mathlib.Core.Path.{_≡_, ap, _∙_}
 use mathlib.Core.List.{List, []}
 use Prim.Native.Nat.{ℕ}

@@ -158,7 +158,7 @@ impl CCDataWriter {
         Truth::Refused(Refusal::BadValue)
     }
 
-    // Pushes a packet: it is written into the first free slot. An empty one is accepted, even when full, and not stored.
+    // Pushes a packet: it is written into the first free slot. One without blocks is taken and not kept, on a full queue too.
     pub fn push_packet(self, packet: DTVCCPacket) -> WriterAnswer
         ensures { λ r. ⌜ Answers (checked (validWriter self && validDTVCC packet) (pushPacket (packetOf packet) (means self))) (stored self) self r ⌝ }
     {

@@ -32,7 +32,7 @@ pub struct QueuePush {
 }
 
 impl PairQueue {
-    // Pushes a pair: 0x80,0x80 is accepted and dropped, even on a full queue.
+    // Pushes a pair; 80 80 is taken and not kept, on a full queue too.
     pub fn push(mut self, a: u8, b: u8) -> QueuePush
         ensures { λ r. ⌜ saidAnswer (r .answer) ≡ says (pushOutcome self a b) ⌝ }
         ensures { λ r. ⌜ r .queue ≡ after self (mapped (queueOver self) (pushOutcome self a b)) ⌝ }

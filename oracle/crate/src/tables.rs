@@ -1,5 +1,5 @@
-//! The stand-in for the crate's tables: a code is a nonempty run of bytes, and reading a payload
-//! gives one run holding all of it (none if empty) and never fails.
+//! What stands in for the crate's tables: a payload is read as one code, its bytes as they are, or as
+//! none if there are no bytes; this cannot fail.
 
 /// The crate's reading of codes can fail; this one never does, but `parser.rs` converts the error.
 #[derive(Debug, Clone, Copy, PartialEq, Eq)]

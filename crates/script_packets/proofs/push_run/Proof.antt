@@ -1,0 +1,20 @@
+-- The answer is told, and what stands beside it is left. Assumes nothing.
+use Rattle.script_answers.proofs.Steps.{did-as}
+use borrow.Author.Needs.{needs}
+use Rattle.script_packets.proofs.push_run.Statement.{statement}
+use Rattle.script_packets.proofs.push_run.Tie as tie
+
+push-code-requires : tie.Need-push-code-requires
+push-code-requires c κs = search needs
+
+packet-pushed-requires : tie.Need-packet-pushed-requires
+packet-pushed-requires c κs = search needs
+
+same-length : tie.Need-same-length
+same-length c = search needs
+
+returns : tie.Need-returns
+returns c = search (needs, did-as)
+
+pub push-run-spec : {M : Type 1} → statement M
+push-run-spec = tie.close (tie.spec push-code-requires packet-pushed-requires same-length returns)

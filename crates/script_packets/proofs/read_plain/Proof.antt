@@ -1,0 +1,20 @@
+-- What is left is told by what the reader promises of its answer. Assumes nothing.
+use Rattle.script_packets.proofs.Read.{packet-as}
+use borrow.Author.Needs.{needs}
+use Rattle.script_packets.proofs.read_plain.Statement.{statement}
+use Rattle.script_packets.proofs.read_plain.Tie as tie
+
+parse-requires : tie.Need-parse-requires
+parse-requires c κs = search needs
+
+packet-read-requires : tie.Need-packet-read-requires
+packet-read-requires c κs = search needs
+
+same-length : tie.Need-same-length
+same-length c = search needs
+
+returns : tie.Need-returns
+returns c = search (needs, packet-as)
+
+pub read-plain-spec : {M : Type 1} → statement M
+read-plain-spec = tie.close (tie.spec parse-requires packet-read-requires same-length returns)

@@ -1,0 +1,61 @@
+-- What is left of the multiplexer, by what its calls promise. Assumes nothing.
+use mathlib.Core.Path.{_≡_, _∙_}
+use mathlib.Core.Bool.{Bool, true, false}
+use mathlib.Core.List.{List}
+use Prim.Native.Nat.{ℕ}
+use lib.ListN.{getD, drop}
+use Rattle.model.specs.Said.{Outcome, gave, says, checked, mapped, after}
+use Rattle.model.specs.Mux.{Mux, withPads}
+use Rattle.model.proofs.Cases.{by-test}
+use Rattle.caption.specs.declared.Framerate.{Framerate}
+use Rattle.caption.specs.Answers.{saidAnswer, saidCounted}
+use Rattle.caption.specs.Rates.{rate}
+use Rattle.writer.specs.declared.CCDataWriter.{CCDataWriter}
+use Rattle.writer.specs.declared.WriterAnswer.{WriterAnswer}
+use Rattle.writer.specs.declared.WriterCount.{WriterCount}
+use Rattle.writer.specs.Writer.{means, validWriter, stored}
+use Rattle.writer.specs.Calls.{Answers, Writes}
+use Rattle.writer.proofs.Kept.{pads-valid, pads-again}
+use Rattle.program_records.specs.Laid.{Laid}
+use Rattle.program_records.specs.Reading.{highestFirst}
+use Rattle.script_answers.specs.Script.{lentLine}
+use Rattle.script_answers.specs.Steps.{Did, tells, lays, lentOut}
+use Rattle.script_writers.specs.Writers.{wrote, writesFrame}
+
+-- a frame written
+pub did-write : {out now lent′ : List ℕ} {at laid : ℕ} (lent : List ℕ) (rate : Framerate) (w : CCDataWriter) (r : WriterCount) → Writes rate lent w r lent′
+    → Laid (lentLine (saidCounted (r .answer)) lent′) out at laid now → Did (wrote rate lent w) out at laid (r .writer) now
+did-write lent rate w r h l = record { told = rw (← h .answer, ← h .output) l; left = h .places }
+
+-- the same by the argument bytes
+pub told-frame : {out now lent : List ℕ} {at laid : ℕ} {next : CCDataWriter} (a : List ℕ) (w : CCDataWriter) (speed : Framerate) (x y n : ℕ)
+    → Did (wrote speed lent w) out at laid next now → speed ≡ rate x y → x ≡ highestFirst (drop 0 a) → y ≡ highestFirst (drop 4 a)
+    → n ≡ getD a 8 0 → lent ≡ lentOut n → Did (writesFrame a w) out at laid next now
+told-frame a w speed x y n d p q s t e = rw (p, q, s, e, t) at d
+
+-- Both switches set, one after the other: the first call keeps the limits, so that the second is refused where the first was.
+module _ (a b : Bool) (w : CCDataWriter) (f s : WriterAnswer)
+    (x : Answers (checked (validWriter w) (gave (withPads a (w .«output_padding») (means w)))) (stored w) w f)
+    (y : Answers (checked (validWriter (f .writer)) (gave (withPads (f .writer .«output_cea608_padding») b (means (f .writer))))) (stored (f .writer)) (f .writer) s) where
+  -- what both come to
+  abbrev both : Outcome Mux
+  both = checked (validWriter w) (gave (withPads a b (means w)))
+
+  -- within the limits
+  switched-within : validWriter w ≡ true → (saidAnswer (s .answer) ≡ says both) × (s .writer ≡ after w (mapped (stored w) both))
+  switched-within e =
+      let first : f .writer ≡ stored w (withPads a (w .«output_padding») (means w)) = rw e at (x .places) in
+      let good : validWriter (f .writer) ≡ true = rw first (pads-valid w e a (w .«output_padding»)) in (
+        rw good at (y .answer) ∙ rw e,
+        rw good at (y .places) ∙ rw (first, e) (pads-again w e a (w .«output_padding») b),
+      )
+
+  -- outside them
+  switched-outside : validWriter w ≡ false → (saidAnswer (s .answer) ≡ says both) × (s .writer ≡ after w (mapped (stored w) both))
+  switched-outside e =
+      let first : f .writer ≡ w = rw e at (x .places) in
+      let bad : validWriter (f .writer) ≡ false = rw first e in
+      (rw bad at (y .answer) ∙ rw e, rw bad at (y .places) ∙ first ∙ rw e)
+
+  pub did-switch : {out now : List ℕ} {at laid : ℕ} (state : CCDataWriter) → Did (tells (saidAnswer (s .answer)) (s .writer)) out at laid state now → Did (lays stored w both) out at laid state now
+  did-switch state d = let z = by-test (validWriter w) switched-within switched-outside in record { told = rw (← z .0) (d .told); left = d .left ∙ z .1 }

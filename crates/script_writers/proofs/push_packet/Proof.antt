@@ -1,0 +1,21 @@
+-- The answer is told, and what stands beside it is left. Assumes nothing.
+use Rattle.script_answers.proofs.Steps.{did-as}
+use borrow.Author.Needs.{needs}
+use Rattle.script_writers.proofs.push_packet.Statement.{statement}
+use Rattle.script_writers.proofs.push_packet.Tie as tie
+
+push-packet-requires : tie.Need-push-packet-requires
+push-packet-requires c κs = search needs
+
+told-writer-requires : tie.Need-told-writer-requires
+told-writer-requires c κs = search needs
+
+same-length : tie.Need-same-length
+same-length c = search needs
+
+returns : tie.Need-returns
+returns c = search (needs, did-as)
+
+pub push-packet-spec : {M : Type 1} → statement M
+push-packet-spec =
+    tie.close (tie.spec push-packet-requires told-writer-requires same-length returns)

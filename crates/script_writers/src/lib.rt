@@ -1,0 +1,213 @@
+// The operations of a script, by their letters, on its multiplexer: each makes one call, lays the line that tells of it into a lent buffer from a
+// place on, and answers the place behind the line beside what the call leaves.
+ghost use mathlib.Core.Path.{_≡_};
+ghost use Rattle.model.specs.Said.{mapped, after};
+ghost use Rattle.caption.specs.Answers.{saidAnswer};
+ghost use Rattle.writer.specs.Calls.{written};
+ghost use Rattle.script_answers.specs.Steps.{Runs, tells};
+ghost use Rattle.script_answers.specs.Rows.{sought, Asked};
+ghost use Rattle.script_writers.specs.Writers.{renewsWriter, switches, pushesPacket, pushesPair, wrote, writesFrame, tellsDurations};
+ghost use Rattle.script_writers.specs.Writers.{flushesWriter, setsWriter, writerRows};
+use caption::Cea608;
+use caption::Framerate;
+use packet::DTVCCPacket;
+use program_records::byte_at;
+use script_answers::asks;
+use writer::CCDataWriter;
+use writer::WriterAnswer;
+
+// Whether an operation was run, the place behind its line, and the multiplexer.
+pub struct OnWriter {
+    pub ran: bool,
+    pub laid: usize,
+    pub writer: CCDataWriter,
+}
+
+// What a call leaves of a multiplexer.
+fn told_writer(out: &mut [u8], at: usize, done: WriterAnswer) -> OnWriter
+    ensures { λ r. ⌜ Runs (tells (saidAnswer (done .answer)) (done .writer)) (now (out .entry)) at (r .ran) (r .laid) (r .writer) (now (out .exit)) ⌝ }
+{
+    let answer = done.answer;
+    let writer = done.writer;
+    let laid = script_answers::put_answer_line(out, at, answer);
+    OnWriter {
+        ran: true,
+        laid,
+        writer,
+    }
+}
+
+// The two switches set.
+fn switch(
+    out: &mut [u8],
+    at: usize,
+    before: CCDataWriter,
+    cea608_padding: bool,
+    padding: bool,
+) -> OnWriter
+    ensures { λ r. ⌜ Runs (switches «cea608_padding» padding before) (now (out .entry)) at (r .ran) (r .laid) (r .writer) (now (out .exit)) ⌝ }
+{
+    let first = before.set_output_cea608_padding(cea608_padding);
+    let writer = first.writer;
+    told_writer(out, at, writer.set_output_padding(padding))
+}
+
+// A packet pushed.
+fn push_packet(out: &mut [u8], at: usize, before: CCDataWriter, packet: DTVCCPacket) -> OnWriter
+    ensures { λ r. ⌜ Runs (pushesPacket packet before) (now (out .entry)) at (r .ran) (r .laid) (r .writer) (now (out .exit)) ⌝ }
+{
+    told_writer(out, at, before.push_packet(packet))
+}
+
+// A pair pushed.
+fn push_pair(out: &mut [u8], at: usize, before: CCDataWriter, pair: Cea608) -> OnWriter
+    ensures { λ r. ⌜ Runs (pushesPair pair before) (now (out .entry)) at (r .ran) (r .laid) (r .writer) (now (out .exit)) ⌝ }
+{
+    told_writer(out, at, before.push_cea608(pair))
+}
+
+// The multiplexer flushed.
+fn flush_writer(out: &mut [u8], at: usize, before: CCDataWriter) -> OnWriter
+    ensures { λ r. ⌜ Runs (flushesWriter before) (now (out .entry)) at (r .ran) (r .laid) (r .writer) (now (out .exit)) ⌝ }
+{
+    told_writer(out, at, before.flush())
+}
+
+// A frame written to a lent output, which is told whole.
+fn tell_frame(
+    out: &mut [u8],
+    at: usize,
+    before: CCDataWriter,
+    rate: Framerate,
+    lent: &mut [u8],
+) -> OnWriter
+    ensures { λ r. ⌜ Runs (wrote rate (now (lent .entry)) before) (now (out .entry)) at (r .ran) (r .laid) (r .writer) (now (out .exit)) ⌝ }
+    ensures { λ r. ⌜ now (lent .exit) ≡ after (now (lent .entry)) (mapped (λ x. x .out) (written rate (now (lent .entry)) before)) ⌝ }
+{
+    let done = before.write(rate, lent);
+    let counted = done.answer;
+    let writer = done.writer;
+    let laid = script_answers::put_lent_line(out, at, counted, lent);
+    OnWriter {
+        ran: true,
+        laid,
+        writer,
+    }
+}
+
+// A fresh multiplexer.
+fn new_writer(out: &mut [u8], at: usize) -> OnWriter
+    ensures { λ r. ⌜ Runs renewsWriter (now (out .entry)) at (r .ran) (r .laid) (r .writer) (now (out .exit)) ⌝ }
+{
+    let writer = CCDataWriter::new();
+    let laid = script_answers::put_ok_line(out, at);
+    OnWriter {
+        ran: true,
+        laid,
+        writer,
+    }
+}
+
+// The three counts of the multiplexer set, and how many bytes of the packet being sent have left, whatever they break.
+fn set_writer(
+    out: &mut [u8],
+    at: usize,
+    before: CCDataWriter,
+    packets: u8,
+    sent: u8,
+    count1: u8,
+    count2: u8,
+) -> OnWriter
+    ensures { λ r. ⌜ Runs (setsWriter packets sent count1 count2 before) (now (out .entry)) at (r .ran) (r .laid) (r .writer) (now (out .exit)) ⌝ }
+{
+    let mut field1 = before.field1;
+    field1.count = count1 as usize;
+    let mut field2 = before.field2;
+    field2.count = count2 as usize;
+    let mut writer = before;
+    writer.packet_count = packets as usize;
+    writer.sent = sent as usize;
+    writer.field1 = field1;
+    writer.field2 = field2;
+    let laid = script_answers::put_ok_line(out, at);
+    OnWriter {
+        ran: true,
+        laid,
+        writer,
+    }
+}
+
+// A frame written to an output of as many bytes as the last argument says.
+fn write_frame(out: &mut [u8], at: usize, w: CCDataWriter, args: &[u8]) -> OnWriter
+    ensures { λ r. ⌜ Runs (writesFrame (now (args .entry)) w) (now (out .entry)) at (r .ran) (r .laid) (r .writer) (now (out .exit)) ⌝ }
+{
+    let rate = Framerate::new(
+        program_records::number_at(args, 0),
+        program_records::number_at(args, 4),
+    );
+    let mut lent = [0xA5u8; 255];
+    let end = byte_at(args, 8) as usize;
+    tell_frame(out, at, w, rate, &mut lent[0..end])
+}
+
+// The durations told.
+fn tell_durations(out: &mut [u8], at: usize, writer: CCDataWriter) -> OnWriter
+    ensures { λ r. ⌜ Runs (tellsDurations writer) (now (out .entry)) at (r .ran) (r .laid) (r .writer) (now (out .exit)) ⌝ }
+{
+    let laid = script_answers::put_durations(out, at, writer);
+    OnWriter {
+        ran: true,
+        laid,
+        writer,
+    }
+}
+
+// The operations on the multiplexer.
+pub fn on_writer(
+    out: &mut [u8],
+    at: usize,
+    p: DTVCCPacket,
+    w: CCDataWriter,
+    op: u8,
+    args: &[u8],
+) -> OnWriter
+    ensures { λ x. ⌜ Asked (sought (writerRows p w) op (now (args .entry))) w (now (out .entry)) at (x .ran) (x .laid) (x .writer) (now (out .exit)) ⌝ }
+{
+    let n = args.len();
+    let a = byte_at(args, 0);
+    let b = byte_at(args, 1);
+    let c = byte_at(args, 2);
+    let d = byte_at(args, 3);
+    if asks(op, b'W', n == 0) {
+        return new_writer(out, at);
+    }
+    if asks(op, b'S', n == 1) {
+        return switch(out, at, w, a % 2 == 1, a / 2 % 2 == 1);
+    }
+    if asks(op, b'q', n == 0) {
+        return push_packet(out, at, w, p);
+    }
+    if asks(op, b'1', n == 2) {
+        return push_pair(out, at, w, Cea608::Field1(a, b));
+    }
+    if asks(op, b'2', n == 2) {
+        return push_pair(out, at, w, Cea608::Field2(a, b));
+    }
+    if asks(op, b'w', n == 9) {
+        return write_frame(out, at, w, args);
+    }
+    if asks(op, b'u', n == 0) {
+        return tell_durations(out, at, w);
+    }
+    if asks(op, b'x', n == 0) {
+        return flush_writer(out, at, w);
+    }
+    if asks(op, b'Q', n == 4) {
+        return set_writer(out, at, w, a, b, c, d);
+    }
+    OnWriter {
+        ran: false,
+        laid: at,
+        writer: w,
+    }
+}
