@@ -100,14 +100,14 @@ impl Framerate {
         denom: 1001,
     };
 
-    // The rate of `numer` frames in `denom` seconds.
+    // The rate of `numer` frames in `denom` seconds [G1].
     pub fn new(numer: u32, denom: u32) -> Self
         ensures { λ r. ⌜ r ≡ rate numer denom ⌝ }
     {
         Self { numer, denom }
     }
 
-    // The five rates that have names, slowest first.
+    // The five rates that have names, slowest first [G3].
     pub fn named() -> [Framerate; 5]
         ensures { λ r. ⌜ r ≡ namedRates ⌝ }
     {
@@ -134,7 +134,7 @@ impl Framerate {
         self.denom
     }
 
-    // How many 608 pairs and how many triples one frame carries: 960 bits a second for one field of 608, 9600 for 708.
+    // How many 608 pairs and how many triples one frame carries: 960 bits a second for one field of 608, 9600 for 708 [G1] [G2].
     pub fn budgets(self) -> Budgets
         ensures { λ r. ⌜ saidBudgets r ≡ saysWith pairsThenTriples (budgets (self .numer) (self .denom)) ⌝ }
     {

@@ -50,7 +50,7 @@ pub struct ServiceAt {
 }
 
 impl DTVCCPacket {
-    // A packet without blocks.
+    // A packet without blocks [P14].
     pub fn new(seq_no: u8) -> PacketAnswer
         ensures { λ r. ⌜ Answers (newPacket «seq_no») blank r ⌝ }
     {
@@ -69,7 +69,7 @@ impl DTVCCPacket {
         }
     }
 
-    // The sequence number of the packet.
+    // The sequence number of the packet [P1].
     pub fn sequence_no(self) -> Counted
         ensures { λ r. ⌜ saidCounted r ≡ measured (validDTVCC self) (self .«seq_no») ⌝ }
     {
@@ -79,7 +79,7 @@ impl DTVCCPacket {
         Counted::Refused(Refusal::BadValue)
     }
 
-    // How many bytes more the packet has room for.
+    // How many bytes more the packet has room for [P9].
     pub fn free_space(self) -> Counted
         ensures { λ r. ⌜ saidCounted r ≡ measured (validDTVCC self) (packetRoom (packetOf self)) ⌝ }
     {
@@ -89,7 +89,7 @@ impl DTVCCPacket {
         }
     }
 
-    // The length of the packet; 0 without blocks.
+    // The length of the packet; 0 without blocks [P7].
     pub fn len(self) -> Counted
         ensures { λ r. ⌜ saidCounted r ≡ measured (validDTVCC self) (packetLength (packetOf self)) ⌝ }
     {
@@ -99,7 +99,7 @@ impl DTVCCPacket {
         }
     }
 
-    // Whether the packet has no blocks.
+    // Whether the packet has no blocks [P1].
     pub fn is_empty(self) -> Truth
         ensures { λ r. ⌜ saidTruth r ≡ measured (validDTVCC self) (cond (eqb (length (packetOf self .blocks)) 0) 1 0) ⌝ }
     {
@@ -109,7 +109,7 @@ impl DTVCCPacket {
         Truth::Refused(Refusal::BadValue)
     }
 
-    // How many blocks the packet has.
+    // How many blocks the packet has [P1].
     pub fn service_count(self) -> Counted
         ensures { λ r. ⌜ saidCounted r ≡ measured (validDTVCC self) (length (packetOf self .blocks)) ⌝ }
     {
@@ -119,7 +119,7 @@ impl DTVCCPacket {
         Counted::Refused(Refusal::BadValue)
     }
 
-    // The block at a place.
+    // The block at a place [P1].
     pub fn service(self, place: usize) -> ServiceAt
         ensures { λ r. ⌜ Placed (checked (validDTVCC self) (gave (take 1 (drop place (packetOf self .blocks))))) r ⌝ }
     {
@@ -139,7 +139,7 @@ impl DTVCCPacket {
         }
     }
 
-    // Pushes a block behind the others.
+    // Pushes a block behind the others [P10].
     pub fn push_service(self, service: Service) -> PacketAnswer
         ensures { λ r. ⌜ Answers (checked (validDTVCC self && validService service) (pushBlock (blockOf service) (packetOf self))) self r ⌝ }
     {
@@ -157,42 +157,42 @@ impl DTVCCPacket {
         answered(self.seq_no, self.count, r, numbers, sizes, payload)
     }
 
-    // Pushes a code, a run of bytes, to the latest block of its number that has room, or as a new block.
+    // Pushes a code, a run of bytes, to the latest block of its number that has room, or as a new block [P11] [P12].
     pub fn push_code(self, service_no: u8, code: &[u8]) -> PacketAnswer
         ensures { λ r. ⌜ Answers (checked (validDTVCC self) (pushRun «service_no» (now (code .entry)) (packetOf self))) self r ⌝ }
     {
         self.push_run(true, service_no, code)
     }
 
-    // Pushes a code to the latest block of its number; a new block is made only where there is none.
+    // Pushes a code to the latest block of its number; a new block is made only where there is none [P13].
     pub fn push_code_into_single_service(self, service_no: u8, code: &[u8]) -> PacketAnswer
         ensures { λ r. ⌜ Answers (checked (validDTVCC self) (pushRunSingle «service_no» (now (code .entry)) (packetOf self))) self r ⌝ }
     {
         self.push_run(false, service_no, code)
     }
 
-    // Reads a packet as the crate does: data may be shorter than its header says.
+    // Reads a packet as the crate does: data may be shorter than its header says [P2] to [P6].
     pub fn parse(data: &[u8]) -> PacketAnswer
         ensures { λ r. ⌜ Answers (readPacket (now («data» .entry))) blank r ⌝ }
     {
         packet_of(packet_reading::read(data, false))
     }
 
-    // Reads the packet that the first `len` bytes are, as `parse` does; at most 128 are there.
+    // Reads the packet that the first `len` bytes are, as `parse` does; at most 128 are there [P2] to [P6].
     pub fn parse_in(bytes: &[u8; 128], len: usize) -> PacketAnswer
         ensures { λ r. ⌜ Answers (readPacket (take len (now (bytes .entry)))) blank r ⌝ }
     {
         packet_of(packet_reading::read_in(bytes, len, false))
     }
 
-    // Reads a packet whose length is what its header says, and passes each block whole.
+    // Reads a packet whose length is what its header says, and passes each block whole [T1] [T2].
     pub fn parse_tidy(data: &[u8]) -> PacketAnswer
         ensures { λ r. ⌜ Answers (readTidy (now («data» .entry))) blank r ⌝ }
     {
         packet_of(packet_reading::read(data, true))
     }
 
-    // Writes the packet to a lent output; answers how many bytes that is.
+    // Writes the packet to a lent output; answers how many bytes that is [P8] [R9].
     pub fn write(self, out: &mut [u8]) -> Counted
         ensures { λ r. ⌜ Writes (validDTVCC self) (writtenPacket (packetOf self)) (now (out .entry)) r (now (out .exit)) ⌝ }
     {
@@ -202,7 +202,7 @@ impl DTVCCPacket {
         packet_writing::write(self.seq_no, self.count, &numbers, &sizes, &payload, out)
     }
 
-    // Whether the packet breaks no limit.
+    // Whether the packet breaks no limit [P1].
     pub fn is_valid(self) -> bool
         ensures { λ r. ⌜ r ≡ validDTVCC self ⌝ }
     {
@@ -243,14 +243,14 @@ impl DTVCCPacket {
     }
 }
 
-// How many bytes a packet whose first byte is `h` has in all.
+// How many bytes a packet whose first byte is `h` has in all [P2].
 pub fn packet_size(h: u8) -> usize
     ensures { λ r. ⌜ r ≡ packetSize h ⌝ }
 {
     packet_moves::packet_size(h)
 }
 
-// Whether the first `len` bytes read as a packet; at most 128 are there.
+// Whether the first `len` bytes read as a packet; at most 128 are there [F10].
 pub fn reads_in(bytes: &[u8; 128], len: usize) -> bool
     ensures { λ r. ⌜ r ≡ model.reads (take len (now (bytes .entry))) ⌝ }
 {

@@ -64,7 +64,7 @@ pub struct Drawn {
 }
 
 impl CCDataParser {
-    // A fresh demultiplexer: 608 is off, and nothing waits.
+    // A fresh demultiplexer: 608 is off, and nothing waits [F16].
     pub fn new() -> Self
         ensures { λ r. ⌜ (means r ≡ freshDemux) × (r ≡ fresh) ⌝ }
     {
@@ -84,7 +84,7 @@ impl CCDataParser {
         }
     }
 
-    // Turns 608 on: the pairs of frames are listed from now on, and the list is empty.
+    // Turns 608 on: the pairs of frames are listed from now on, and the list is empty [F15].
     pub fn handle_cea608(self) -> ParserAnswer
         ensures { λ r. ⌜ Answers (quiet (turn608On (means self))) (laidAfter self) self r ⌝ }
     {
@@ -100,7 +100,7 @@ impl CCDataParser {
         self.refused(Refusal::BadValue)
     }
 
-    // Reads a frame.
+    // Reads a frame [F1] to [F13].
     pub fn push(self, frame: &[u8]) -> ParserAnswer
         ensures { λ r. ⌜ Answers (takeFrame (now (frame .entry)) (means self)) (laidAfter self) self r ⌝ }
     {
@@ -138,7 +138,7 @@ impl CCDataParser {
         ParserAnswer { answer, parser }
     }
 
-    // Draws the next item: a pair of the list as long as there is one, then the packet that has waited longest.
+    // Draws the next item: a pair of the list as long as there is one, then the packet that has waited longest [F14].
     pub fn draw(self) -> Drawn
         ensures { λ r. ⌜ Draws self r ⌝ }
     {
@@ -174,7 +174,7 @@ impl CCDataParser {
         }
     }
 
-    // Drops all that is held, and turns 608 off.
+    // Drops all that is held, and turns 608 off [F16].
     pub fn flush(self) -> ParserAnswer
         ensures { λ r. ⌜ Answers (quiet (flushDemux (means self))) (λ _. fresh) self r ⌝ }
     {
@@ -188,7 +188,7 @@ impl CCDataParser {
         self.refused(Refusal::BadValue)
     }
 
-    // How many pairs wait to be drawn.
+    // How many pairs wait to be drawn [F7].
     pub fn pairs_waiting(self) -> Counted
         ensures { λ r. ⌜ saidCounted r ≡ measured (valid self) (length (means self .pairs)) ⌝ }
     {
@@ -198,7 +198,7 @@ impl CCDataParser {
         Counted::Refused(Refusal::BadValue)
     }
 
-    // How many packets wait to be drawn.
+    // How many packets wait to be drawn [F10].
     pub fn packets_waiting(self) -> Counted
         ensures { λ r. ⌜ saidCounted r ≡ measured (valid self) (length (means self .waiting)) ⌝ }
     {
@@ -208,7 +208,7 @@ impl CCDataParser {
         Counted::Refused(Refusal::BadValue)
     }
 
-    // Whether a demultiplexer is within the limits; every call of one that is not is refused.
+    // Whether a demultiplexer is within the limits; every call of one that is not is refused [F17].
     pub fn is_valid(self) -> bool
         ensures { λ r. ⌜ r ≡ valid self ⌝ }
     {

@@ -30,7 +30,7 @@ pub struct ServiceAnswer {
 }
 
 impl Service {
-    // A block without payload.
+    // A block without payload [B11].
     pub fn new(service_no: u8) -> ServiceAnswer
         ensures { λ r. ⌜ Answers (newBlock «service_no») blank r ⌝ }
     {
@@ -55,7 +55,7 @@ impl Service {
         }
     }
 
-    // The number of the block.
+    // The number of the block [B1].
     pub fn number(self) -> Counted
         ensures { λ r. ⌜ saidCounted r ≡ measured (validService self) (self .number) ⌝ }
     {
@@ -65,7 +65,7 @@ impl Service {
         Counted::Refused(Refusal::BadValue)
     }
 
-    // How many more bytes the payload has room for.
+    // How many more bytes the payload has room for [B9].
     pub fn free_space(self) -> Counted
         ensures { λ r. ⌜ saidCounted r ≡ measured (validService self) (blockRoom (blockOf self)) ⌝ }
     {
@@ -75,7 +75,7 @@ impl Service {
         Counted::Refused(Refusal::BadValue)
     }
 
-    // The length of the block; 0 without payload.
+    // The length of the block; 0 without payload [B8].
     pub fn len(self) -> Counted
         ensures { λ r. ⌜ saidCounted r ≡ measured (validService self) (blockLength (blockOf self)) ⌝ }
     {
@@ -85,7 +85,7 @@ impl Service {
         Counted::Refused(Refusal::BadValue)
     }
 
-    // Whether the block has no payload.
+    // Whether the block has no payload [B1].
     pub fn is_empty(self) -> Truth
         ensures { λ r. ⌜ saidTruth r ≡ measured (validService self) (cond (eqb (length (blockOf self .payload)) 0) 1 0) ⌝ }
     {
@@ -95,7 +95,7 @@ impl Service {
         Truth::Refused(Refusal::BadValue)
     }
 
-    // Pushes a code, a run of bytes, to the end of the payload.
+    // Pushes a code, a run of bytes, to the end of the payload [B10].
     pub fn push_code(self, code: &[u8]) -> ServiceAnswer
         ensures { λ r. ⌜ Answers (checked (validService self) (pushToBlock (now (code .entry)) (blockOf self))) self r ⌝ }
     {
@@ -126,7 +126,7 @@ impl Service {
         }
     }
 
-    // Reads the block at the front of `data`.
+    // Reads the block at the front of `data` [B2] to [B5].
     pub fn parse(data: &[u8]) -> ServiceAnswer
         ensures { λ r. ⌜ Answers (readBlock (now («data» .entry))) blank r ⌝ }
     {
@@ -169,7 +169,7 @@ impl Service {
         }
     }
 
-    // Writes the block to a lent output; answers how many bytes that is.
+    // Writes the block to a lent output; answers how many bytes that is [B7] [R9].
     pub fn write(self, out: &mut [u8]) -> Counted
         ensures { λ r. ⌜ Writes (validService self) (writtenBlock (blockOf self)) (now (out .entry)) r (now (out .exit)) ⌝ }
     {
@@ -189,7 +189,7 @@ impl Service {
         Counted::Count(total)
     }
 
-    // Whether the block breaks no limit.
+    // Whether the block breaks no limit [B1].
     pub fn is_valid(self) -> bool
         ensures { λ r. ⌜ r ≡ validService self ⌝ }
     {
@@ -206,7 +206,7 @@ impl Service {
     }
 }
 
-// The payload of the block at the front of `data`, as a part of `data`; empty where there is none.
+// The payload of the block at the front of `data`, as a part of `data`; empty where there is none [B6].
 pub fn payload_of(data: &[u8]) -> &[u8]
     ensures { λ r. ⌜ now r ≡ partIn (now («data» .entry)) ⌝ }
 {

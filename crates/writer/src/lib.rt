@@ -66,7 +66,7 @@ struct Pushed {
 }
 
 impl CCDataWriter {
-    // A multiplexer with nothing queued, and no padding.
+    // A multiplexer with nothing queued, and no padding [W4] [W12].
     pub fn new() -> CCDataWriter
         ensures { λ r. ⌜ (means r ≡ freshMux) × (r ≡ fresh) ⌝ }
     {
@@ -91,7 +91,7 @@ impl CCDataWriter {
         }
     }
 
-    // Whether the state is within its limits.
+    // Whether the state is within its limits [W14].
     pub fn is_valid(self) -> bool
         ensures { λ r. ⌜ r ≡ validWriter self ⌝ }
     {
@@ -108,7 +108,7 @@ impl CCDataWriter {
         slots_written(slot, self.sent, packets, self.packet_count)
     }
 
-    // Whether to output padding CEA-608 bytes where not enough has been pushed.
+    // Whether to output padding CEA-608 bytes where not enough has been pushed [W12].
     pub fn set_output_cea608_padding(self, output_cea608_padding: bool) -> WriterAnswer
         ensures { λ r. ⌜ Answers (checked (validWriter self) (gave (withPads «output_cea608_padding» (self .«output_padding») (means self)))) (stored self) self r ⌝ }
     {
@@ -123,7 +123,7 @@ impl CCDataWriter {
         self.refused()
     }
 
-    // Whether padding CEA-608 bytes are output.
+    // Whether padding CEA-608 bytes are output [W12].
     pub fn output_cea608_padding(self) -> Truth
         ensures { λ r. ⌜ saidTruth r ≡ measured (validWriter self) (cond (self .«output_cea608_padding») 1 0) ⌝ }
     {
@@ -133,7 +133,7 @@ impl CCDataWriter {
         Truth::Refused(Refusal::BadValue)
     }
 
-    // Whether to output padding triples up to the most that a frame holds.
+    // Whether to output padding triples up to the most that a frame holds [W12].
     pub fn set_output_padding(self, output_padding: bool) -> WriterAnswer
         ensures { λ r. ⌜ Answers (checked (validWriter self) (gave (withPads (self .«output_cea608_padding») «output_padding» (means self)))) (stored self) self r ⌝ }
     {
@@ -148,7 +148,7 @@ impl CCDataWriter {
         self.refused()
     }
 
-    // Whether padding triples are output.
+    // Whether padding triples are output [W12].
     pub fn output_padding(self) -> Truth
         ensures { λ r. ⌜ saidTruth r ≡ measured (validWriter self) (cond (self .«output_padding») 1 0) ⌝ }
     {
@@ -158,7 +158,7 @@ impl CCDataWriter {
         Truth::Refused(Refusal::BadValue)
     }
 
-    // Pushes a packet: it is written into the first free slot. One without blocks is taken and not kept, on a full queue too.
+    // Pushes a packet: it is written into the first free slot. One without blocks is taken and not kept, on a full queue too [W10].
     pub fn push_packet(self, packet: DTVCCPacket) -> WriterAnswer
         ensures { λ r. ⌜ Answers (checked (validWriter self && validDTVCC packet) (pushPacket (packetOf packet) (means self))) (stored self) self r ⌝ }
     {
@@ -177,7 +177,7 @@ impl CCDataWriter {
         WriterAnswer { answer, writer }
     }
 
-    // Pushes a CEA-608 byte pair.
+    // Pushes a CEA-608 byte pair [W11].
     pub fn push_cea608(self, cea608: Cea608) -> WriterAnswer
         ensures { λ r. ⌜ Answers (checked (validWriter self) (pushCea608 (cea608Of cea608) (means self))) (stored self) self r ⌝ }
     {
@@ -185,7 +185,7 @@ impl CCDataWriter {
         self.push_pair(valid, cea608)
     }
 
-    // Drops what is queued, and the packet being sent.
+    // Drops what is queued, and the packet being sent [W13].
     pub fn flush(self) -> WriterAnswer
         ensures { λ r. ⌜ Answers (checked (validWriter self) (gave (flushMux (means self)))) (emptied self) self r ⌝ }
     {
@@ -210,7 +210,7 @@ impl CCDataWriter {
         self.refused()
     }
 
-    // How long the pairs queued for field 1 take to leave.
+    // How long the pairs queued for field 1 take to leave [D1].
     pub fn buffered_cea608_field1_duration(self) -> Micros
         ensures { λ r. ⌜ saidMicros r ≡ measured (validWriter self) (field1Duration (means self)) ⌝ }
     {
@@ -221,7 +221,7 @@ impl CCDataWriter {
         Micros::Refused(Refusal::BadValue)
     }
 
-    // How long the pairs queued for field 2 take to leave.
+    // How long the pairs queued for field 2 take to leave [D1].
     pub fn buffered_cea608_field2_duration(self) -> Micros
         ensures { λ r. ⌜ saidMicros r ≡ measured (validWriter self) (field2Duration (means self)) ⌝ }
     {
@@ -232,7 +232,7 @@ impl CCDataWriter {
         Micros::Refused(Refusal::BadValue)
     }
 
-    // How long the packets queued, and what is left of the packet being sent, take to leave.
+    // How long the packets queued, and what is left of the packet being sent, take to leave [D2] [D3].
     pub fn buffered_packet_duration(self) -> Micros
         ensures { λ r. ⌜ saidMicros r ≡ measured (validWriter self) (packetDuration (means self)) ⌝ }
     {
@@ -244,7 +244,7 @@ impl CCDataWriter {
         Micros::Refused(Refusal::BadValue)
     }
 
-    // Writes the next frame at a rate: 608 pairs by turns, then packet triples.
+    // Writes the next frame at a rate: 608 pairs by turns, then packet triples [W1] to [W9].
     pub fn write(self, rate: Framerate, out: &mut [u8]) -> WriterCount
         ensures { λ r. ⌜ Writes rate (now (out .entry)) self r (now (out .exit)) ⌝ }
     {
