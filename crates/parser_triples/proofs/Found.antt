@@ -12,7 +12,7 @@ use Rattle.caption.specs.declared.Answer.the-variants.{Accepted, Refused}
 use Rattle.caption.specs.declared.Refusal.the-variants.{Cea608AfterCea708}
 use Rattle.model.specs.Frame.{Cea608, field1, field2, pair, Seen, first, second, start, more, void608, void708, seenAll, triplesIn}
 use Rattle.model.specs.Demux.{lateFrom, lateAfter, carries708}
-use Rattle.parser_triples.specs.Walk.{over, seenFrom}
+use Rattle.parser_triples.specs.Walk.{foldFrom, seenFrom}
 use Rattle.parser_triples.specs.Scan.{scanTurn}
 use Rattle.parser_triples.specs.Pairs.{placedAll, pairsOf}
 use Rattle.parser_triples.specs.Plan.{plan, planFound}
@@ -29,12 +29,12 @@ planScanned Ended = plan Accepted true false
 planScanned Only608 = plan Accepted true false
 
 -- a late triple stays found
-late-found : (at : ℕ) (b : Bool) (i : ℕ) (ts : List Seen) → planScanned (over scanTurn (Late at) i ts) ≡ planFound (some at) b
+late-found : (at : ℕ) (b : Bool) (i : ℕ) (ts : List Seen) → planScanned (foldFrom scanTurn (Late at) i ts) ≡ planFound (some at) b
 late-found at b i ts = ap planScanned (late-stays at i ts)
 
 -- once there was a valid 708 triple
-carries-found : (i : ℕ) (ts : List Seen) → planScanned (over scanTurn Carries i ts) ≡ planFound (lateAfter i ts) true
-unfolding over scanTurn lateAfter
+carries-found : (i : ℕ) (ts : List Seen) → planScanned (foldFrom scanTurn Carries i ts) ≡ planFound (lateAfter i ts) true
+unfolding foldFrom scanTurn lateAfter
 carries-found i [] = refl
 carries-found i (first a b ∷ ts) = late-found (3 * i) true (i + 1) ts
 carries-found i (second a b ∷ ts) = late-found (3 * i) true (i + 1) ts
@@ -44,8 +44,8 @@ carries-found i (start a b ∷ ts) = rw add-one (carries-found (suc i) ts)
 carries-found i (more a b ∷ ts) = rw add-one (carries-found (suc i) ts)
 
 -- once the 608 part has ended
-ended-found : (i : ℕ) (ts : List Seen) → planScanned (over scanTurn Ended i ts) ≡ planFound (lateAfter i ts) (carries708 ts)
-unfolding over scanTurn lateAfter carries708
+ended-found : (i : ℕ) (ts : List Seen) → planScanned (foldFrom scanTurn Ended i ts) ≡ planFound (lateAfter i ts) (carries708 ts)
+unfolding foldFrom scanTurn lateAfter carries708
 ended-found i [] = refl
 ended-found i (first a b ∷ ts) = late-found (3 * i) (carries708 ts) (i + 1) ts
 ended-found i (second a b ∷ ts) = late-found (3 * i) (carries708 ts) (i + 1) ts
@@ -55,8 +55,8 @@ ended-found i (start a b ∷ ts) = rw add-one (carries-found (suc i) ts)
 ended-found i (more a b ∷ ts) = rw add-one (carries-found (suc i) ts)
 
 -- the search finds what the model does
-pub scan-found : (i : ℕ) (ts : List Seen) → planScanned (over scanTurn Only608 i ts) ≡ planFound (lateFrom i ts) (carries708 ts)
-unfolding over scanTurn lateFrom carries708
+pub scan-found : (i : ℕ) (ts : List Seen) → planScanned (foldFrom scanTurn Only608 i ts) ≡ planFound (lateFrom i ts) (carries708 ts)
+unfolding foldFrom scanTurn lateFrom carries708
 scan-found i [] = refl
 scan-found i (first a b ∷ ts) = rw add-one (scan-found (suc i) ts)
 scan-found i (second a b ∷ ts) = rw add-one (scan-found (suc i) ts)

@@ -12,7 +12,7 @@ use Rattle.model.proofs.Cases.{by-test}
 use Rattle.parser_triples.specs.Scan.{found, scanFirst, scanAfter, scanTurn}
 use Rattle.parser_triples.specs.declared.Scan.{Scan}
 use Rattle.parser_triples.specs.declared.Scan.the-variants.{Only608, Ended, Carries, Late}
-use Rattle.parser_triples.specs.Walk.{over, seenFrom}
+use Rattle.parser_triples.specs.Walk.{foldFrom, seenFrom}
 use Rattle.parser_triples.proofs.Walks.{walk-again, walk-done, seen-next, sees-void608, sees-void708, sees-void, sees-608, sees-708}
 
 module _ (c x y : ℕ) where
@@ -51,39 +51,39 @@ found-after true i t = refl
 found-after false i t = refl
 
 -- a late one stays found
-pub late-stays : (at i : ℕ) (ts : List Seen) → over scanTurn (Late at) i ts ≡ Late at
-unfolding over scanTurn
+pub late-stays : (at i : ℕ) (ts : List Seen) → foldFrom scanTurn (Late at) i ts ≡ Late at
+unfolding foldFrom scanTurn
 late-stays at i [] = refl
 late-stays at i (t ∷ ts) = late-stays at (i + 1) ts
 
 -- the search from a triple that ends the 608 part is the search after it
 ends-same : (i : ℕ) (t : Seen) (ts : List Seen) → scanFirst t ≡ scanAfter Ended (3 * i) t
-    → over scanTurn Only608 i (t ∷ ts) ≡ over scanTurn (found false) i (t ∷ ts)
-unfolding over scanTurn
-ends-same i t ts e = ap (λ (s : Scan). over scanTurn s (i + 1) ts) e
+    → foldFrom scanTurn Only608 i (t ∷ ts) ≡ foldFrom scanTurn (found false) i (t ∷ ts)
+unfolding foldFrom scanTurn
+ends-same i t ts e = ap (λ (s : Scan). foldFrom scanTurn s (i + 1) ts) e
 
 -- For the loops: `a` is the search over the whole, and stays the search over what is left.
 module _ (a : Scan) (f : List ℕ) (i : ℕ) where
   -- within the 608 part
-  module _ (e : a ≡ over scanTurn Only608 i (seenFrom i f)) (h : 3 * i + 4 < length f) where
+  module _ (e : a ≡ foldFrom scanTurn Only608 i (seenFrom i f)) (h : 3 * i + 4 < length f) where
     -- a triple of type 0 or 1
-    pub part-again : getD f (3 * i + 2) 0 % 4 < 2 → a ≡ over scanTurn Only608 (i + 1) (seenFrom (i + 1) f)
+    pub part-again : getD f (3 * i + 2) 0 % 4 < 2 → a ≡ foldFrom scanTurn Only608 (i + 1) (seenFrom (i + 1) f)
     unfolding scanTurn
     part-again k = walk-again scanTurn a f Only608 Only608 i e h (first-stays _ _ _ k)
 
     -- one of type 2 or 3: the rest is searched
-    pub part-ends : (r : Scan) → 2 ≤ getD f (3 * i + 2) 0 % 4 → r ≡ over scanTurn (found false) i (seenFrom i f) → r ≡ a
+    pub part-ends : (r : Scan) → 2 ≤ getD f (3 * i + 2) 0 % 4 → r ≡ foldFrom scanTurn (found false) i (seenFrom i f) → r ≡ a
     part-ends r k q = q ∙ rw (seen-next f i h) (sym (ends-same i _ _ (first-ends _ _ _ (3 * i) k))) ∙ sym e
 
   -- after it
-  module _ (b : Bool) (e : a ≡ over scanTurn (found b) i (seenFrom i f)) where
+  module _ (b : Bool) (e : a ≡ foldFrom scanTurn (found b) i (seenFrom i f)) where
     module _ (h : 3 * i + 4 < length f) where
       -- one that is not valid
-      pub found-void : getD f (3 * i + 2) 0 % 8 < 4 → a ≡ over scanTurn (found b) (i + 1) (seenFrom (i + 1) f)
+      pub found-void : getD f (3 * i + 2) 0 % 8 < 4 → a ≡ foldFrom scanTurn (found b) (i + 1) (seenFrom (i + 1) f)
       found-void k = walk-again scanTurn a f (found b) (found b) i e h (after-void _ _ _ (found b) (3 * i) k ∙ sym (found-after b i _))
 
       -- a valid one of type 2 or 3
-      pub found-more : 6 ≤ getD f (3 * i + 2) 0 % 8 → a ≡ over scanTurn (found true) (i + 1) (seenFrom (i + 1) f)
+      pub found-more : 6 ≤ getD f (3 * i + 2) 0 % 8 → a ≡ foldFrom scanTurn (found true) (i + 1) (seenFrom (i + 1) f)
       found-more k = walk-again scanTurn a f (found b) Carries i e h (after-carries _ _ _ (found b) (3 * i) k ∙ sym (found-after b i _))
 
       -- a valid one of type 0 or 1

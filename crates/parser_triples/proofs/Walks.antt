@@ -10,7 +10,7 @@ use lib.Dec.{eqb, ltb}
 use borrow.Author.Tests.{eqb-true, eqb-false, ltb-true, ltb-false}
 use Rattle.model.proofs.Cases.{by-test}
 use Rattle.model.specs.Frame.{tri, Seen, first, second, start, more, void608, void708, seen, seenAll, triplesIn}
-use Rattle.parser_triples.specs.Walk.{seenFrom, over}
+use Rattle.parser_triples.specs.Walk.{seenFrom, foldFrom}
 
 -- what a reader sees, by the first byte's low three bits
 abbrev seenAs : ℕ → ℕ → ℕ → Seen
@@ -144,13 +144,13 @@ seen-none l i h = short-none (drop (3 * i + 2) l) (simp length-drop (omega arith
 -- For a loop: `a` is the walk over the whole, and stays the walk over what is left.
 module _ {S : Type 0} (turn : S → ℕ → Seen → S) where
   -- a turn
-  pub walk-again : (a : S) (l : List ℕ) (s t : S) (i : ℕ) → a ≡ over turn s i (seenFrom i l) → 3 * i + 4 < length l
+  pub walk-again : (a : S) (l : List ℕ) (s t : S) (i : ℕ) → a ≡ foldFrom turn s i (seenFrom i l) → 3 * i + 4 < length l
       → t ≡ turn s i (seen (tri (getD l (3 * i + 2) 0) (getD l (3 * i + 3) 0) (getD l (3 * i + 4) 0)))
-      → a ≡ over turn t (i + 1) (seenFrom (i + 1) l)
-  unfolding over
+      → a ≡ foldFrom turn t (i + 1) (seenFrom (i + 1) l)
+  unfolding foldFrom
   walk-again a l s t i e h r = rw r (rw (seen-next l i h) at e)
 
   -- the end
-  pub walk-done : (a : S) (l : List ℕ) (s : S) (i : ℕ) → a ≡ over turn s i (seenFrom i l) → length l ≤ 3 * i + 4 → s ≡ a
-  unfolding over
+  pub walk-done : (a : S) (l : List ℕ) (s : S) (i : ℕ) → a ≡ foldFrom turn s i (seenFrom i l) → length l ≤ 3 * i + 4 → s ≡ a
+  unfolding foldFrom
   walk-done a l s i e h = sym (rw (seen-none l i h) at e)

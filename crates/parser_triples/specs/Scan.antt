@@ -3,7 +3,7 @@ use mathlib.Core.List.{List}
 use mathlib.Core.Bool.{Bool, cond}
 use Prim.Native.Nat.{ℕ, _*_}
 use Rattle.model.specs.Frame.{Seen, first, second, start, more, void608, void708}
-use Rattle.parser_triples.specs.Walk.{over, seenFrom}
+use Rattle.parser_triples.specs.Walk.{foldFrom, seenFrom}
 use Rattle.parser_triples.specs.declared.Scan.{Scan}
 use Rattle.parser_triples.specs.declared.Scan.the-variants.{Only608, Ended, Carries, Late}
 
@@ -42,4 +42,4 @@ found carries = cond carries Carries Ended
 
 -- the search over a frame
 abbrev pub scanned : List ℕ → Scan
-scanned f = over scanTurn Only608 0 (seenFrom 0 f)
+scanned f = foldFrom scanTurn Only608 0 (seenFrom 0 f)

@@ -9,6 +9,6 @@ abbrev pub seenFrom : ℕ → List ℕ → List Seen
 seenFrom i f = seenAll (triplesIn (drop (3 * i + 2) f))
 
 -- a walk: what each triple does to a state, given the triple's index
-unfoldable pub over : {S : Type 0} → (S → ℕ → Seen → S) → S → ℕ → List Seen → S
-over turn s i [] = s
-over turn s i (t ∷ ts) = over turn (turn s i t) (i + 1) ts
+unfoldable pub foldFrom : {S : Type 0} → (S → ℕ → Seen → S) → S → ℕ → List Seen → S
+foldFrom turn s i [] = s
+foldFrom turn s i (t ∷ ts) = foldFrom turn (turn s i t) (i + 1) ts

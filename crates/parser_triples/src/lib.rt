@@ -5,7 +5,7 @@ ghost use mathlib.Core.List.{_∷_, List};
 ghost use Prim.Native.Nat.{_+_, _*_, _%_, _≤_, _<_};
 ghost use lib.ListN.{length};
 ghost use Rattle.model.specs.Frame.{Seen, seen, tri};
-ghost use Rattle.parser_triples.specs.Walk.{over, seenFrom};
+ghost use Rattle.parser_triples.specs.Walk.{foldFrom, seenFrom};
 ghost use Rattle.parser_triples.specs.Scan.{found, scanTurn, scanned};
 ghost use Rattle.parser_triples.specs.Listing.{listing, listedBy, fieldsFine, listFine};
 ghost use mathlib.Core.Bool.{false, _&&_};
@@ -70,7 +70,7 @@ fn header(frame: &[u8]) -> Head
 // The search after the 608 part, from the triple at `from` on.
 fn scan_after(frame: &[u8], from: usize) -> Scan
     requires { ⌜ 3 * from ≤ length (now frame) + 2 ⌝ }
-    ensures { λ r. ⌜ r ≡ over scanTurn (found false) from (seenFrom from (now (frame .entry))) ⌝ }
+    ensures { λ r. ⌜ r ≡ foldFrom scanTurn (found false) from (seenFrom from (now (frame .entry))) ⌝ }
 {
     let mut carries = false;
     let mut i = from;

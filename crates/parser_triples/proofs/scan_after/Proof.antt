@@ -4,7 +4,7 @@ use mathlib.Core.Bool.{false}
 use Prim.Native.Nat.{_+_, _*_, _-_, _≤_}
 use native.Mathlib.Omega.{arith}
 use lib.ListN.{length}
-use Rattle.parser_triples.specs.Walk.{over, seenFrom}
+use Rattle.parser_triples.specs.Walk.{foldFrom, seenFrom}
 use Rattle.parser_triples.specs.Scan.{found, scanTurn}
 use Rattle.parser_triples.proofs.Scans.{found-void, found-more, found-late, found-carries, found-none}
 use borrow.Author.Needs.{needs}
@@ -13,7 +13,7 @@ use Rattle.parser_triples.proofs.scan_after.Tie as tie
 
 abbrev Inv-loop : tie.InvT-loop
 Inv-loop frame from carries₀ i₀ carries i =
-    (3 * i ≤ length frame + 2) × (over scanTurn (found false) from (seenFrom from frame) ≡ over scanTurn (found carries) i (seenFrom i frame))
+    (3 * i ≤ length frame + 2) × (foldFrom scanTurn (found false) from (seenFrom from frame) ≡ foldFrom scanTurn (found carries) i (seenFrom i frame))
 
 abbrev μ-loop : tie.MeasureT-loop
 μ-loop frame from carries₀ i₀ carries i = length frame + 3 - 3 * i

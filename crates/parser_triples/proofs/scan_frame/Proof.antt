@@ -4,7 +4,7 @@ use mathlib.Core.Path.{_≡_, refl}
 use Prim.Native.Nat.{_+_, _*_, _-_, _≤_}
 use native.Mathlib.Omega.{arith}
 use lib.ListN.{length}
-use Rattle.parser_triples.specs.Walk.{over, seenFrom}
+use Rattle.parser_triples.specs.Walk.{foldFrom, seenFrom}
 use Rattle.parser_triples.specs.Scan.{scanTurn, scanned}
 use Rattle.parser_triples.specs.declared.Scan.the-variants.{Only608}
 use Rattle.parser_triples.proofs.Walks.{walk-done}
@@ -14,7 +14,7 @@ use Rattle.parser_triples.proofs.scan_frame.Statement.{statement}
 use Rattle.parser_triples.proofs.scan_frame.Tie as tie
 
 abbrev Inv-loop : tie.InvT-loop
-Inv-loop frame i₀ i = (3 * i ≤ length frame + 2) × (scanned frame ≡ over scanTurn Only608 i (seenFrom i frame))
+Inv-loop frame i₀ i = (3 * i ≤ length frame + 2) × (scanned frame ≡ foldFrom scanTurn Only608 i (seenFrom i frame))
 
 abbrev μ-loop : tie.MeasureT-loop
 μ-loop frame i₀ i = length frame + 3 - 3 * i
