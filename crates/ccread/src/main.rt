@@ -3,7 +3,7 @@ ghost use mathlib.Core.Path.{_≡_};
 ghost use mathlib.Core.Bool.{true, false};
 ghost use Prim.Native.Nat.{_+_, _≤_, _<_};
 ghost use lib.ListN.{length, take, drop};
-ghost use Rattle.program_records.specs.Laid.{Whole};
+ghost use Rattle.program_text.specs.Laid.{Whole};
 ghost use Rattle.program_streams.specs.Walk.{before, told, silent, done, Kept, Follow};
 ghost use Rattle.ccread.specs.Walk.{mark, tell, toTell, stillToTell, Steps, Ran, freshState};
 ghost use Rattle.ccread_report.specs.Report.{frameLines, settled};

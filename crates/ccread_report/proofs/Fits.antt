@@ -17,9 +17,9 @@ use Rattle.model.specs.Demux.{Demux, Taken, Gathered, packetsOf, pairsIn, lateF
 use Rattle.model.proofs.Cases.{by-test, by-cond, both}
 use Rattle.model.proofs.Blocks.{carriable-facts, length-short, length-long}
 use Rattle.model.proofs.Packets.{Valid, valid-facts, length-some}
-use Rattle.program_records.specs.Text.{word, decimal, hex}
-use Rattle.program_records.proofs.Layings.{length-hex}
-use Rattle.program_records.proofs.Decimals.{digits-most}
+use Rattle.program_text.specs.Text.{word, decimal, hex}
+use Rattle.program_text.proofs.Layings.{length-hex}
+use Rattle.program_text.proofs.Decimals.{digits-most}
 use Rattle.program_lines.specs.Lines.{pairText, packetText, frameLine, blockLine}
 use Rattle.parser.specs.Valid.{valid}
 use Rattle.parser.specs.Means.{means, Shaped}

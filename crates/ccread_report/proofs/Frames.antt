@@ -13,8 +13,8 @@ use Rattle.caption.proofs.Answers.{refusal-numbered}
 use Rattle.model.specs.Said.{Said}
 use Rattle.model.specs.Demux.{takeFrame}
 use Rattle.model.proofs.Cases.{by-test}
-use Rattle.program_records.specs.Laid.{Laid}
-use Rattle.program_records.proofs.Layings.{laid-append}
+use Rattle.program_text.specs.Laid.{Laid}
+use Rattle.program_text.proofs.Layings.{laid-append}
 use Rattle.program_lines.specs.Lines.{frameLine}
 use Rattle.parser.specs.Valid.{valid}
 use Rattle.parser.specs.Means.{means, Shaped}

@@ -6,8 +6,8 @@ use native.Mathlib.Omega.{arith}
 use lib.ListN.{length}
 use Rattle.model.specs.Demux as model
 use Rattle.packet.specs.Packet.{packetOf}
-use Rattle.program_records.specs.Laid.{Laid}
-use Rattle.program_records.proofs.Layings.{laid-within}
+use Rattle.program_text.specs.Laid.{Laid}
+use Rattle.program_text.proofs.Layings.{laid-within}
 use Rattle.parser.specs.Means.{means}
 use Rattle.parser.specs.Items.{Draws}
 use Rattle.parser.specs.declared.Item.the-variants as item

@@ -11,14 +11,14 @@ use Rattle.packet.specs.Packet.{packetOf, validDTVCC}
 use Rattle.packet.specs.declared.DTVCCPacket.{DTVCCPacket}
 use Rattle.packet_entries.proofs.Entries.{held-at, good-at}
 use Rattle.packet.proofs.Holds.{Places, within-facts, entries-within}
-use Rattle.program_records.specs.Laid.{Laid}
-use Rattle.program_records.proofs.Layings.{laid-append}
+use Rattle.program_text.specs.Laid.{Laid}
+use Rattle.program_text.proofs.Layings.{laid-append}
 use Rattle.program_lines.specs.Lines.{blockLine, pairText, packetText}
 use Rattle.caption.specs.declared.Cea608.{Cea608}
 use Rattle.caption.specs.declared.Refusal.{Refusal}
 use Rattle.caption.specs.Pairs.{cea608Of}
 use Rattle.model.specs.Packet.{Packet}
-use Rattle.program_records.specs.Text.{word}
+use Rattle.program_text.specs.Text.{word}
 use Rattle.parser.specs.declared.Item.{Item}
 use Rattle.parser.specs.declared.Item.the-variants as item
 use Rattle.ccread_report.specs.Report.{blockLines, packetLines, pairLine, itemLines}

@@ -9,7 +9,7 @@ use Rattle.model.specs.Block.{Block}
 use Rattle.model.specs.Packet.{Packet}
 use Rattle.model.specs.Frame.{Cea608}
 use Rattle.model.specs.Demux.{Demux, Taken, takeFrame}
-use Rattle.program_records.specs.Text.{word}
+use Rattle.program_text.specs.Text.{word}
 use Rattle.program_lines.specs.Lines.{pairText, packetText, frameLine, blockLine}
 use Rattle.parser.specs.Valid.{valid}
 use Rattle.parser.specs.Means.{means}

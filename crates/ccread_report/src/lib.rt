@@ -4,7 +4,7 @@ ghost use mathlib.Core.Path.{_≡_};
 ghost use Prim.Native.Nat.{_≤_};
 ghost use lib.ListN.{length};
 ghost use Rattle.packet.specs.Packet.{packetOf, validDTVCC};
-ghost use Rattle.program_records.specs.Laid.{Laid};
+ghost use Rattle.program_text.specs.Laid.{Laid};
 ghost use mathlib.Core.Bool.{true};
 ghost use Rattle.parser.specs.Valid.{valid};
 ghost use Rattle.parser.specs.Means.{means};
@@ -53,11 +53,11 @@ fn put_item(out: &mut [u8], at: usize, item: Item, packet: DTVCCPacket) -> usize
     match item {
         Item::Pair(pair) => {
             let end = program_lines::put_pair(out, at, pair);
-            program_records::put_newline(out, end)
+            program_text::put_newline(out, end)
         }
         Item::Packet => {
             let end = program_lines::put_packet(out, at, packet.seq_no);
-            let next = program_records::put_newline(out, end);
+            let next = program_text::put_newline(out, end);
             put_blocks(out, next, packet)
         }
         Item::Nothing => at,

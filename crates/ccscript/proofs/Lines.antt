@@ -8,8 +8,8 @@ use lib.Dec.{ltb}
 use lib.ListN.{length, take, set}
 use lib.Seq.{sets, take-set-le}
 use borrow.Author.Tests.{lt-ltb, le-ltb}
-use Rattle.program_records.specs.Laid.{Laid}
-use Rattle.program_records.proofs.Layings.{laid-whole, whole-taken}
+use Rattle.program_text.specs.Laid.{Laid}
+use Rattle.program_text.proofs.Layings.{laid-whole, whole-taken}
 
 -- what stands before a place stays
 take-sets : (vs l : List ℕ) (n i : ℕ) → n ≤ i → take n (sets l i vs) ≡ take n l

@@ -5,7 +5,7 @@ use Prim.Native.Nat.{ℕ}
 use contract.Lifetimes.{Lfts}
 use denote.Ref.{now}
 use Rattle.parser.specs.declared.CCDataParser.{CCDataParser}
-use Rattle.program_records.specs.Laid.{Laid}
+use Rattle.program_text.specs.Laid.{Laid}
 use Rattle.ccread_report.specs.declared.Told.{Told}
 use Rattle.ccread_report.proofs.put_frame.Reads as put_frame
 use Rattle.determined.specs.Determines.{DeterminesLent}

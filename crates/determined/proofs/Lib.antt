@@ -22,6 +22,7 @@ pub mod WriterSending
 pub mod WriterStoring
 pub mod WriterBuilding
 pub mod Writer
+pub mod ProgramText
 pub mod ProgramRecords
 pub mod ProgramLines
 pub mod CcreadReport

@@ -1,7 +1,7 @@
 -- The functions that lay lines. Assumes nothing.
 use contract.Lifetimes.{Lfts}
 use denote.Ref.{now}
-use Rattle.determined.proofs.ProgramRecords.{lays}
+use Rattle.determined.proofs.ProgramText.{lays}
 use Rattle.program_lines.proofs.put_value.Reads as put_value
 use Rattle.program_lines.proofs.put_run.Reads as put_run
 use Rattle.program_lines.proofs.put_block.Reads as put_block

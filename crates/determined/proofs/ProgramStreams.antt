@@ -5,7 +5,7 @@ use Rattle.program_streams.proofs.left_at.Reads as left_at
 use Rattle.program_streams.proofs.put_last.Reads as put_last
 use Rattle.program_streams.proofs.goes_on.Reads as goes_on
 use Rattle.determined.specs.Determines.{Determines, DeterminesLent}
-use Rattle.determined.proofs.ProgramRecords.{lays}
+use Rattle.determined.proofs.ProgramText.{lays}
 use Rattle.determined.proofs.Ways.{equal}
 
 -- `left_at(found)`

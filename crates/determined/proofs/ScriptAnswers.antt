@@ -15,7 +15,7 @@ use Rattle.script_answers.proofs.put_packet_line.Reads as put_packet_line
 use Rattle.script_answers.proofs.put_item_line.Reads as put_item_line
 use Rattle.determined.specs.Determines.{Determines, DeterminesLent}
 use Rattle.determined.proofs.Ways.{equal}
-use Rattle.determined.proofs.ProgramRecords.{lays}
+use Rattle.determined.proofs.ProgramText.{lays}
 
 -- `asks(op, letter, fits)`
 pub asks : Determines (Asks.Post (tt {0}))

@@ -3,7 +3,7 @@ use mathlib.Core.Path.{_≡_, refl}
 use mathlib.Core.List.{[], _∷_, _++_, map}
 use Rattle.model.specs.Said.{accepted, lengthMismatch, cea608AfterCea708, outShort, badValue}
 use Rattle.model.specs.Frame.{pair, field1}
-use Rattle.program_records.specs.Text.{word, digit, decimalIn, decimal, run}
+use Rattle.program_text.specs.Text.{word, digit, decimalIn, decimal, run}
 use Rattle.program_lines.specs.Lines.{valueText, valuesText, runText, blockText, answerText, pairText, packetText, frameLine, blockLine, endLine, stoppedLine}
 
 -- what the record CC DA 0B C3 FF FC 94 2C FF 82 21 FE 41 00 prints

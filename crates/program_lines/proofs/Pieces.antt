@@ -7,10 +7,10 @@ use borrow.Author.Tests.{eq-eqb, ne-eqb}
 use Rattle.caption.specs.declared.Cea608.{Cea608}
 use Rattle.caption.specs.declared.Cea608.the-variants.{Field1, Field2}
 use Rattle.caption.specs.Pairs.{cea608Of}
-use Rattle.program_records.specs.Laid.{Laid}
-use Rattle.program_records.specs.Text.{word, decimal, hexByte, hex, run}
+use Rattle.program_text.specs.Laid.{Laid}
+use Rattle.program_text.specs.Text.{word, decimal, hexByte, hex, run}
 use Rattle.program_lines.specs.Lines.{valueText, runText, blockText, pairText, packetText, blockLine, endLine, stoppedLine}
-use Rattle.program_records.proofs.Layings.{laid-append}
+use Rattle.program_text.proofs.Layings.{laid-append}
 
 -- a run: none, and some
 module _ (bs : List ℕ) {out after : List ℕ} {at r : ℕ} where

@@ -8,10 +8,10 @@ use borrow.Author.Tests.{eq-eqb, ne-eqb}
 use Rattle.model.specs.Said.{Said}
 use Rattle.program_lines.specs.declared.Told.{Told}
 use Rattle.program_lines.specs.Telling.{saidBy}
-use Rattle.program_records.specs.Laid.{Laid}
-use Rattle.program_records.specs.Text.{word, decimal}
+use Rattle.program_text.specs.Laid.{Laid}
+use Rattle.program_text.specs.Text.{word, decimal}
 use Rattle.program_lines.specs.Lines.{valueText, valuesText, answerText, frameLine}
-use Rattle.program_records.proofs.Layings.{laid-append}
+use Rattle.program_text.proofs.Layings.{laid-append}
 
 -- an answer that is known says what its row of the table says
 pub told-as : {A : Type 0} (said : A → Said) (t : Told) (x row : A) → x ≡ row → saidBy t ≡ said row → saidBy t ≡ said x

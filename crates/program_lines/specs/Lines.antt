@@ -5,7 +5,7 @@ use Prim.Native.Nat.{ℕ}
 use lib.Dec.{eqb}
 use Rattle.model.specs.Said.{Said}
 use Rattle.model.specs.Frame.{Cea608, pair, field1, field2}
-use Rattle.program_records.specs.Text.{word, decimal, hex, run}
+use Rattle.program_text.specs.Text.{word, decimal, hex, run}
 
 -- Pieces. Before a value stands one space: a number, a run of bytes,
 unfoldable pub valueText : ℕ → List ℕ

@@ -5,20 +5,20 @@ ghost use mathlib.Core.List.{[], _∷_, _++_};
 ghost use lib.ListN.{take};
 ghost use Rattle.caption.specs.Answers.{saidRefusal, saidAnswer, saidCounted};
 ghost use Rattle.caption.specs.Pairs.{cea608Of};
-ghost use Rattle.program_records.specs.Laid.{Laid};
-ghost use Rattle.program_records.specs.Text.{run, decimal, hex};
+ghost use Rattle.program_text.specs.Laid.{Laid};
+ghost use Rattle.program_text.specs.Text.{run, decimal, hex};
 ghost use Rattle.program_lines.specs.Telling.{saidBy};
 ghost use Rattle.program_lines.specs.Lines.{valueText, valuesText, runText, blockText, answerText, pairText, packetText, frameLine, blockLine, endLine, stoppedLine};
 use caption::Answer;
 use caption::Cea608;
 use caption::Counted;
 use caption::Refusal;
-use program_records::put_byte;
-use program_records::put_decimal;
-use program_records::put_hex;
-use program_records::put_hex_byte;
-use program_records::put_newline;
-use program_records::put_word;
+use program_text::put_byte;
+use program_text::put_decimal;
+use program_text::put_hex;
+use program_text::put_hex_byte;
+use program_text::put_newline;
+use program_text::put_word;
 
 // What an answer says: its number, and the first `count` of two values.
 struct Told {

@@ -1,5 +1,3 @@
-pub mod Layings
-pub mod Decimals
 pub mod Moves
 pub mod Readings
 pub mod Cuts

@@ -11,7 +11,7 @@ use lib.Seq.{sets, drop-cons, drop-set-lt, take-all, take-nil}
 use borrow.Author.Tests.{leb-true, leb-false}
 use Rattle.model.proofs.Cases.{by-test}
 use Rattle.basics.proofs.Runs.{sets-front}
-use Rattle.program_records.specs.Laid.{Moved, between}
+use Rattle.program_records.specs.Moved.{Moved, between}
 
 -- a part that begins past the end, one that goes past it, and one that is there
 module _ (l : List ℕ) (start len : ℕ) where

@@ -1,3 +1,2 @@
-pub mod Text
-pub mod Laid
+pub mod Moved
 pub mod Reading

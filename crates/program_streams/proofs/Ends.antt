@@ -4,10 +4,10 @@ use mathlib.Core.List.{List, _++_}
 use Prim.Native.Nat.{ℕ, _+_, _^_, _≤_, _<_}
 use native.Mathlib.Omega.{arith}
 use lib.ListN.{length, take, length-append}
-use Rattle.program_records.specs.Text.{word, decimal}
-use Rattle.program_records.specs.Laid.{Laid}
-use Rattle.program_records.proofs.Layings.{laid-whole, whole-taken}
-use Rattle.program_records.proofs.Decimals.{digits-most}
+use Rattle.program_text.specs.Text.{word, decimal}
+use Rattle.program_text.specs.Laid.{Laid}
+use Rattle.program_text.proofs.Layings.{laid-whole, whole-taken}
+use Rattle.program_text.proofs.Decimals.{digits-most}
 use Rattle.program_lines.specs.Lines.{stoppedLine, endLine}
 use Rattle.program_streams.specs.Ends.{lastLine}
 use Rattle.program_streams.specs.declared.Left.{Left}

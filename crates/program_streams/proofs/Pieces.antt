@@ -6,7 +6,7 @@ use Prim.Native.Nat.{ℕ, suc, _-_, _≤_, _<_}
 use native.Mathlib.Omega.{arith}
 use lib.ListN.{length, take, drop, length-append}
 use lib.Seq.{take-at}
-use Rattle.program_records.specs.Laid.{Moved, between}
+use Rattle.program_records.specs.Moved.{Moved, between}
 use Rattle.program_streams.specs.Ends.{goesOn}
 use Rattle.program_streams.specs.Walk.{Walked, silent, done, Kept}
 use Rattle.program_streams.specs.declared.Left.{Left}

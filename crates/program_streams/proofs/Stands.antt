@@ -10,7 +10,7 @@ use lib.Seq.{drop-drop, take-add, drop-at, length-take-le}
 use borrow.Author.Tests.{leb-true, leb-false}
 use Rattle.model.proofs.Cases.{by-test}
 use Rattle.program_records.proofs.Cuts.{whole}
-use Rattle.program_records.specs.Laid.{between}
+use Rattle.program_records.specs.Moved.{between}
 use Rattle.program_records.specs.Reading.{foundIn}
 use Rattle.program_records.specs.declared.Found.{Found}
 use Rattle.program_records.specs.declared.Found.the-variants as found

@@ -1,6 +1,6 @@
 // A program that reads records to the end of its input: where the records end, and its last line. What it tells of them is in `specs/Walk.antt`.
 ghost use mathlib.Core.Path.{_≡_};
-ghost use Rattle.program_records.specs.Laid.{Laid};
+ghost use Rattle.program_text.specs.Laid.{Laid};
 ghost use Rattle.program_streams.specs.Ends.{leftAt, goesOn, lastLine};
 use program_records::Found;
 
@@ -36,7 +36,7 @@ pub fn put_last(out: &mut [u8], at: usize, left: Left, start: u64, records: u64)
     ensures { λ r. ⌜ Laid (lastLine left start records) (now (out .entry)) at r (now (out .exit)) ⌝ }
 {
     match left {
-        Left::More => program_records::put_word(out, at, b""),
+        Left::More => program_text::put_word(out, at, b""),
         Left::Stopped => program_lines::put_stopped_line(out, at, start),
         Left::Ended => program_lines::put_end_line(out, at, records),
     }

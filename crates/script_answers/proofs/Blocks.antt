@@ -28,8 +28,8 @@ use Rattle.packet.specs.Packet.{packetOf, validDTVCC}
 use Rattle.packet.specs.Place.{Placed, saidPlace}
 use Rattle.packet.proofs.Placed.{blocksAt}
 use Rattle.packet.proofs.Holds.{within-facts}
-use Rattle.program_records.specs.Laid.{Laid}
-use Rattle.program_records.proofs.Layings.{laid-within, laid-append}
+use Rattle.program_text.specs.Laid.{Laid}
+use Rattle.program_text.proofs.Layings.{laid-within, laid-append}
 use Rattle.program_lines.specs.Lines.{blockText}
 use Rattle.script_answers.specs.Script.{countOf, blocksText, blocksIn}
 

@@ -7,7 +7,7 @@ use Rattle.caption.specs.declared.Answer.{Answer}
 use Rattle.caption.specs.declared.Answer.the-variants as answer
 use Rattle.caption.specs.declared.Refusal.{Refusal}
 use Rattle.caption.specs.Answers.{saidAnswer}
-use Rattle.program_records.specs.Laid.{Laid}
+use Rattle.program_text.specs.Laid.{Laid}
 use Rattle.script_answers.specs.Script.{answerLine}
 use Rattle.script_answers.specs.Steps.{Did, tells, chosen}
 use Rattle.script_answers.proofs.Steps.{did-accept, did-refuse}

@@ -25,7 +25,7 @@ use Rattle.writer.specs.declared.Micros.{Micros}
 use Rattle.writer.specs.declared.Micros.the-variants as micros
 use Rattle.writer.specs.Calls.{saidMicros}
 use Rattle.writer.specs.Writer.{means, validWriter}
-use Rattle.program_records.specs.Laid.{Laid}
+use Rattle.program_text.specs.Laid.{Laid}
 use Rattle.script_answers.specs.Script.{answerLine, measures, blockMeasures, packetMeasures, durations, countOf, together}
 
 -- a yes, a no and a time as numbers

@@ -23,9 +23,9 @@ use Rattle.model.specs.Demux.{pairValues}
 use Rattle.parser.specs.declared.Item.{Item}
 use Rattle.parser.specs.declared.Item.the-variants as item
 use Rattle.parser.specs.Items.{saidItem}
-use Rattle.program_records.specs.Laid.{Laid}
-use Rattle.program_records.specs.Text.{word, decimal, decimalIn, digit}
-use Rattle.program_records.proofs.Layings.{laid-append}
+use Rattle.program_text.specs.Laid.{Laid}
+use Rattle.program_text.specs.Text.{word, decimal, decimalIn, digit}
+use Rattle.program_text.proofs.Layings.{laid-append}
 use Rattle.program_lines.specs.Lines.{valueText, valuesText, runText, blockText, answerText, pairText}
 use Rattle.script_answers.specs.Script.{answerLine, lentLine, runLine, countOf, together, readBlockLine, blocksText, blocksIn, heldText, readPacketLine, itemText, itemLine}
 

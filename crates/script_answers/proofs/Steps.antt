@@ -10,7 +10,7 @@ use Rattle.caption.specs.declared.Counted.{Counted}
 use Rattle.caption.specs.declared.Refusal.{Refusal}
 use Rattle.caption.specs.Answers.{saidAnswer, saidCounted}
 use Rattle.service.specs.Service.{Writes}
-use Rattle.program_records.specs.Laid.{Laid}
+use Rattle.program_text.specs.Laid.{Laid}
 use Rattle.script_answers.specs.Script.{answerLine, lentLine}
 use Rattle.script_answers.specs.Steps.{Did, Lends, tells, chosen}
 use Rattle.script_answers.proofs.Parts.{refused-number}

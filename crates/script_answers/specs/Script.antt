@@ -17,7 +17,7 @@ use Rattle.packet.specs.declared.DTVCCPacket.{DTVCCPacket}
 use Rattle.packet.specs.Packet.{packetOf, validDTVCC}
 use Rattle.writer.specs.declared.CCDataWriter.{CCDataWriter}
 use Rattle.writer.specs.Writer.{means, validWriter}
-use Rattle.program_records.specs.Text.{word, decimal, hex}
+use Rattle.program_text.specs.Text.{word, decimal, hex}
 use Rattle.program_lines.specs.Lines.{valueText, runText, blockText, answerText}
 
 -- an answer, on a line of its own

@@ -6,8 +6,8 @@ use Prim.Native.Nat.{ℕ}
 use lib.Dec.{eqb}
 use lib.ListN.{length, replicate}
 use Rattle.model.specs.Said.{Said, Outcome, says, after, saysWith, mapped, checked, putInto}
-use Rattle.program_records.specs.Laid.{Laid}
-use Rattle.program_records.specs.Text.{word}
+use Rattle.program_text.specs.Laid.{Laid}
+use Rattle.program_text.specs.Text.{word}
 use Rattle.script_answers.specs.Script.{answerLine, lentLine}
 
 -- the line of an operation, and the block, packet or machine after it

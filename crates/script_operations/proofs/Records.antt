@@ -8,8 +8,8 @@ use Rattle.service.specs.declared.Service.{Service}
 use Rattle.packet.specs.declared.DTVCCPacket.{DTVCCPacket}
 use Rattle.parser.specs.declared.CCDataParser.{CCDataParser}
 use Rattle.writer.specs.declared.CCDataWriter.{CCDataWriter}
-use Rattle.program_records.specs.Laid.{Laid}
-use Rattle.program_records.specs.Text.{word}
+use Rattle.program_text.specs.Laid.{Laid}
+use Rattle.program_text.specs.Text.{word}
 use Rattle.script_answers.specs.Steps.{Effect, Did}
 use Rattle.script_answers.specs.Rows.{Sought, sought, Asked}
 use Rattle.script_answers.proofs.Rows.{behind}

@@ -12,7 +12,7 @@ use Rattle.parser.specs.declared.CCDataParser.{CCDataParser}
 use Rattle.parser.specs.Calls as parser
 use Rattle.writer.specs.declared.CCDataWriter.{CCDataWriter}
 use Rattle.writer.specs.Writer as writer
-use Rattle.program_records.specs.Text.{word}
+use Rattle.program_text.specs.Text.{word}
 use Rattle.script_answers.specs.Steps.{Effect, stays}
 use Rattle.script_answers.specs.Rows.{Sought, sought}
 use Rattle.script_blocks.specs.Blocks.{blockRows}

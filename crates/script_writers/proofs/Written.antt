@@ -16,7 +16,7 @@ use Rattle.writer.specs.declared.WriterCount.{WriterCount}
 use Rattle.writer.specs.Writer.{means, validWriter, stored}
 use Rattle.writer.specs.Calls.{Answers, Writes}
 use Rattle.writer.proofs.Kept.{pads-valid, pads-again}
-use Rattle.program_records.specs.Laid.{Laid}
+use Rattle.program_text.specs.Laid.{Laid}
 use Rattle.program_records.specs.Reading.{highestFirst}
 use Rattle.script_answers.specs.Script.{lentLine}
 use Rattle.script_answers.specs.Steps.{Did, tells, lays, lentOut}

@@ -7,7 +7,7 @@ use lib.ListN.{length, take, drop}
 use borrow.Author.Needs.{needs}
 use Rattle.program_streams.specs.Walk.{before, told}
 use Rattle.ccread.specs.Walk.{mark, tell}
-use Rattle.program_records.proofs.Layings.{whole-taken}
+use Rattle.program_text.proofs.Layings.{whole-taken}
 use Rattle.program_streams.proofs.Ends.{last-taken}
 use Rattle.program_streams.proofs.Stands.{record-within, stands-at-end, stands-behind}
 use Rattle.ccread.proofs.drain.Statement.{statement}

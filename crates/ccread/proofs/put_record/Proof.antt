@@ -7,8 +7,8 @@ use borrow.Author.Needs.{needs}
 use Rattle.parser.specs.Means.{Shaped}
 use Rattle.parser.proofs.Calls.{length-mapped}
 use Rattle.parser.specs.declared.CCDataParser.{CCDataParser}
-use Rattle.program_records.specs.Laid.{Laid, Whole}
-use Rattle.program_records.proofs.Layings.{laid-whole}
+use Rattle.program_text.specs.Laid.{Laid, Whole}
+use Rattle.program_text.proofs.Layings.{laid-whole}
 use Rattle.ccread_report.specs.Report.{frameLines}
 use Rattle.ccread_report.proofs.Fits.{frame-fits}
 use Rattle.ccread.proofs.put_record.Statement.{statement}

@@ -5,7 +5,7 @@ use native.Mathlib.Omega.{arith}
 use lib.ListN.{length}
 use borrow.Author.Needs.{needs}
 use Rattle.packet.specs.Packet.{packetOf}
-use Rattle.program_records.proofs.Layings.{laid-within}
+use Rattle.program_text.proofs.Layings.{laid-within}
 use Rattle.ccread_report.specs.Report.{blockLines}
 use Rattle.packet.proofs.Holds.{Places, within-facts}
 use Rattle.ccread_report.proofs.Lays.{size-small, Completes, linesFrom, blocks-first, blocks-again, blocks-last}

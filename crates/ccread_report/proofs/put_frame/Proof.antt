@@ -3,7 +3,7 @@ use mathlib.Core.Path.{_∙_}
 use native.Mathlib.Omega.{arith}
 use Rattle.parser.specs.Means.{Shaped}
 use Rattle.parser.proofs.Calls.{length-mapped}
-use Rattle.program_records.proofs.Layings.{laid-within}
+use Rattle.program_text.proofs.Layings.{laid-within}
 use Rattle.ccread_report.proofs.Frames.{pushed-valid, accepted-lines, accepted-state, refused-lines, refused-state}
 use borrow.Author.Needs.{needs}
 use Rattle.ccread_report.proofs.put_frame.Statement.{statement}

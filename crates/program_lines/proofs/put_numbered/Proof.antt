@@ -1,5 +1,5 @@
 -- The word and the number, laid one behind the other. Assumes nothing.
-use Rattle.program_records.proofs.Layings.{laid-append}
+use Rattle.program_text.proofs.Layings.{laid-append}
 use borrow.Author.Needs.{needs}
 use Rattle.program_lines.proofs.put_numbered.Statement.{statement}
 use Rattle.program_lines.proofs.put_numbered.Tie as tie

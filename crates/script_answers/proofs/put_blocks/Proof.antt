@@ -2,7 +2,7 @@
 use Prim.Native.Nat.{_-_, _≤_}
 use lib.ListN.{length, take}
 use mathlib.Core.Path.{_≡_, refl}
-use Rattle.program_records.specs.Laid.{Laid}
+use Rattle.program_text.specs.Laid.{Laid}
 use Rattle.script_answers.specs.Script.{blocksText, blocksIn}
 use Rattle.script_answers.proofs.Blocks.{blocks-begun, blocks-more, blocks-end, blocks-refused, blocks-most}
 use borrow.Author.Needs.{needs}

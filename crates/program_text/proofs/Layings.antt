@@ -10,8 +10,8 @@ use lib.Seq.{sets, length-sets, sets-eq, drop-cons, length-take-le, take-at}
 use borrow.Author.Tests.{leb-true, leb-false}
 use Rattle.model.proofs.Cases.{by-test}
 use Rattle.basics.proofs.Runs.{sets-append, sets-past}
-use Rattle.program_records.specs.Laid.{Laid, Whole}
-use Rattle.program_records.specs.Text.{digit, hexByte, hex}
+use Rattle.program_text.specs.Laid.{Laid, Whole}
+use Rattle.program_text.specs.Text.{digit, hexByte, hex}
 
 -- For callers: the place behind is in the buffer or at its end, and the buffer is as long as it was,
 pub laid-within : {text out after : List ℕ} {at r : ℕ} → Laid text out at r after → (r ≤ length out) × (length after ≡ length out)

@@ -1,9 +1,9 @@
 -- A digit below ten is its number behind `0`, any other its number behind `A` less ten. Assumes nothing.
-use Rattle.program_records.specs.Text.{digit}
+use Rattle.program_text.specs.Text.{digit}
 use borrow.Author.Tests.{lt-ltb, le-ltb}
 use borrow.Author.Needs.{needs}
-use Rattle.program_records.proofs.digit_of.Statement.{statement}
-use Rattle.program_records.proofs.digit_of.Tie as tie
+use Rattle.program_text.proofs.digit_of.Statement.{statement}
+use Rattle.program_text.proofs.digit_of.Tie as tie
 
 add-result : tie.Need-add-result
 add-result c = search needs

@@ -9,8 +9,8 @@ use lib.ListN.{length, take, drop, getD, set, length-append, length-drop, length
 use lib.Seq.{drop-cons, drop-set-lt, getD-set-same, take-all}
 use borrow.Author.Tests.{lt-ltb, le-ltb, ltb-true, ltb-false}
 use Rattle.model.proofs.Cases.{by-test}
-use Rattle.program_records.specs.Laid.{Laid}
-use Rattle.program_records.specs.Text.{digit, hexByte, decimalIn, decimal, worth, valueFrom}
+use Rattle.program_text.specs.Laid.{Laid}
+use Rattle.program_text.specs.Text.{digit, hexByte, decimalIn, decimal, worth, valueFrom}
 
 -- two counts of places that suffice give the same digits
 enough : (f g n : ℕ) → n < f → n < g → decimalIn f n ≡ decimalIn g n

@@ -1,8 +1,8 @@
 -- One digit is laid by itself, and more as they were stored. Assumes nothing.
-use Rattle.program_records.proofs.Decimals.{laid-digit, laid-digits}
+use Rattle.program_text.proofs.Decimals.{laid-digit, laid-digits}
 use borrow.Author.Needs.{needs}
-use Rattle.program_records.proofs.put_decimal.Statement.{statement}
-use Rattle.program_records.proofs.put_decimal.Tie as tie
+use Rattle.program_text.proofs.put_decimal.Statement.{statement}
+use Rattle.program_text.proofs.put_decimal.Tie as tie
 
 cast-digit-of : tie.Need-cast-digit-of
 cast-digit-of c = search needs

@@ -1,8 +1,8 @@
 -- A byte is stored where there is room, and past the end nothing is. Assumes nothing.
-use Rattle.program_records.proofs.Layings.{laid-past}
+use Rattle.program_text.proofs.Layings.{laid-past}
 use borrow.Author.Needs.{needs}
-use Rattle.program_records.proofs.put_byte.Statement.{statement}
-use Rattle.program_records.proofs.put_byte.Tie as tie
+use Rattle.program_text.proofs.put_byte.Statement.{statement}
+use Rattle.program_text.proofs.put_byte.Tie as tie
 
 returns : tie.Need-returns
 returns c = search (needs, laid-past)

@@ -1,8 +1,8 @@
 -- Two digits, laid one behind the other. Assumes nothing.
-use Rattle.program_records.proofs.Layings.{laid-hex-byte}
+use Rattle.program_text.proofs.Layings.{laid-hex-byte}
 use borrow.Author.Needs.{needs}
-use Rattle.program_records.proofs.put_hex_byte.Statement.{statement}
-use Rattle.program_records.proofs.put_hex_byte.Tie as tie
+use Rattle.program_text.proofs.put_hex_byte.Statement.{statement}
+use Rattle.program_text.proofs.put_hex_byte.Tie as tie
 
 digit-of-requires : tie.Need-digit-of-requires
 digit-of-requires c κs = search needs

@@ -6,10 +6,10 @@ use native.Mathlib.Omega.{arith}
 use lib.ListN.{length, drop, length-set}
 use lib.Seq.{sets}
 use borrow.Author.Needs.{needs}
-use Rattle.program_records.specs.Text.{hex}
-use Rattle.program_records.proofs.Layings.{laid-past, hex-more, hex-done, hex-cut}
-use Rattle.program_records.proofs.put_hex.Statement.{statement}
-use Rattle.program_records.proofs.put_hex.Tie as tie
+use Rattle.program_text.specs.Text.{hex}
+use Rattle.program_text.proofs.Layings.{laid-past, hex-more, hex-done, hex-cut}
+use Rattle.program_text.proofs.put_hex.Statement.{statement}
+use Rattle.program_text.proofs.put_hex.Tie as tie
 
 abbrev Inv-loop : tie.InvT-loop
 Inv-loop out₀ at bytes n whole i₀ o₀ out i o =

@@ -5,10 +5,10 @@ use mathlib.Core.List.{_++_, append-nil}
 use Prim.Native.Nat.{_-_, _≤_}
 use native.Mathlib.Omega.{arith}
 use lib.ListN.{length, drop, length-set}
-use Rattle.program_records.specs.Text.{decimal}
-use Rattle.program_records.proofs.Decimals.{digits-most, length-small, length-large, digit-more, digit-last}
-use Rattle.program_records.proofs.digits_of.Statement.{statement}
-use Rattle.program_records.proofs.digits_of.Tie as tie
+use Rattle.program_text.specs.Text.{decimal}
+use Rattle.program_text.proofs.Decimals.{digits-most, length-small, length-large, digit-more, digit-last}
+use Rattle.program_text.proofs.digits_of.Statement.{statement}
+use Rattle.program_text.proofs.digits_of.Tie as tie
 
 abbrev Inv-loop : tie.InvT-loop
 Inv-loop n bytes₀ from₀ rest₀ bytes from rest = (decimal rest ++ drop from bytes ≡ decimal n) × (length (decimal rest) ≤ from) × (from ≤ 20) × (length bytes ≡ 20)

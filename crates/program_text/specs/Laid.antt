@@ -1,7 +1,7 @@
--- What becomes of a lent buffer. Assumes nothing.
+-- What becomes of a lent buffer into which text is laid. Assumes nothing.
 use mathlib.Core.Path.{_≡_}
 use mathlib.Core.List.{List, _++_}
-use Prim.Native.Nat.{ℕ, _+_, _-_, _≤_, min}
+use Prim.Native.Nat.{ℕ, _+_, min}
 use lib.ListN.{length, take, drop}
 use lib.Seq.{sets}
 
@@ -15,13 +15,3 @@ pub record Laid (text before : List ℕ) (at r : ℕ) (after : List ℕ) : Type 
 pub record Whole (text before : List ℕ) (at r : ℕ) (after : List ℕ) : Type 0 where
   pub place : r ≡ at + length text
   pub bytes : after ≡ take at before ++ text ++ drop (at + length text) before
-
--- the bytes from one place to another, as far as they are there
-abbrev pub between : ℕ → ℕ → List ℕ → List ℕ
-between from to l = take (to - from) (drop from l)
-
--- r bytes are moved to the front, no more than there are; those behind them stay
-pub record Moved (kept before : List ℕ) (r : ℕ) (after : List ℕ) : Type 0 where
-  pub count : r ≡ length kept
-  pub within : r ≤ length before
-  pub bytes : after ≡ kept ++ drop (length kept) before

@@ -1,0 +1,2 @@
+pub mod Layings
+pub mod Decimals
