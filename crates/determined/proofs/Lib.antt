@@ -17,6 +17,7 @@ pub mod ParserDraws
 pub mod ParserGather
 pub mod Parser
 pub mod WriterFrames
+pub mod WriterQueues
 pub mod WriterTurns
 pub mod WriterSending
 pub mod WriterStoring

@@ -24,8 +24,8 @@ use Rattle.model_journey.proofs.Drains as drains
 use Rattle.caption.proofs.Answers.{saidCounted-injective}
 use Rattle.caption.specs.declared.Counted.the-variants as counted
 use Rattle.caption.specs.declared.Framerate.{Framerate}
-use Rattle.writer_turns.specs.Queue.{queueOf}
-use Rattle.writer_turns.proofs.Queues.{queue-length}
+use Rattle.writer_queues.specs.Queue.{queueOf}
+use Rattle.writer_queues.proofs.Queues.{queue-length}
 use Rattle.slots.specs.Slot.{readSlot}
 use Rattle.writer.specs.Writer.{means}
 use Rattle.writer_sending.proofs.Triples.{left-length}

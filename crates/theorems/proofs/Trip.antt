@@ -12,7 +12,7 @@ use Rattle.model_journey.proofs.Trip as journey
 use Rattle.caption.specs.declared.Answer.{Answer}
 use Rattle.caption.specs.declared.Answer.the-variants.{Accepted}
 use Rattle.caption.proofs.Answers.{saidAnswer-injective}
-use Rattle.writer_turns.specs.Queue.{queueOf, pairsOf}
+use Rattle.writer_queues.specs.Queue.{queueOf, pairsOf}
 use Rattle.slots.specs.Slot.{writtenBytes}
 use Rattle.writer.specs.Writer.{means}
 use Rattle.writer.proofs.Kept.{Sound, sound-ok}

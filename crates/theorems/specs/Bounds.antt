@@ -11,7 +11,7 @@ use Rattle.model_journey.specs.Bounds.{Field, the, Left, packetTriplesIn}
 use Rattle.caption.specs.declared.Counted.{Counted}
 use Rattle.caption.specs.declared.Counted.the-variants.{Count}
 use Rattle.caption.specs.declared.Framerate.{Framerate}
-use Rattle.writer_turns.specs.Queue.{queueOf}
+use Rattle.writer_queues.specs.Queue.{queueOf}
 use Rattle.writer.specs.Writer.{means}
 use Rattle.writer.specs.declared.CCDataWriter.{CCDataWriter}
 use Rattle.theorems.specs.Items.{Items}

@@ -19,7 +19,7 @@ use Rattle.writer_frames.proofs.Stores.{appended-flat}
 use Rattle.writer_frames.specs.declared.Frame.{Frame}
 use Rattle.writer_turns.specs.Turn.{taken, turnsFrom}
 use Rattle.writer_turns.specs.declared.Turns.{Turns}
-use Rattle.writer_turns.proofs.Queues.{queue-length}
+use Rattle.writer_queues.proofs.Queues.{queue-length}
 use Rattle.writer_turns.proofs.Steps.{Leaves, leaves1, leaves2, fit}
 use Rattle.slots.specs.declared.Slot.{Slot}
 use Rattle.writer_sending.specs.Slots.{countOf, filled}

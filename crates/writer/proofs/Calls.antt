@@ -26,13 +26,13 @@ use Rattle.caption.specs.declared.Cea608.the-variants.{Field1, Field2}
 use Rattle.caption.specs.declared.Framerate.{Framerate}
 use Rattle.writer_frames.specs.Frame.{headed, emitted}
 use Rattle.writer_frames.proofs.Stores.{emitted-whole}
-use Rattle.writer_turns.specs.Queue.{queueOf, queueOver, pushOutcome}
+use Rattle.writer_queues.specs.Queue.{queueOf, queueOver, pushOutcome}
 use Rattle.writer.specs.Writer.{means, validWriter, stored, emptied}
 use Rattle.writer.specs.Calls.{Answers, written, Writes}
 use Rattle.writer.specs.Making.{joined, sourceOf, builtFrom, withPadding, withFields, pairOutcome, Makes}
-use Rattle.writer_turns.proofs.Queues.{Sized, queue-length}
+use Rattle.writer_queues.proofs.Queues.{Sized, queue-length}
 use Rattle.writer_frames.specs.declared.Frame.{Frame}
-use Rattle.writer_turns.specs.declared.PairQueue.{PairQueue}
+use Rattle.writer_queues.specs.declared.PairQueue.{PairQueue}
 use Rattle.caption.specs.declared.Counted.the-variants as counted
 use Rattle.writer_sending.specs.Slots.{triplesLeft, lengthsIn}
 use Rattle.writer_sending.proofs.Queues.{sets-own}

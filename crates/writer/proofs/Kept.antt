@@ -8,7 +8,7 @@ use Rattle.model.specs.Mux.{Mux, validMux, withPads, writeFrame, flushMux}
 use Rattle.model.proofs.Cases.{both, and-both}
 use Rattle.model.proofs.MuxStates as model
 use Rattle.model.proofs.MuxStates.{fresh-mux, flush-mux, write-valid}
-use Rattle.writer_turns.specs.Queue.{pairBytes, queueOver}
+use Rattle.writer_queues.specs.Queue.{pairBytes, queueOver}
 use Rattle.slots.specs.Row.{validSending}
 use Rattle.writer.specs.Writer.{means, inOrder, validWriter, fresh, stored, emptied, moved}
 use Rattle.writer.specs.Making.{withPadding}

@@ -15,7 +15,7 @@ use Rattle.model.proofs.Frames.{frame-length}
 use Rattle.model.proofs.Rates.{accepted-sane}
 use Rattle.caption.proofs.Answers.{answerOf, refused-again}
 use Rattle.caption.specs.declared.Framerate.{Framerate}
-use Rattle.writer_turns.specs.Queue.{pairsOf, queueOf, pairBytes, queueOver}
+use Rattle.writer_queues.specs.Queue.{pairsOf, queueOf, pairBytes, queueOver}
 use Rattle.slots.specs.Slot.{writtenBytes}
 use Rattle.writer.specs.Writer.{means, validWriter, fresh}
 use Rattle.writer.specs.Calls.{saidMicros, written}

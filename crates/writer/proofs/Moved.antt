@@ -13,7 +13,7 @@ use Rattle.model.specs.Frame.{Triple}
 use Rattle.model.specs.Mux.{Mux, Sent, send, started, validMux}
 use Rattle.model.proofs.Cases.{by-test, both}
 use Rattle.model.proofs.MuxStates.{mux-facts}
-use Rattle.writer_turns.proofs.Queues.{over-queue, over-sized}
+use Rattle.writer_queues.proofs.Queues.{over-queue, over-sized}
 use Rattle.writer_turns.proofs.Steps.{not-not}
 use Rattle.slots.specs.Slot.{noSlot, writtenLength, writtenBytes, readSlot, writtenSlot}
 use Rattle.slots.specs.declared.Slot.{Slot}

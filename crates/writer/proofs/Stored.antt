@@ -17,8 +17,8 @@ use Rattle.model.proofs.Cases.{by-test, both, and-both, Gives}
 use Rattle.model.proofs.Lists.{every-append}
 use Rattle.model.proofs.Packets.{Valid, valid-facts, Shape, shape}
 use Rattle.model.proofs.MuxStates.{MuxLimits, mux-facts, pads-valid, push608-valid, push-valid}
-use Rattle.writer_turns.specs.Queue.{pairsOf, queueOf, pairBytes, queueOver}
-use Rattle.writer_turns.proofs.Queues.{over-same, over-queue, over-sized}
+use Rattle.writer_queues.specs.Queue.{pairsOf, queueOf, pairBytes, queueOver}
+use Rattle.writer_queues.proofs.Queues.{over-same, over-queue, over-sized}
 use Rattle.writer_turns.proofs.Steps.{not-not}
 use Rattle.basics.proofs.Runs.{sets-front}
 use Rattle.slots.specs.Slot.{slotOf, writtenBytes, readSlot, writtenSlot}

@@ -12,7 +12,7 @@ use Rattle.model.specs.Lists.{every}
 use Rattle.model.specs.Mux.{storable, validMux}
 use Rattle.model.proofs.Cases.{by-test, both, and-both}
 use Rattle.model.proofs.MuxStates.{facts-mux}
-use Rattle.writer_turns.proofs.Queues.{Sized, queue-length}
+use Rattle.writer_queues.proofs.Queues.{Sized, queue-length}
 use Rattle.slots.specs.Slot.{noSlot, writtenLength, writtenBytes, readSlot, writtenSlot}
 use Rattle.slots.specs.Walk.{Carries}
 use Rattle.slots.proofs.Written.{carried, carried-storable}

@@ -14,7 +14,7 @@ use Rattle.caption.specs.declared.Answer.the-variants.{Refused}
 use Rattle.caption.specs.declared.Refusal.the-variants.{BadValue}
 use Rattle.packet.specs.Packet.{packetOf, validDTVCC}
 use Rattle.packet.specs.declared.DTVCCPacket.{DTVCCPacket}
-use Rattle.writer_turns.specs.declared.PairQueue.{PairQueue}
+use Rattle.writer_queues.specs.declared.PairQueue.{PairQueue}
 use Rattle.writer_frames.specs.Frame.{emitted}
 use Rattle.slots.specs.declared.Slot.{Slot}
 use Rattle.writer_storing.specs.declared.Placed.{Placed}

@@ -8,8 +8,8 @@ use lib.ListN.{length, getD, take, drop, replicate}
 use lib.Seq.{sets}
 use Rattle.model.specs.Lists.{every}
 use Rattle.model.specs.Mux.{Mux, freshMux, validMux, started}
-use Rattle.writer_turns.specs.Queue.{queueOf, queueOver}
-use Rattle.writer_turns.specs.declared.PairQueue.{PairQueue}
+use Rattle.writer_queues.specs.Queue.{queueOf, queueOver}
+use Rattle.writer_queues.specs.declared.PairQueue.{PairQueue}
 use Rattle.slots.specs.Slot.{slotWith, slotOf, writtenLength, writtenBytes, readSlot, writtenSlot}
 use Rattle.slots.specs.declared.Slot.{Slot}
 use Rattle.slots.specs.Row.{validSending}

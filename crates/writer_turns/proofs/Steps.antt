@@ -14,12 +14,12 @@ use Rattle.model.specs.Mux.{Turned, turn1, turn2, sentBefore}
 use Rattle.model.proofs.Cases.{by-cond}
 use Rattle.writer_frames.specs.Frame as frames
 use Rattle.writer_frames.proofs.Stores.{fits-true}
-use Rattle.writer_turns.specs.Queue.{pairsOf, queueOf, queueOver}
+use Rattle.writer_queues.specs.Queue.{pairsOf, queueOf, queueOver, downTo}
 use Rattle.writer_turns.specs.Turn.{fits, turnsBy, turnsFrom, takenFrom}
 use Rattle.writer_turns.specs.Step.{Fits, Done}
-use Rattle.writer_turns.proofs.Queues.{Sized, no-pairs, some-pairs, pairs-length, queue-length}
+use Rattle.writer_queues.proofs.Queues.{Sized, no-pairs, some-pairs, pairs-length, queue-length, down-is}
 use Rattle.writer_turns.specs.declared.Course.{Course}
-use Rattle.writer_turns.specs.declared.PairQueue.{PairQueue}
+use Rattle.writer_queues.specs.declared.PairQueue.{PairQueue}
 use Rattle.writer_turns.specs.declared.Turns.{Turns}
 
 -- what the model's turns leave: no more triples than turns, and of each queue what stood last
@@ -202,12 +202,14 @@ module _ (t : Turns) (n : ℕ) (pad : Bool) where
 
     -- the triples are in the frame, and the queues are moved down to what is left
     pub took : {c : Course} {g : List ℕ} {q p : PairQueue} → Done turns (t .frame .len) (t .frame .bytes) c g
-        → q ≡ queueOver (t .field1) (drop (t .field1 .count - c .left1) (queueOf (t .field1)))
-        → p ≡ queueOver (t .field2) (drop (t .field2 .count - c .left2) (queueOf (t .field2)))
+        → q ≡ downTo (t .field1) (c .left1) → p ≡ downTo (t .field2) (c .left2)
         → _≡_ {A = Turns} (record { field1 = q; field2 = p; «field2_next» = c .«field2_next»; frame = record { bytes = g; len = c .len } }) (cond (fits t n) (takenFrom n pad t) t)
-    took d h k =
+    took {c} d h k =
         let l = leaves-from in
-        rw (fit f, h, k, d .course, d .stored, left-over (t .field1) (turns .queue1) one (l .back1), left-over (t .field2) (turns .queue2) two (l .back2))
+        let b = few-left d in
+        let one′ = h ∙ down-is (t .field1) (c .left1) (one .few) (b .0) in
+        let two′ = k ∙ down-is (t .field2) (c .left2) (two .few) (b .1) in
+        rw (fit f, one′, two′, d .course, d .stored, left-over (t .field1) (turns .queue1) one (l .back1), left-over (t .field2) (turns .queue2) two (l .back2))
 
 -- the next turn is remembered as the other field's
 pub not-not : (b : Bool) → not (not b) ≡ b

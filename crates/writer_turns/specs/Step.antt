@@ -1,19 +1,14 @@
--- What stands in the places of a queue and of a frame, for proofs. No public contract reaches this file. Assumes nothing.
+-- What stands in the places of a frame, for proofs. No public contract reaches this file. Assumes nothing.
 use mathlib.Core.Path.{_≡_}
 use mathlib.Core.Bool.{not}
 use mathlib.Core.List.{List}
 use Prim.Native.Nat.{ℕ, _+_, _*_, _≤_}
-use lib.ListN.{length, set}
+use lib.ListN.{length}
 use lib.Seq.{sets}
 use Rattle.model.specs.Frame.{flat}
 use Rattle.model.specs.Mux.{Turned}
 use Rattle.writer_turns.specs.declared.Course.{Course}
-use Rattle.writer_turns.specs.declared.PairQueue.{PairQueue}
 use Rattle.writer_turns.specs.declared.Turns.{Turns}
-
--- a pair in the first place that is free
-abbrev pub pushed : PairQueue → ℕ → ℕ → PairQueue
-pushed q a b = record { bytes = set (set (q .bytes) (2 * q .count) a) (2 * q .count + 1) b; count = q .count + 1 }
 
 -- counts within the places of a queue [S2], and room for n triples in a frame [S5]
 pub record Fits (t : Turns) (n : ℕ) : Type 0 where

@@ -7,7 +7,7 @@ use Rattle.model.specs.Frame.{Pair, flat}
 use Rattle.model.specs.Mux.{Turned, turn1, turn2, mostQueued}
 use Rattle.writer_frames.specs.Frame.{appended}
 use Rattle.writer_frames.specs.Frame as frames
-use Rattle.writer_turns.specs.Queue.{queueOf, queueOver}
+use Rattle.writer_queues.specs.Queue.{queueOf, queueOver}
 use Rattle.writer_turns.specs.declared.Turns.{Turns}
 
 -- counts within the places of a queue [S2], and room for n triples

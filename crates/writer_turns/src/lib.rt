@@ -1,97 +1,17 @@
-// The 608 part of a frame: the queue of a field, and the turns that the two fields take.
+// The 608 part of a frame: the turns that the two fields take.
 use basics::MOST_QUEUED;
-use basics::lesser;
-use basics::put_bytes;
-use caption::Answer;
-use caption::Refusal;
 use writer_frames::Frame;
 use writer_frames::put;
+use writer_queues::PairQueue;
 ghost use mathlib.Core.Path.{_≡_};
 ghost use mathlib.Core.Bool.{cond, not};
-ghost use Prim.Native.Nat.{_+_, _-_, _*_, _/_, _≤_, min};
-ghost use lib.ListN.{length, drop};
-ghost use Rattle.model.specs.Said.{says, after, mapped};
-ghost use Rattle.model.specs.Frame.{pair, mostFrame};
-ghost use Rattle.model.specs.Mux.{isNull, turn1, turn2, mostQueued};
-ghost use Rattle.model.specs.Duration.{pairsDuration};
-ghost use Rattle.caption.specs.Answers.{saidAnswer};
-ghost use Rattle.writer_turns.specs.Queue.{pairsOf, queueOf, queueOver, pushOutcome};
+ghost use Prim.Native.Nat.{_+_, _*_, _/_, _≤_};
+ghost use lib.ListN.{length};
+ghost use Rattle.model.specs.Frame.{mostFrame};
+ghost use Rattle.model.specs.Mux.{turn1, turn2};
+ghost use Rattle.writer_queues.specs.Queue.{pairsOf};
 ghost use Rattle.writer_turns.specs.Turn.{fits, turnsBy, takenFrom};
 ghost use Rattle.writer_turns.specs.Step.{Done};
-
-// A field's queue: 64 places of two bytes, of which `count` are taken. The first leaves next.
-pub struct PairQueue {
-    pub bytes: [u8; 128],
-    pub count: usize,
-}
-
-// What a push answers, and the queue after it.
-pub struct QueuePush {
-    pub answer: Answer,
-    pub queue: PairQueue,
-}
-
-impl PairQueue {
-    // Pushes a pair; 80 80 is taken and not kept, on a full queue too.
-    pub fn push(mut self, a: u8, b: u8) -> QueuePush
-        ensures { λ r. ⌜ saidAnswer (r .answer) ≡ says (pushOutcome self a b) ⌝ }
-        ensures { λ r. ⌜ r .queue ≡ after self (mapped (queueOver self) (pushOutcome self a b)) ⌝ }
-    {
-        let count = self.count;
-        if MOST_QUEUED < count {
-            return self.with(Answer::Refused(Refusal::BadValue));
-        }
-        if is_null(a, b) {
-            return self.with(Answer::Accepted);
-        }
-        if count == MOST_QUEUED {
-            return self.with(Answer::Refused(Refusal::Full));
-        }
-        self.bytes[2 * count] = a;
-        self.bytes[2 * count + 1] = b;
-        self.count = count + 1;
-        self.with(Answer::Accepted)
-    }
-
-    // The queue with an answer.
-    fn with(self, answer: Answer) -> QueuePush
-        ensures { λ r. ⌜ r ≡ (record { answer = answer; queue = self }) ⌝ }
-    {
-        QueuePush {
-            answer,
-            queue: self,
-        }
-    }
-
-    // How long the pairs take to leave, at most as many as there are places: 1001/60000 of a second each, in microseconds, upward.
-    pub fn duration(self) -> u64
-        ensures { λ r. ⌜ r ≡ pairsDuration (min (self .count) mostQueued) ⌝ }
-    {
-        (lesser(self.count, MOST_QUEUED) as u64 * 1_001_000_000 + 59_999) / 60_000
-    }
-
-    // The last `left` pairs, in the places from the first on; what stands behind them stays.
-    fn down_to(self, left: usize) -> PairQueue
-        requires { ⌜ (left ≤ self .count) × (self .count ≤ mostQueued) ⌝ }
-        ensures { λ r. ⌜ r ≡ queueOver self (drop (self .count - left) (queueOf self)) ⌝ }
-    {
-        let count = self.count;
-        let from = self.bytes;
-        let mut bytes = self.bytes;
-        put_bytes(&mut bytes, 0, &from[2 * (count - left)..2 * count]);
-        PairQueue { bytes, count: left }
-    }
-}
-
-// Whether a pair is 0x80,0x80: nothing to send.
-fn is_null(a: u8, b: u8) -> bool
-    ensures { λ r. ⌜ r ≡ isNull (pair a b) ⌝ }
-{
-    if a == 0x80 {
-        return b == 0x80;
-    }
-    false
-}
 
 // What the fields have queued, whose turn is next, and the frame that the turns go into.
 pub struct Turns {

@@ -1,6 +1,6 @@
 -- `writer::CCDataWriter::new` meets its contract. Assumes nothing.
 use mathlib.Core.Path.{refl}
-use Rattle.writer_turns.specs.Queue.{pairBytes, queueOver}
+use Rattle.writer_queues.specs.Queue.{pairBytes, queueOver}
 use Rattle.writer.specs.Writer.{fresh}
 use Rattle.writer.proofs.Laws.{means-fresh}
 use Rattle.writer.proofs.CCDataWriter.new.Statement.{statement}

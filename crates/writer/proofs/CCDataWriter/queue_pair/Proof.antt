@@ -7,7 +7,7 @@ use Rattle.writer.proofs.CCDataWriter.queue_pair.Statement.{statement}
 use Rattle.writer.proofs.CCDataWriter.queue_pair.Tie as tie
 use Rattle.writer.proofs.CCDataWriter.queue_pair.Reads as reads
 use Rattle.writer.proofs.CCDataWriter.queue_pair.Lts as lts
-use Rattle.writer_turns.proofs.PairQueue.push.Reads as push-reads
+use Rattle.writer_queues.proofs.PairQueue.push.Reads as push-reads
 
 -- the arrays of the state have their lengths
 shaped : (s : lts.Start (push-reads.Asked, push-reads.Learnt) reads.Pre reads.Post) → Shaped (s .args .self)

@@ -4,15 +4,15 @@ use native.Mathlib.Omega.{arith}
 use lib.ListN.{length}
 use Rattle.writer_frames.proofs.Stores.{fits-room}
 use Rattle.writer_turns.specs.Step.{Fits}
-use Rattle.writer_turns.proofs.Queues.{Sized}
-use Rattle.writer_turns.proofs.Steps.{no-fit, over1, over2, over3, lent-turns, few-left, took}
+use Rattle.writer_queues.proofs.Queues.{Sized}
+use Rattle.writer_turns.proofs.Steps.{no-fit, over1, over2, over3, lent-turns, took}
 use borrow.Author.Needs.{needs}
 use Rattle.writer_turns.proofs.Turns.take.Statement.{statement}
 use Rattle.writer_turns.proofs.Turns.take.Tie as tie
 use Rattle.writer_turns.proofs.Turns.take.Reads as reads
 use Rattle.writer_turns.proofs.Turns.take.Lts as lts
 use Rattle.writer_frames.proofs.Frame.has_room.Reads as has-room-reads
-use Rattle.writer_turns.proofs.PairQueue.down_to.Reads as down-to-reads
+use Rattle.writer_queues.proofs.PairQueue.down_to.Reads as down-to-reads
 use Rattle.writer_turns.proofs.turns_from.Reads as turns-from-reads
 
 -- what the calls ask and tell
@@ -71,16 +71,10 @@ turns-from-requires : tie.Need-turns-from-requires
 turns-from-requires c κs = passed (c .before .before .before .before .before .before .before .before .before .before) .0 .room
 
 down-to-requires : tie.Need-down-to-requires
-down-to-requires c κs = let r = c .before .before .before .before .before .before .before .before .before .before .before in
-    let a = r .before .before .before .before .before .before .before .before .before .args in
-    let p = passed r in
-    (few-left (a .self) (a .turns) (a .pad) (p .0) (p .1 .0) (p .1 .1) (lent-turns (a .self) (a .turns) (a .pad) (c .turns-from .ensures)) .0, p .0 .first)
+down-to-requires c κs = search needs
 
 down-to-requires-2 : tie.Need-down-to-requires-2
-down-to-requires-2 c κs = let r = c .before .before .before .before .before .before .before .before .before .before .before .before in
-    let a = r .before .before .before .before .before .before .before .before .before .args in
-    let p = passed r in
-    (few-left (a .self) (a .turns) (a .pad) (p .0) (p .1 .0) (p .1 .1) (lent-turns (a .self) (a .turns) (a .pad) (c .before .turns-from .ensures)) .1, p .0 .second)
+down-to-requires-2 c κs = search needs
 
 returns-3 : tie.Need-returns-3
 returns-3 c = let r = c .before .before .before .before .before .before .before .before .before .before .before .before .before in

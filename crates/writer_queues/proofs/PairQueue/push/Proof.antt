@@ -1,10 +1,10 @@
--- `writer_turns::PairQueue::push` meets its contract: one law of `Queues` for each way out. Assumes nothing.
+-- `writer_queues::PairQueue::push` meets its contract: one law of `Queues` for each way out. Assumes nothing.
 use mathlib.Core.Path.{refl}
 use native.Mathlib.Omega.{arith}
-use Rattle.writer_turns.proofs.Queues.{push-over, push-null, push-full, push-free}
+use Rattle.writer_queues.proofs.Queues.{push-over, push-null, push-full, push-free}
 use borrow.Author.Needs.{needs}
-use Rattle.writer_turns.proofs.PairQueue.push.Statement.{statement}
-use Rattle.writer_turns.proofs.PairQueue.push.Tie as tie
+use Rattle.writer_queues.proofs.PairQueue.push.Statement.{statement}
+use Rattle.writer_queues.proofs.PairQueue.push.Tie as tie
 
 with-requires : tie.Need-with-requires
 with-requires c κs = search needs

@@ -8,15 +8,18 @@ use native.Mathlib.Numerals.{add-one}
 use native.Mathlib.Omega.{arith}
 use borrow.Author.Tests.{le-leb, lt-leb}
 use lib.Dec.{leb}
-use lib.ListN.{length, take, drop, getD, length-append, length-drop, take-append-drop}
+use lib.ListN.{length, set, take, drop, getD, length-append, length-drop, take-append-drop}
 use lib.Seq.{length-take-le, take-at, take-all, sets, length-sets}
 use Rattle.model.specs.Said.{Said, after, says, mapped, badValue, full, accepted}
 use Rattle.model.specs.Frame.{Pair, pair}
 use Rattle.model.specs.Mux.{isNull, pushPair, queued}
 use Rattle.basics.proofs.Runs.{sets-append, sets-front}
-use Rattle.writer_turns.specs.Queue.{pairsOf, queueOf, pairBytes, queueOver, pushOutcome}
-use Rattle.writer_turns.specs.Step.{pushed}
-use Rattle.writer_turns.specs.declared.PairQueue.{PairQueue}
+use Rattle.writer_queues.specs.Queue.{pairsOf, queueOf, pairBytes, queueOver, pushOutcome, downTo}
+use Rattle.writer_queues.specs.declared.PairQueue.{PairQueue}
+
+-- a pair in the first place that is free
+abbrev pub pushed : PairQueue → ℕ → ℕ → PairQueue
+pushed q a b = record { bytes = set (set (q .bytes) (2 * q .count) a) (2 * q .count + 1) b; count = q .count + 1 }
 
 -- too few bytes for a pair
 pub no-pairs : (l : List ℕ) → length l ≤ 1 → pairsOf l ≡ []
@@ -147,6 +150,23 @@ down-bytes q n s h e =
     let l : length (take (2 * n) (drop (2 * k) (q .bytes))) ≡ 2 * n = length-take-le (2 * n) (drop (2 * k) (q .bytes)) (omega (arith, length-drop (2 * k) (q .bytes), s .few, s .flat)) in
     let p : drop k (pairsOf (take (2 * q .count) (q .bytes))) ≡ pairsOf (take (2 * n) (drop (2 * k) (q .bytes))) = rw c (pairs-behind k n (q .bytes) (omega (arith, s .few, s .flat))) in
     rw (e, p, pairs-bytes (take (2 * n) (drop (2 * k) (q .bytes))) (omega (arith, l)), pairs-length (take (2 * n) (drop (2 * k) (q .bytes))), l, half)
+
+-- A queue counted down: one law for each way out.
+module _ (q : PairQueue) (n : ℕ) where
+  -- more pairs than places
+  pub down-over : 64 < q .count → q ≡ downTo q n
+  unfolding downTo
+  down-over h = simp (lt-leb _ _ h)
+
+  -- fewer than are to be left
+  pub down-few : q .count ≤ 64 → q .count < n → q ≡ downTo q n
+  unfolding downTo
+  down-few g h = simp (le-leb _ _ g, lt-leb _ _ h)
+
+  -- the last ones are left
+  pub down-is : q .count ≤ 64 → n ≤ q .count → downTo q n ≡ queueOver q (drop (q .count - n) (queueOf q))
+  unfolding downTo
+  down-is g h = simp (le-leb _ _ g, le-leb _ _ h)
 
 -- One law for each way out of a push, in the order of the tests.
 module _ (q : PairQueue) (a b : ℕ) where

@@ -1,9 +1,9 @@
--- `writer_turns::PairQueue::duration` meets its contract. Assumes nothing.
+-- `writer_queues::PairQueue::duration` meets its contract. Assumes nothing.
 use native.Mathlib.Omega.{arith}
 use Rattle.model.specs.Duration.{ceil, pairsDuration}
 use borrow.Author.Needs.{needs}
-use Rattle.writer_turns.proofs.PairQueue.duration.Statement.{statement}
-use Rattle.writer_turns.proofs.PairQueue.duration.Tie as tie
+use Rattle.writer_queues.proofs.PairQueue.duration.Statement.{statement}
+use Rattle.writer_queues.proofs.PairQueue.duration.Tie as tie
 
 lesser-requires : tie.Need-lesser-requires
 lesser-requires c κs = search needs

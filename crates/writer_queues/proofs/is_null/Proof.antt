@@ -1,8 +1,8 @@
--- `writer_turns::is_null` meets its contract: the second byte decides where the first is 0x80. Assumes nothing.
+-- `writer_queues::is_null` meets its contract: the second byte decides where the first is 0x80. Assumes nothing.
 use borrow.Author.Tests.{eq-eqb, ne-eqb}
 use Rattle.model.specs.Mux.{isNull}
-use Rattle.writer_turns.proofs.is_null.Statement.{statement}
-use Rattle.writer_turns.proofs.is_null.Tie as tie
+use Rattle.writer_queues.proofs.is_null.Statement.{statement}
+use Rattle.writer_queues.proofs.is_null.Tie as tie
 
 returns : tie.Need-returns
 unfolding isNull

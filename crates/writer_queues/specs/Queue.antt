@@ -1,13 +1,14 @@
 -- A field's queue as flat bytes: [S2], [S3] and [W11]. Assumes nothing.
+use mathlib.Core.Bool.{cond, _&&_}
 use mathlib.Core.List.{List, [], _∷_}
-use Prim.Native.Nat.{ℕ, _*_}
+use Prim.Native.Nat.{ℕ, _-_, _*_}
 use lib.Dec.{leb}
-use lib.ListN.{length, take}
+use lib.ListN.{length, take, drop}
 use lib.Seq.{sets}
 use Rattle.model.specs.Said.{Outcome, checked}
 use Rattle.model.specs.Frame.{Pair, pair}
 use Rattle.model.specs.Mux.{pushPair, mostQueued}
-use Rattle.writer_turns.specs.declared.PairQueue.{PairQueue}
+use Rattle.writer_queues.specs.declared.PairQueue.{PairQueue}
 
 -- the pairs that flat bytes are
 unfoldable pub pairsOf : List ℕ → List Pair
@@ -31,3 +32,7 @@ queueOver q ps = record { bytes = sets (q .bytes) 0 (pairBytes ps); count = leng
 -- what pushing a pair comes to [W11]; a queue that counts more pairs than it has places is refused [R11]
 abbrev pub pushOutcome : PairQueue → ℕ → ℕ → Outcome (List Pair)
 pushOutcome q a b = checked (leb (q .count) mostQueued) (pushPair (pair a b) (queueOf q))
+
+-- the last so many pairs, in the places from the first on; nothing is done where there are fewer, or more than there are places
+unfoldable pub downTo : PairQueue → ℕ → PairQueue
+downTo q left = cond (leb (q .count) mostQueued && leb left (q .count)) (queueOver q (drop (q .count - left) (queueOf q))) q
