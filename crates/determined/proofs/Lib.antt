@@ -25,6 +25,7 @@ pub mod WriterBuilding
 pub mod Writer
 pub mod ProgramText
 pub mod ProgramRecords
+pub mod ProgramAnswers
 pub mod ProgramLines
 pub mod CcreadReport
 pub mod ScriptAnswers

@@ -1,21 +1,19 @@
 -- What an answer says, laid. Assumes nothing.
-use mathlib.Core.Path.{_≡_, sym, ap, _∙_}
+use mathlib.Core.Path.{_≡_, ap, _∙_}
 use mathlib.Core.List.{List, [], _∷_, _++_, append-nil}
 use Prim.Native.Nat.{ℕ, _≤_}
 use native.Mathlib.Omega.{arith}
+use lib.ListN.{length}
 use lib.Seq.{take-all}
 use borrow.Author.Tests.{eq-eqb, ne-eqb}
 use Rattle.model.specs.Said.{Said}
-use Rattle.program_lines.specs.declared.Told.{Told}
-use Rattle.program_lines.specs.Telling.{saidBy}
+use Rattle.program_answers.specs.declared.Told.{Told}
+use Rattle.program_answers.specs.Telling.{saidBy, toldBy}
+use Rattle.program_answers.proofs.Tellings.{told-back}
 use Rattle.program_text.specs.Laid.{Laid}
 use Rattle.program_text.specs.Text.{word, decimal}
 use Rattle.program_lines.specs.Lines.{valueText, valuesText, answerText, frameLine}
 use Rattle.program_text.proofs.Layings.{laid-append}
-
--- an answer that is known says what its row of the table says
-pub told-as : {A : Type 0} (said : A → Said) (t : Told) (x row : A) → x ≡ row → saidBy t ≡ said row → saidBy t ≡ said x
-told-as said t x row e s = s ∙ sym (ap said e)
 
 -- one value, and two
 values-one : (v : ℕ) → valuesText (v ∷ []) ≡ valueText v
@@ -53,17 +51,21 @@ module _ (t : Told) {out mid after : List ℕ} {at p r : ℕ} where
   told-refused e f v = rw (ne-eqb _ _ e) (laid-append f v)
 
 -- what is told of an answer is the answer's
-pub laid-told : {out after : List ℕ} {at r : ℕ} (t : Told) (s : Said) → saidBy t ≡ s → Laid (answerText (saidBy t)) out at r after
+pub laid-told : {out after : List ℕ} {at r : ℕ} (t : Told) (s : Said) → t ≡ toldBy s → length (s .values) ≤ 2 → Laid (answerText (saidBy t)) out at r after
     → Laid (answerText s) out at r after
-laid-told t s e w = rw e at w
+laid-told t s e few w = rw (ap saidBy e ∙ told-back s few) at w
+
+-- the number that is told
+same : (t : Told) (s : Said) → t ≡ toldBy s → t .number ≡ s .number
+same t s e = ap (λ (x : Told). x .number) e
 
 -- the line of a frame
-module _ (t : Told) (s : Said) (e : saidBy t ≡ s) (n : ℕ) {out mid after : List ℕ} {at p r : ℕ} where
+module _ (t : Told) (s : Said) (e : t ≡ toldBy s) (n : ℕ) {out mid after : List ℕ} {at p r : ℕ} where
   pub frame-ok : t .number ≡ 0 → Laid (word "frame " ++ decimal n) out at p mid → Laid (word " ok\n") mid p r after → Laid (frameLine n s) out at r after
   unfolding frameLine
-  frame-ok z f k = rw (← e, eq-eqb _ _ z) (laid-append f k)
+  frame-ok z f k = rw (← same t s e, eq-eqb _ _ z) (laid-append f k)
 
   pub frame-refused : {mid′ : List ℕ} {q : ℕ} → (t .number ≡ 0 → ⊥) → Laid (word "frame " ++ decimal n) out at p mid
       → Laid (word " refused " ++ decimal (t .number)) mid p q mid′ → Laid (word "\n") mid′ q r after → Laid (frameLine n s) out at r after
   unfolding frameLine
-  frame-refused z f k l = rw (← e, ne-eqb _ _ z) (laid-append f (laid-append k l))
+  frame-refused z f k l = rw (← same t s e, ne-eqb _ _ z) (laid-append f (laid-append k l))

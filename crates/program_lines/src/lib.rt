@@ -2,96 +2,26 @@
 // answers the place behind what it laid.
 ghost use mathlib.Core.Path.{_≡_};
 ghost use mathlib.Core.List.{[], _∷_, _++_};
-ghost use lib.ListN.{take};
 ghost use Rattle.caption.specs.Answers.{saidRefusal, saidAnswer, saidCounted};
 ghost use Rattle.caption.specs.Pairs.{cea608Of};
 ghost use Rattle.program_text.specs.Laid.{Laid};
 ghost use Rattle.program_text.specs.Text.{run, decimal, hex};
-ghost use Rattle.program_lines.specs.Telling.{saidBy};
+ghost use Rattle.program_answers.specs.Telling.{saidBy};
 ghost use Rattle.program_lines.specs.Lines.{valueText, valuesText, runText, blockText, answerText, pairText, packetText, frameLine, blockLine, endLine, stoppedLine};
 use caption::Answer;
 use caption::Cea608;
 use caption::Counted;
 use caption::Refusal;
+use program_answers::Told;
+use program_answers::tell_answer;
+use program_answers::tell_counted;
+use program_answers::tell_refusal;
 use program_text::put_byte;
 use program_text::put_decimal;
 use program_text::put_hex;
 use program_text::put_hex_byte;
 use program_text::put_newline;
 use program_text::put_word;
-
-// What an answer says: its number, and the first `count` of two values.
-struct Told {
-    number: u64,
-    count: usize,
-    first: usize,
-    second: usize,
-}
-
-// These four, together.
-fn telling(number: u64, count: usize, first: usize, second: usize) -> Told
-    ensures { λ r. ⌜ saidBy r ≡ record { number = number; values = take count (first ∷ second ∷ []) } ⌝ }
-{
-    Told {
-        number,
-        count,
-        first,
-        second,
-    }
-}
-
-// An answer without values.
-fn bare(number: u64) -> Told
-    ensures { λ r. ⌜ saidBy r ≡ record { number = number; values = [] } ⌝ }
-{
-    telling(number, 0, 0, 0)
-}
-
-// An answer with one value.
-fn with_value(number: u64, value: usize) -> Told
-    ensures { λ r. ⌜ saidBy r ≡ record { number = number; values = value ∷ [] } ⌝ }
-{
-    telling(number, 1, value, 0)
-}
-
-// What a refusal says.
-fn tell_refusal(why: Refusal) -> Told
-    ensures { λ r. ⌜ saidBy r ≡ saidRefusal why ⌝ }
-{
-    match why {
-        Refusal::LengthMismatch { expected, actual } => telling(1, 2, expected, actual),
-        Refusal::Cea608AfterCea708 { byte_pos } => with_value(2, byte_pos),
-        Refusal::WouldOverflow(over) => with_value(3, over),
-        Refusal::ReadOnly => bare(4),
-        Refusal::EmptyService => bare(5),
-        Refusal::BadNumber => bare(6),
-        Refusal::BadRun => bare(7),
-        Refusal::BadRate => bare(8),
-        Refusal::OutShort { needed } => with_value(9, needed),
-        Refusal::Full => bare(10),
-        Refusal::BadValue => bare(11),
-    }
-}
-
-// What an answer says that only accepts or refuses.
-fn tell_answer(answer: Answer) -> Told
-    ensures { λ r. ⌜ saidBy r ≡ saidAnswer answer ⌝ }
-{
-    match answer {
-        Answer::Accepted => bare(0),
-        Answer::Refused(why) => tell_refusal(why),
-    }
-}
-
-// What an answer says that gives a number.
-fn tell_counted(counted: Counted) -> Told
-    ensures { λ r. ⌜ saidBy r ≡ saidCounted counted ⌝ }
-{
-    match counted {
-        Counted::Count(n) => with_value(0, n),
-        Counted::Refused(why) => tell_refusal(why),
-    }
-}
 
 // A number, after a space.
 pub fn put_value(out: &mut [u8], at: usize, n: u64) -> usize

@@ -1,9 +1,9 @@
 -- Each arm tells what its row of the table says. Assumes nothing.
 use Rattle.caption.specs.Answers.{saidRefusal}
-use Rattle.program_lines.proofs.Tellings.{told-as}
+use Rattle.program_answers.proofs.Tellings.{told-as}
 use borrow.Author.Needs.{needs}
-use Rattle.program_lines.proofs.tell_refusal.Statement.{statement}
-use Rattle.program_lines.proofs.tell_refusal.Tie as tie
+use Rattle.program_answers.proofs.tell_refusal.Statement.{statement}
+use Rattle.program_answers.proofs.tell_refusal.Tie as tie
 
 enum-known-why : tie.Need-enum-known-why
 enum-known-why c = search needs

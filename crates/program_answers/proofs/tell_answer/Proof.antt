@@ -1,9 +1,9 @@
 -- Each arm tells what its answer says. Assumes nothing.
 use Rattle.caption.specs.Answers.{saidAnswer}
-use Rattle.program_lines.proofs.Tellings.{told-as}
+use Rattle.program_answers.proofs.Tellings.{told-as}
 use borrow.Author.Needs.{needs}
-use Rattle.program_lines.proofs.tell_answer.Statement.{statement}
-use Rattle.program_lines.proofs.tell_answer.Tie as tie
+use Rattle.program_answers.proofs.tell_answer.Statement.{statement}
+use Rattle.program_answers.proofs.tell_answer.Tie as tie
 
 enum-told : tie.Need-enum-told
 enum-told c = search needs

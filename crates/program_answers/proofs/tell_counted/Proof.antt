@@ -1,9 +1,9 @@
 -- Each arm tells what its answer says. Assumes nothing.
 use Rattle.caption.specs.Answers.{saidCounted}
-use Rattle.program_lines.proofs.Tellings.{told-as}
+use Rattle.program_answers.proofs.Tellings.{told-as}
 use borrow.Author.Needs.{needs}
-use Rattle.program_lines.proofs.tell_counted.Statement.{statement}
-use Rattle.program_lines.proofs.tell_counted.Tie as tie
+use Rattle.program_answers.proofs.tell_counted.Statement.{statement}
+use Rattle.program_answers.proofs.tell_counted.Tie as tie
 
 enum-known-counted : tie.Need-enum-known-counted
 enum-known-counted c = search needs
