@@ -11,9 +11,11 @@ use Rattle.model.specs.Said.{gave, checked, isGiven}
 use Rattle.model.specs.Frame.{mostFrame, frameBytes}
 use Rattle.model.specs.Rate.{rounded, budgets}
 use Rattle.model.specs.Mux.{Mux, withPads, framed, writeFrame}
+use Rattle.caption.specs.Pairs.{cea608Of}
 use Rattle.caption.specs.declared.Answer.the-variants.{Accepted}
 use Rattle.caption.specs.declared.Counted.the-variants.{Count}
 use Rattle.caption.specs.declared.Framerate.{Framerate}
+use Rattle.packet.specs.Packet.{packetOf}
 use Rattle.writer.specs.Writer.{means, validWriter, stored, moved}
 use Rattle.writer.specs.Calls.{Answers}
 use Rattle.writer.proofs.Laws.{write-given}
@@ -23,9 +25,9 @@ use Rattle.writer.proofs.Kept.{Sound, sound-ok, sound-order, sound-mux, stored-
 use Rattle.writer.specs.declared.CCDataWriter.{CCDataWriter}
 use Rattle.writer.specs.declared.WriterAnswer.{WriterAnswer}
 use Rattle.writer.specs.declared.WriterCount.{WriterCount}
-use Rattle.theorems.specs.Items.{Items, noItems, andThen}
+use Rattle.theorems.specs.Items.{Items, noItems, andThen, ifNonempty, onePair}
 use Rattle.theorems.specs.Allowed.{Lent, NewWriter, Write}
-use Rattle.theorems.specs.Writing.{Calls, no-call, push-packet, push-cea608, set-cea608-padding, set-padding, write, frameIn, Padded, Drained, Drains}
+use Rattle.theorems.specs.Writing.{ifAccepted, Calls, no-call, push-packet, push-cea608, set-cea608-padding, set-padding, write, frameIn, Padded, Drained, Drains}
 use Rattle.theorems.specs.Bounds.{unsentOf}
 use Rattle.theorems.proofs.Following.{items-same}
 use Rattle.theorems.proofs.Sequences.{from-fresh}
@@ -108,7 +110,8 @@ draining {w} κs new before =
     let x : Mux = withPads true (w .«output_padding») (means w) in
     let g : Grows (means w) x = grows-pads (means w) (sound-mux w s) true (w .«output_padding») in
     let on : WriterAnswer = record { answer = Accepted; writer = stored w x } in
-    let allowed : Answers (checked (validWriter w) (gave x)) (stored w) w on = record { answer = rw (s .valid); means = rw (s .valid) (means-stored w (sound-order w s) (sound-ok w s) x g); places = rw (s .valid) } in
+    let kept = means-stored w (sound-order w s) (sound-ok w s) x g in
+    let allowed : Answers (checked (validWriter w) (gave x)) (stored w) w on = record { answer = rw (s .valid); means = rw (s .valid) kept; places = rw (s .valid) } in
     let n : ℕ = 2 * w .field1 .count + 2 * w .field2 .count + unsentOf w in
     let m = written-all κs n (on .writer) (stored-sound w s x g) refl in
     let c : Calls w (m .frames) noItems (m .last) = set-cea608-padding true on allowed (m .calls) in
@@ -124,16 +127,24 @@ record Joined (w : CCDataWriter) (fs : List (List ℕ)) (is : Items) (w′ : CCD
   calls : Calls w fs is w′
   padded : pad → Padded calls
 
+-- items and frames that are said in another way
+again : {w w₂ : CCDataWriter} {fs gs : List (List ℕ)} {is js : Items} {pad : Type 0} → gs ≡ fs → js ≡ is → Joined w fs is w₂ pad → Joined w gs js w₂ pad
+again e f d = rw (e, f) d
+
 -- calls, and then others
 join : {w w₁ w₂ : CCDataWriter} {fs fs′ : List (List ℕ)} {is is′ : Items} (c : Calls w fs is w₁) (k : Calls w₁ fs′ is′ w₂) → Joined w (fs ++ fs′) (andThen is is′) w₂ (Padded c × Padded k)
 join no-call k = record { calls = k; padded = λ p. p .1 }
-join {is′} (push-packet {is} d r t a c) k = let m = join c k in rw (then-assoc _ is is′) (record { calls = push-packet d r t a (m .calls); padded = m .padded })
-join {is′} (push-cea608 {is} x r a c) k = let m = join c k in rw (then-assoc _ is is′) (record { calls = push-cea608 x r a (m .calls); padded = m .padded })
+join {is′} (push-packet {is} d r t a c) k =
+    let m = join c k in
+    again refl (then-assoc (ifAccepted (r .answer) (ifNonempty (packetOf d))) is is′) (record { calls = push-packet d r t a (m .calls); padded = m .padded })
+join {is′} (push-cea608 {is} x r a c) k =
+    let m = join c k in
+    again refl (then-assoc (ifAccepted (r .answer) (onePair (cea608Of x))) is is′) (record { calls = push-cea608 x r a (m .calls); padded = m .padded })
 join (set-cea608-padding on r a c) k = let m = join c k in record { calls = set-cea608-padding on r a (m .calls); padded = m .padded }
 join (set-padding on r a c) k = let m = join c k in record { calls = set-padding on r a (m .calls); padded = m .padded }
 join {fs′} (write {fs} κs rate out end r a c) k =
     let m = join c k in
-    rw (append-assoc (frameIn (r .answer) (now end)) fs fs′) (record { calls = write κs rate out end r a (m .calls); padded = λ p. (p .0 .0, m .padded (p .0 .1, p .1)) })
+    again (append-assoc (frameIn (r .answer) (now end)) fs fs′) refl (record { calls = write κs rate out end r a (m .calls); padded = λ p. (p .0 .0, m .padded (p .0 .1, p .1)) })
 
 -- no items behind others
 then-none : (a : Items) → andThen a noItems ≡ a
