@@ -12,6 +12,7 @@ pub mod PacketPushes
 pub mod Packet
 pub mod Slots
 pub mod ParserTriples
+pub mod ParserLists
 pub mod ParserRings
 pub mod ParserDraws
 pub mod ParserGather

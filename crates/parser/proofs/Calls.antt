@@ -11,7 +11,7 @@ use Rattle.caption.specs.declared.Refusal.the-variants.{BadValue}
 use Rattle.caption.specs.Answers.{saidCounted}
 use Rattle.model.specs.Said.{measured}
 use Rattle.model.specs.Demux.{Demux, Taken, quiet}
-use Rattle.parser_triples.specs.Pairs.{placedAll}
+use Rattle.parser_lists.specs.Pairs.{placedAll}
 use Rattle.parser_rings.specs.Ring.{withRuns}
 use Rattle.parser.specs.Means.{means}
 use Rattle.parser.specs.Valid.{valid}
@@ -21,7 +21,7 @@ use Rattle.parser.specs.Push.{fed, refusedFor}
 use Rattle.parser.specs.declared.CCDataParser.{CCDataParser}
 use Rattle.parser.specs.declared.ParserAnswer.{ParserAnswer}
 use Rattle.parser.proofs.Valids.{valid-fine, waiting-count}
-use Rattle.parser_triples.proofs.Fields.{pairs-length}
+use Rattle.parser_lists.proofs.Fields.{pairs-length}
 use Rattle.parser.proofs.Laid.{Sound, pending-many, pending-same}
 use Rattle.parser.proofs.Firsts.{head-stays}
 use Rattle.parser.proofs.Kept.{sound-fine}

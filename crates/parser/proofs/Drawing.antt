@@ -15,13 +15,13 @@ use Rattle.model.proofs.Cases.{by-test, both}
 use Rattle.packet.specs.Packet.{laid}
 use Rattle.slots.specs.Slot.{noSlot}
 use Rattle.slots.specs.declared.Slot.{Slot}
-use Rattle.parser_triples.specs.Pairs.{placedAll, pairsOf}
+use Rattle.parser_lists.specs.Pairs.{placedAll, pairsOf}
 use Rattle.parser_rings.specs.Ring.{ringFrom, slotRun, slotFine, withRuns}
 use Rattle.parser_rings.specs.Tests.{headFine, restFine, frontOf}
 use Rattle.parser_gather.specs.Tests.{pendingFine}
 use Rattle.parser_rings.specs.declared.Front.{Front}
-use Rattle.parser_triples.specs.Listing.{listFine}
-use Rattle.parser_triples.proofs.Fields.{again-placed, pairs-length}
+use Rattle.parser_lists.specs.Listing.{listFine}
+use Rattle.parser_lists.proofs.Fields.{again-placed, pairs-length}
 use Rattle.parser_rings.proofs.Rings.{ring-length}
 use Rattle.parser_rings.proofs.Slots.{front-rest, front-slot}
 use Rattle.parser_draws.specs.Take.{nextHead, packetAt, takePair, takeHead, takeNone, takeItem, fits, tookBy}

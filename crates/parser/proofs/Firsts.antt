@@ -19,10 +19,10 @@ use Rattle.model.specs.Demux.{Demux, closed, packetsOf}
 use Rattle.model.proofs.Cases.{by-test, both}
 use Rattle.slots.specs.Slot.{noSlot}
 use Rattle.slots.specs.declared.Slot.{Slot}
-use Rattle.parser_triples.specs.Pairs.{placedAll, pairAt, pairsOf}
+use Rattle.parser_lists.specs.Pairs.{placedAll, pairAt, pairsOf}
 use Rattle.parser_rings.specs.Ring.{ringFrom, slotRun, slotFine}
-use Rattle.parser_triples.specs.Listing.{fieldsFine}
-use Rattle.parser_triples.proofs.Fields.{placed-again}
+use Rattle.parser_lists.specs.Listing.{fieldsFine}
+use Rattle.parser_lists.proofs.Fields.{placed-again}
 use Rattle.parser_rings.proofs.Rings.{ring-round}
 use Rattle.parser_rings.proofs.Places.{sets-first}
 use Rattle.parser.specs.Means.{means, Shaped}

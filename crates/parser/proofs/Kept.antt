@@ -18,7 +18,7 @@ use Rattle.model.proofs.Cases.{by-cond}
 use Rattle.model.proofs.Frames.{few-packets}
 use Rattle.model.proofs.DemuxStates.{demux-facts, on-valid, take-valid, draw-valid}
 use Rattle.parser_triples.specs.Walk.{seenFrom}
-use Rattle.parser_triples.specs.Pairs.{placedAll, pairsOf}
+use Rattle.parser_lists.specs.Pairs.{placedAll, pairsOf}
 use Rattle.parser_triples.proofs.Found.{few-triples}
 use Rattle.parser_rings.specs.Ring.{ringFrom, withRuns}
 use Rattle.parser.specs.Means.{means}

@@ -12,8 +12,8 @@ use Rattle.model.specs.Demux.{Demux, packetsOf, validDemux}
 use Rattle.model.proofs.DemuxStates.{demux-facts, pending-gathering}
 use Rattle.model.proofs.Limits.{size-most}
 use Rattle.slots.specs.declared.Slot.{Slot}
-use Rattle.parser_triples.specs.Pairs.{placedAll, pairsOf}
-use Rattle.parser_triples.proofs.Found.{placed-length, pairs-placed}
+use Rattle.parser_lists.specs.Pairs.{placedAll, pairsOf}
+use Rattle.parser_lists.proofs.Placed.{placed-length, pairs-placed}
 use Rattle.parser_rings.specs.Ring.{ringFrom, slotRun, slotFine}
 use Rattle.parser_rings.proofs.Places.{sets-first, take-sets, sets-same}
 use Rattle.parser.specs.Means.{means, Shaped}
@@ -21,7 +21,7 @@ use Rattle.parser.specs.Valid.{valid}
 use Rattle.parser.specs.Calls.{laidIn}
 use Rattle.parser.specs.declared.CCDataParser.{CCDataParser}
 use Rattle.parser.proofs.Valids.{Fine, waiting-count, fine-valid}
-use Rattle.parser_triples.proofs.Fields.{pairs-length}
+use Rattle.parser_lists.proofs.Fields.{pairs-length}
 
 -- the slots of a ring from a place on hold the packets
 pub record Stands (f : ℕ) (slots : List Slot) (ps : List Packet) : Type 0 where

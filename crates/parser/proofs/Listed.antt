@@ -10,8 +10,8 @@ use borrow.Author.Tests.{le-leb}
 use Rattle.model.specs.Frame.{Cea608}
 use Rattle.model.specs.Demux.{pairsIn}
 use Rattle.parser_triples.specs.Walk.{seenFrom}
-use Rattle.parser_triples.specs.Pairs.{placedAll}
-use Rattle.parser_triples.specs.Listing.{Listing, listing, listedBy}
+use Rattle.parser_lists.specs.Pairs.{placedAll}
+use Rattle.parser_lists.specs.Listing.{Listing, listing, listedBy}
 
 -- pairs laid over places
 abbrev pub listed : List ℕ → List Cea608 → Listing

@@ -11,7 +11,7 @@ use Rattle.caption.specs.declared.Refusal.the-variants.{Full, BadValue}
 use Rattle.caption.specs.Answers.{saidAnswer}
 use Rattle.model.specs.Demux.{takeFrame}
 use Rattle.model.proofs.Cases.{by-test}
-use Rattle.parser_triples.specs.Listing.{Listing, listedBy}
+use Rattle.parser_lists.specs.Listing.{Listing, listedBy}
 use Rattle.parser_triples.specs.Plan.{planOf}
 use Rattle.parser_triples.specs.declared.Plan.{Plan}
 use Rattle.parser_gather.specs.Gather.{Left, leftIn, leftAfter}

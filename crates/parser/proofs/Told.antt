@@ -20,7 +20,7 @@ use Rattle.model.specs.Demux.{Demux, Taken, packetsOf, withPairs, pairsIn, late
 use Rattle.model.proofs.Frames.{Read, packets-many, gathered-read, kept-pending, take-full, take-room}
 use Rattle.model.proofs.Frames as frames
 use Rattle.parser_triples.specs.Walk.{seenFrom}
-use Rattle.parser_triples.specs.Listing.{Listing, listedBy}
+use Rattle.parser_lists.specs.Listing.{Listing, listedBy}
 use Rattle.parser_triples.specs.Plan.{plan, planFound, planOf}
 use Rattle.parser_triples.specs.declared.Plan.{Plan}
 use Rattle.parser_rings.specs.Ring.{clearedFor, withRuns}

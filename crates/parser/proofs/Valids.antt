@@ -15,18 +15,18 @@ use Rattle.model.proofs.Lists.{same-true, same-self}
 use Rattle.model.proofs.Frames.{closed-one}
 use Rattle.model.proofs.DemuxStates.{demux-facts, facts-demux, packets-valid}
 use Rattle.slots.specs.declared.Slot.{Slot}
-use Rattle.parser_triples.specs.Pairs.{placedAll, pairsOf}
+use Rattle.parser_lists.specs.Pairs.{placedAll, pairsOf}
 use Rattle.parser_rings.specs.Ring.{ringFrom, slotRun, slotFine}
 use Rattle.parser_rings.specs.Tests.{headFine, frontOf}
 use Rattle.parser_gather.specs.Tests.{pendingFine}
 use Rattle.parser_rings.specs.declared.Front.{Front}
-use Rattle.parser_triples.proofs.Fields.{placed-again, again-placed, list-facts, facts-list, pairs-length}
+use Rattle.parser_lists.proofs.Fields.{placed-again, again-placed, list-facts, facts-list, pairs-length}
 use Rattle.parser_rings.proofs.Slots.{RingFine, ring-facts, facts-ring, ring-whole}
 use Rattle.parser_gather.proofs.Pending.{fine-pending}
 use Rattle.parser_rings.proofs.Rings.{ring-length}
 use Rattle.parser.specs.Means.{means, Shaped}
 use Rattle.parser.specs.Valid.{inOrder, valid}
-use Rattle.parser_triples.specs.Listing.{listFine}
+use Rattle.parser_lists.specs.Listing.{listFine}
 use Rattle.parser.specs.Tests.{countsOf, fine}
 use Rattle.parser.specs.declared.CCDataParser.{CCDataParser}
 use Rattle.parser.specs.declared.Counts.{Counts}

@@ -11,7 +11,7 @@ use Rattle.model.specs.Said.{badValue}
 use Rattle.model.specs.Demux.{Demux, Taken, freshDemux}
 use Rattle.slots.specs.Slot.{slotWith}
 use Rattle.slots.specs.declared.Slot.{Slot}
-use Rattle.parser_triples.specs.Pairs.{placedAll}
+use Rattle.parser_lists.specs.Pairs.{placedAll}
 use Rattle.parser_rings.specs.Ring.{withRuns}
 use Rattle.parser.specs.Means.{means}
 use Rattle.parser.specs.Valid.{valid}

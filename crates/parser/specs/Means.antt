@@ -3,7 +3,7 @@ use mathlib.Core.List.{map}
 use mathlib.Core.Path.{_≡_}
 use lib.ListN.{length, take}
 use Rattle.model.specs.Demux.{Demux, packetsOf}
-use Rattle.parser_triples.specs.Pairs.{pairsOf}
+use Rattle.parser_lists.specs.Pairs.{pairsOf}
 use Rattle.parser_rings.specs.Ring.{ringFrom, slotRun}
 use Rattle.parser.specs.declared.CCDataParser.{CCDataParser}
 

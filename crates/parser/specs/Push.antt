@@ -7,7 +7,7 @@ use Rattle.caption.specs.declared.Answer.{Answer}
 use Rattle.caption.specs.declared.Answer.the-variants.{Refused}
 use Rattle.caption.specs.declared.Refusal.{Refusal}
 use Rattle.slots.specs.declared.Slot.{Slot}
-use Rattle.parser_triples.specs.Listing.{Listing}
+use Rattle.parser_lists.specs.Listing.{Listing}
 use Rattle.parser_gather.specs.Gather.{Left}
 use Rattle.parser.specs.Tests.{countsOf}
 use Rattle.parser.specs.declared.Counts.{Counts}

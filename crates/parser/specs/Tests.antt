@@ -3,7 +3,7 @@ use mathlib.Core.List.{List}
 use mathlib.Core.Bool.{Bool, _&&_}
 use Prim.Native.Nat.{ℕ}
 use Rattle.slots.specs.declared.Slot.{Slot}
-use Rattle.parser_triples.specs.Listing.{listFine}
+use Rattle.parser_lists.specs.Listing.{listFine}
 use Rattle.parser_rings.specs.Tests.{ringFine}
 use Rattle.parser_gather.specs.Tests.{pendingFine}
 use Rattle.parser.specs.declared.CCDataParser.{CCDataParser}

@@ -5,7 +5,7 @@ use lib.ListN.{take}
 use lib.Dec.{leb}
 use Rattle.model.specs.Lists.{every, same}
 use Rattle.model.specs.Demux.{validDemux}
-use Rattle.parser_triples.specs.Pairs.{placedAll}
+use Rattle.parser_lists.specs.Pairs.{placedAll}
 use Rattle.parser_rings.specs.Ring.{ringFrom, slotFine}
 use Rattle.parser.specs.Means.{means}
 use Rattle.parser.specs.declared.CCDataParser.{CCDataParser}

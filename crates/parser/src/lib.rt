@@ -9,7 +9,7 @@ ghost use Rattle.parser_gather.specs.Tests.{pendingFine};
 ghost use Rattle.parser.specs.Means.{means, Shaped};
 ghost use Rattle.parser.specs.Valid.{valid};
 ghost use Rattle.parser.specs.Calls.{fresh, laidAfter, Answers};
-ghost use Rattle.parser_triples.specs.Listing.{listFine};
+ghost use Rattle.parser_lists.specs.Listing.{listFine};
 ghost use Rattle.parser.specs.Tests.{countsOf};
 ghost use Rattle.parser.specs.Push.{fed, refusedFor, joinedBy};
 ghost use Rattle.parser.specs.Items.{Draws};
@@ -114,7 +114,7 @@ impl CCDataParser {
             return self.refused(Refusal::BadValue);
         }
         let plan = parser_triples::plan_of(frame);
-        let n = parser_triples::list_by(plan.lists, c.on, &mut pairs, frame);
+        let n = parser_lists::list_by(plan.lists, c.on, &mut pairs, frame);
         let g = parser_gather::gather_by(
             plan.gathers,
             c.first,
@@ -258,7 +258,7 @@ struct Counts {
 fn good<'a>(c: Counts, pairs: &'a [u8; 93], pending: &'a [u8; 128], ring: bool) -> bool
     ensures { λ r. ⌜ r ≡ (listFine (c .on) (c .pairs) (now (pairs .entry)) && (pendingFine (c .pending) (now (pending .entry)) && ring)) ⌝ }
 {
-    if !parser_triples::list_good(c.on, pairs, c.pairs) {
+    if !parser_lists::list_good(c.on, pairs, c.pairs) {
         return false;
     }
     if !parser_gather::pending_good(pending, c.pending) {

@@ -1,7 +1,6 @@
--- What the two passes over the 608 part find is what the model finds: the late triple, the valid 708 triple, and the pairs.
--- Assumes nothing.
+-- What the search of the triples finds is what the model finds: the late triple and the valid 708 triple. Assumes nothing.
 use mathlib.Core.Path.{_≡_, refl, ap}
-use mathlib.Core.List.{List, [], _∷_, _++_}
+use mathlib.Core.List.{List, [], _∷_}
 use mathlib.Core.Bool.{Bool, true, false}
 use mathlib.Core.Option.{some}
 use Prim.Native.Nat.{ℕ, suc, _+_, _*_, _≤_}
@@ -10,11 +9,10 @@ use native.Mathlib.Omega.{arith}
 use lib.ListN.{length, drop, length-drop}
 use Rattle.caption.specs.declared.Answer.the-variants.{Accepted, Refused}
 use Rattle.caption.specs.declared.Refusal.the-variants.{Cea608AfterCea708}
-use Rattle.model.specs.Frame.{Cea608, field1, field2, pair, Seen, first, second, start, more, void608, void708, seenAll, triplesIn}
+use Rattle.model.specs.Frame.{Seen, first, second, start, more, void608, void708, seenAll, triplesIn}
 use Rattle.model.specs.Demux.{lateFrom, lateAfter, carries708}
 use Rattle.parser_triples.specs.Walk.{foldFrom, seenFrom}
 use Rattle.parser_triples.specs.Scan.{scanTurn}
-use Rattle.parser_triples.specs.Pairs.{placedAll, pairsOf}
 use Rattle.parser_triples.specs.Plan.{plan, planFound}
 use Rattle.parser_triples.specs.declared.Scan.{Scan}
 use Rattle.parser_triples.specs.declared.Scan.the-variants.{Only608, Ended, Carries, Late}
@@ -64,20 +62,6 @@ scan-found i (void608 ∷ ts) = rw add-one (scan-found (suc i) ts)
 scan-found i (void708 ∷ ts) = rw add-one (ended-found (suc i) ts)
 scan-found i (start a b ∷ ts) = rw add-one (carries-found (suc i) ts)
 scan-found i (more a b ∷ ts) = rw add-one (carries-found (suc i) ts)
-
--- three places a pair
-pub placed-length : (ps : List Cea608) → length (placedAll ps) ≡ 3 * length ps
-unfolding placedAll
-placed-length [] = refl
-placed-length (field1 (pair a b) ∷ ps) = omega (arith, placed-length ps)
-placed-length (field2 (pair a b) ∷ ps) = omega (arith, placed-length ps)
-
--- the places at the head are the pairs
-pub pairs-placed : (ps : List Cea608) (rest : List ℕ) → pairsOf (length ps) (placedAll ps ++ rest) ≡ ps
-unfolding placedAll pairsOf
-pairs-placed [] rest = refl
-pairs-placed (field1 (pair a b) ∷ ps) rest = ap (λ (l : List Cea608). field1 (pair a b) ∷ l) (pairs-placed ps rest)
-pairs-placed (field2 (pair a b) ∷ ps) rest = ap (λ (l : List Cea608). field2 (pair a b) ∷ l) (pairs-placed ps rest)
 
 -- three bytes a triple
 triples-length : (d : List ℕ) → 3 * length (seenAll (triplesIn d)) ≤ length d

@@ -1,7 +1,5 @@
 pub mod Walks
 pub mod Scans
-pub mod Lists
 pub mod Heads
 pub mod Found
 pub mod Plans
-pub mod Fields

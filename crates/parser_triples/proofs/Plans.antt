@@ -1,11 +1,10 @@
--- Laws of the plan of a frame and of listing its pairs, one for each way out of a function. Assumes nothing.
+-- Laws of the plan of a frame, one for each way out of a function. Assumes nothing.
 use mathlib.Core.Path.{_≡_, _∙_}
 use mathlib.Core.List.{List}
-use mathlib.Core.Bool.{Bool, true, false, _&&_}
-use Prim.Native.Nat.{ℕ, _+_, _*_, _≤_, _<_}
+use mathlib.Core.Bool.{true, false}
+use Prim.Native.Nat.{ℕ, _+_, _*_}
 use lib.ListN.{length, getD}
 use lib.Dec.{eqb}
-use borrow.Author.Tests.{le-leb, lt-leb}
 use Rattle.caption.specs.declared.Answer.the-variants.{Accepted, Refused}
 use Rattle.caption.specs.declared.Refusal.the-variants.{LengthMismatch, Cea608AfterCea708}
 use Rattle.model.specs.Frame.{countIn}
@@ -13,7 +12,6 @@ use Rattle.model.specs.Demux.{unread}
 use Rattle.model.proofs.Cases.{by-test}
 use Rattle.parser_triples.specs.Walk.{seenFrom}
 use Rattle.parser_triples.specs.Scan.{scanned}
-use Rattle.parser_triples.specs.Listing.{Listing, listing, listedBy}
 use Rattle.parser_triples.specs.Plan.{headOf, plan, planWalked, planOf}
 use Rattle.parser_triples.specs.declared.Head.{Head}
 use Rattle.parser_triples.specs.declared.Head.the-variants as head
@@ -73,26 +71,3 @@ module _ (f : List ℕ) (h : Head) (found : h ≡ headOf f) where
   -- triples
   pub plan-triples : (q : Plan) → h ≡ head.Walk → q ≡ planWalked f → q ≡ planOf f
   plan-triples q e r = r ∙ (rw e at header-plan)
-
--- listing, if asked
-module _ (lists on : Bool) (l f : List ℕ) where
-  -- not asked
-  pub list-not : lists ≡ false → record { count = 0; places = l } ≡ listedBy (lists && on) l f
-  unfolding listedBy
-  list-not e = rw e
-
-  module _ (asked : lists ≡ true) where
-    -- 608 is off
-    pub list-off : on ≡ false → record { count = 0; places = l } ≡ listedBy (lists && on) l f
-    unfolding listedBy
-    list-off e = rw (asked, e)
-
-    -- a frame that is too long
-    pub list-long : on ≡ true → 95 < length f → record { count = 0; places = l } ≡ listedBy (lists && on) l f
-    unfolding listedBy
-    list-long e h = rw (asked, e, lt-leb (length f) 95 h)
-
-    -- the pairs are listed
-    pub list-asked : (r : Listing) → on ≡ true → length f ≤ 95 → r ≡ listing 0 l (seenFrom 0 f) → r ≡ listedBy (lists && on) l f
-    unfolding listedBy
-    list-asked r e h q = rw (asked, e, le-leb (length f) 95 h) q

@@ -1,6 +1,6 @@
 -- `parser::CCDataParser::new` meets its contract: the literal is the fresh state. Assumes nothing.
 use mathlib.Core.Path.{refl}
-use Rattle.parser_triples.specs.Pairs.{placedAll}
+use Rattle.parser_lists.specs.Pairs.{placedAll}
 use Rattle.parser.specs.Calls.{laidIn, fresh}
 use Rattle.parser.proofs.Kept.{means-fresh}
 use Rattle.parser.proofs.CCDataParser.new.Statement.{statement}

@@ -1,14 +1,14 @@
--- `parser_triples::list_pairs` meets its contract: the list of the whole stays the list of what is left, and a triple of type 2 or 3 ends it. Assumes nothing.
+-- `parser_lists::list_pairs` meets its contract: the list of the whole stays the list of what is left, and a triple of type 2 or 3 ends it. Assumes nothing.
 use borrow.Author.Needs.{needs}
 use mathlib.Core.Path.{_≡_, refl}
 use Prim.Native.Nat.{_+_, _*_, _-_, _≤_}
 use native.Mathlib.Omega.{arith}
 use lib.ListN.{length}
 use Rattle.parser_triples.specs.Walk.{seenFrom}
-use Rattle.parser_triples.specs.Listing.{listing}
-use Rattle.parser_triples.proofs.Lists.{list-none, list-stops, list-again}
-use Rattle.parser_triples.proofs.list_pairs.Statement.{statement}
-use Rattle.parser_triples.proofs.list_pairs.Tie as tie
+use Rattle.parser_lists.specs.Listing.{listing}
+use Rattle.parser_lists.proofs.Lists.{list-none, list-stops, list-again}
+use Rattle.parser_lists.proofs.list_pairs.Statement.{statement}
+use Rattle.parser_lists.proofs.list_pairs.Tie as tie
 
 abbrev Inv-loop : tie.InvT-loop
 Inv-loop pairs₀ frame n₀ i₀ pairs n i =

@@ -7,8 +7,8 @@ use lib.Seq.{sets}
 use lib.Dec.{eqb, leb}
 use Rattle.model.specs.Frame.{Seen}
 use Rattle.model.specs.Demux.{pairsIn}
 use Rattle.parser_triples.specs.Walk.{seenFrom}
-use Rattle.parser_triples.specs.Pairs.{placedAll}
+use Rattle.parser_lists.specs.Pairs.{placedAll}
 
 -- a list that holds so many pairs, and its places
 pub record Listing : Type 0 where

@@ -1,13 +1,13 @@
--- `parser_triples::fields_good` meets its contract: the answer for the pairs stays the answer for those that are left. Assumes nothing.
+-- `parser_lists::fields_good` meets its contract: the answer for the pairs stays the answer for those that are left. Assumes nothing.
 use borrow.Author.Needs.{needs}
 use mathlib.Core.Path.{_≡_}
 use Prim.Native.Nat.{_*_, _-_, _≤_}
 use native.Mathlib.Omega.{arith}
 use lib.ListN.{drop}
-use Rattle.parser_triples.specs.Listing.{fieldsFine}
-use Rattle.parser_triples.proofs.Fields.{fields-start, fields-done, fields-again, fields-bad}
-use Rattle.parser_triples.proofs.fields_good.Statement.{statement}
-use Rattle.parser_triples.proofs.fields_good.Tie as tie
+use Rattle.parser_lists.specs.Listing.{fieldsFine}
+use Rattle.parser_lists.proofs.Fields.{fields-start, fields-done, fields-again, fields-bad}
+use Rattle.parser_lists.proofs.fields_good.Statement.{statement}
+use Rattle.parser_lists.proofs.fields_good.Tie as tie
 
 abbrev Inv-loop : tie.InvT-loop
 Inv-loop pairs n i₀ i = (i ≤ n) × (n ≤ 31) × (fieldsFine n pairs ≡ fieldsFine (n - i) (drop (3 * i) pairs))

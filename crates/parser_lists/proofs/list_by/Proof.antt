@@ -1,8 +1,8 @@
--- `parser_triples::list_by` meets its contract: one law of `Plans` for each way out, in the order of the tests. Assumes nothing.
-use Rattle.parser_triples.proofs.Plans.{list-asked, list-long, list-off, list-not}
+-- `parser_lists::list_by` meets its contract: one law of `Plans` for each way out, in the order of the tests. Assumes nothing.
+use Rattle.parser_lists.proofs.Asked.{list-asked, list-long, list-off, list-not}
 use borrow.Author.Needs.{needs}
-use Rattle.parser_triples.proofs.list_by.Statement.{statement}
-use Rattle.parser_triples.proofs.list_by.Tie as tie
+use Rattle.parser_lists.proofs.list_by.Statement.{statement}
+use Rattle.parser_lists.proofs.list_by.Tie as tie
 
 list-pairs-requires : tie.Need-list-pairs-requires
 list-pairs-requires c κs = search needs

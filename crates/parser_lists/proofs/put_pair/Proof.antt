@@ -1,9 +1,9 @@
--- `parser_triples::put_pair` meets its contract: a triple that is not valid lists nothing, and a valid one is laid by three stores. Assumes nothing.
-use Rattle.parser_triples.proofs.Lists.{list-void, list-pair}
+-- `parser_lists::put_pair` meets its contract: a triple that is not valid lists nothing, and a valid one is laid by three stores. Assumes nothing.
+use Rattle.parser_lists.proofs.Lists.{list-void, list-pair}
 use native.Mathlib.Omega.{arith}
 use borrow.Author.Needs.{needs}
-use Rattle.parser_triples.proofs.put_pair.Statement.{statement}
-use Rattle.parser_triples.proofs.put_pair.Tie as tie
+use Rattle.parser_lists.proofs.put_pair.Statement.{statement}
+use Rattle.parser_lists.proofs.put_pair.Tie as tie
 
 returns : tie.Need-returns
 returns c = (search (needs, list-void, list-pair), omega arith)

@@ -1,8 +1,8 @@
--- `parser_triples::list_good` meets its contract: one law of `Fields` for each way out. Assumes nothing.
-use Rattle.parser_triples.proofs.Fields.{list-long, list-on, list-off}
+-- `parser_lists::list_good` meets its contract: one law of `Fields` for each way out. Assumes nothing.
+use Rattle.parser_lists.proofs.Fields.{list-long, list-on, list-off}
 use borrow.Author.Needs.{needs}
-use Rattle.parser_triples.proofs.list_good.Statement.{statement}
-use Rattle.parser_triples.proofs.list_good.Tie as tie
+use Rattle.parser_lists.proofs.list_good.Statement.{statement}
+use Rattle.parser_lists.proofs.list_good.Tie as tie
 
 returns : tie.Need-returns
 returns c = search (needs, list-long)

@@ -10,10 +10,10 @@ use borrow.Author.Tests.{eqb-true, eqb-false, ltb-true, ltb-false}
 use Rattle.model.proofs.Cases.{by-test}
 use Rattle.model.specs.Frame.{tri, Seen, seen, first, second, Cea608, field1, field2, pair}
 use Rattle.model.specs.Demux.{pairsIn}
 use Rattle.parser_triples.specs.Walk.{seenFrom}
-use Rattle.parser_triples.specs.Pairs.{placedAll}
-use Rattle.parser_triples.specs.Listing.{Listing, listing}
+use Rattle.parser_lists.specs.Pairs.{placedAll}
+use Rattle.parser_lists.specs.Listing.{Listing, listing}
 use Rattle.parser_triples.proofs.Walks.{seen-next, seen-none, sees-void608, sees-first, sees-second, sees-void708, sees-708}
 
 -- three stores one behind the other
 stored : (l : List ℕ) (p q r s k x y : ℕ) (vs : List ℕ) → suc p ≡ q → suc q ≡ r → suc r ≡ s

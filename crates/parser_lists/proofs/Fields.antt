@@ -11,8 +11,8 @@ use borrow.Author.Tests.{eq-eqb, eqb-true, eqb-false, lt-leb, le-leb, leb-true}
 use Rattle.model.specs.Lists.{same}
 use Rattle.model.proofs.Cases.{by-test, both}
 use Rattle.model.proofs.Lists.{same-true, same-self}
-use Rattle.parser_triples.specs.Pairs.{placedAll, pairsOf}
-use Rattle.parser_triples.specs.Listing.{fieldsFine, listFine}
+use Rattle.parser_lists.specs.Pairs.{placedAll, pairsOf}
+use Rattle.parser_lists.specs.Listing.{fieldsFine, listFine}
 
 -- the list of pairs
 module _ (on : Bool) (n : ℕ) (l : List ℕ) where

@@ -1,0 +1,4 @@
+pub mod Placed
+pub mod Lists
+pub mod Asked
+pub mod Fields
