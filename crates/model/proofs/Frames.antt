@@ -150,7 +150,10 @@ pub gathered-read : (pending : List ℕ) (ts : List Seen) → Read (gathered pen
 unfolding gathered ended
 gathered-read pending ts =
     by-cond (λ (o : Gathered). Read (o .runs)) (carries708 ts)
-    (λ _. let o = gather pending ts in by-cond (λ (x : Gathered). Read (x .runs)) (eqb (wants (o .bytes)) 0) (λ _. read-append (gather-read pending ts) (read-kept (o .bytes))) (λ _. gather-read pending ts))
+    (λ _.
+    let o = gather pending ts in
+    let r = gather-read pending ts in
+    by-cond (λ (x : Gathered). Read (x .runs)) (eqb (wants (o .bytes)) 0) (λ _. read-append r (read-kept (o .bytes))) (λ _. r))
     (λ _. none)
 
 -- at most one run is kept at a time

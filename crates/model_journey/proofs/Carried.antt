@@ -112,7 +112,9 @@ then-carried {s} {g} {k} {r} {o} {p} c d =
       held = d .held;
       ready = d .ready;
       packets = chain (c .packets) (d .packets);
-      pairs = λ f. rw (accepted-append f k r, field-append f (o .pairs) (p .pairs), others-append (acceptedOf f k) (acceptedOf f r), others-append (ofField f (o .pairs)) (ofField f (p .pairs))) (chain (c .pairs f) (d .pairs f));
+      pairs = λ f.
+          rw (accepted-append f k r, others-append (acceptedOf f k) (acceptedOf f r))
+          (rw (field-append f (o .pairs) (p .pairs), others-append (ofField f (o .pairs)) (ofField f (p .pairs))) (chain (c .pairs f) (d .pairs f)));
     }
 
 -- a run of calls that are allowed

@@ -52,6 +52,7 @@ counted b s f on =
     let c : ℕ = countDue b s in
     let t = turned n s in
     let o = sentBy b s in
-    let l : length (t .out ++ (o .out ++ padding (s .padOut) (c - length (t .out) - length (o .out)))) ≡ length (t .out) + (length (o .out) + cond (s .padOut) (c - length (t .out) - length (o .out)) 0) = simp (length-append, padding-length) in
+    let free : ℕ = c - length (t .out) - length (o .out) in
+    let l : length (t .out ++ (o .out ++ padding (s .padOut) free)) ≡ length (t .out) + (length (o .out) + cond (s .padOut) free 0) = simp (length-append, padding-length) in
     let k = turns-count n s in
     l ∙ total (s .pad608) (s .padOut) (b .pairs) (b .triples) _ (unsent s) (length (t .out)) (length (o .out)) on (f .pairs) (k .most) (k .all) (numbers _ (s .sending) (s .packets) .sent)

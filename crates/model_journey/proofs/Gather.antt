@@ -97,7 +97,8 @@ module _ (tail : List Seen) (inert : (g : List ℕ) → gather g tail ≡ record
   idle {g} l m = rw (send-all m, inert g) (record { linked = l; same = refl; stored = none })
 
   -- a packet of the queue is begun
-  begin : (m : ℕ) {p : Packet} → Stored p → {g : List ℕ} {q : List Packet} → underway g [] ≡ closed g → Passed (opens p .rest) (firstOf p) q (send m (opens p .rest) q) (got (firstOf p) (send m (opens p .rest) q))
+  begin : (m : ℕ) {p : Packet} → Stored p → {g : List ℕ} {q : List Packet} → underway g [] ≡ closed g
+      → Passed (opens p .rest) (firstOf p) q (send m (opens p .rest) q) (got (firstOf p) (send m (opens p .rest) q))
       → Passed [] g (p ∷ q) (send (suc m) [] (p ∷ q)) (got g (send (suc m) [] (p ∷ q)))
   unfolding seenAll
   begin m {p} k {g} {q} e d =

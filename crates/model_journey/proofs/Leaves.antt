@@ -40,8 +40,14 @@ nearer-by (suc i) a g m n c w w′ h e k t u = let v : 1 ≤ n = t (omega arith)
 pub moved : (f : Field) (b : Budgets) (s : Mux) → 1 ≤ b .pairs → Moved f s (writeFrame b s .next)
 unfolding writeFrame framed
 moved f b s some =
-    let v = turns-serve f (turnsDue (b .pairs) s) s in
-    record { gone = v .gone; cut = v .cut; nearer = λ i left h k. nearer-by i (length (queueOf f s)) (length (v .gone)) (v .m) (turnsDue (b .pairs) s) left _ _ h (v .enough) (v .clock) (some-turn f s (b .pairs) some) k }
+    let n : ℕ = turnsDue (b .pairs) s in
+    let v = turns-serve f n s in
+    let t = some-turn f s (b .pairs) some in
+    record {
+      gone = v .gone;
+      cut = v .cut;
+      nearer = λ i left h k. nearer-by i (length (queueOf f s)) (length (v .gone)) (v .m) n left _ _ h (v .enough) (v .clock) t k;
+    }
 
 -- first these go, then those
 left-then : {b q q′ q″ : List Pair} (a : List Pair) (i j : ℕ) (gone : List Pair) → q ++ a ≡ gone ++ q′ → Left j q′ b q″ → i ≤ length gone + j → Left i q (a ++ b) q″

@@ -69,7 +69,12 @@ settled {ts} {g} {q} {o} {ys} j rest d =
     let r = gather g ys in
     let c = closing (r .runs) (d .linked) in
     let k = ended r in
-    record { linked = c .linked; rested = c .rested; same = regroup _ (packetsOf (r .runs)) (underway (r .bytes) (o .sending)) (packetsOf (k .runs)) (underway (k .bytes) (o .sending)) (o .packets) (d .same) (c .same) })
+    let way : List ℕ → List Packet = λ bytes. underway bytes (o .sending) in
+    record {
+      linked = c .linked;
+      rested = c .rested;
+      same = regroup _ (packetsOf (r .runs)) (way (r .bytes)) (packetsOf (k .runs)) (way (k .bytes)) (o .packets) (d .same) (c .same);
+    })
     (λ e.
     let n = gather-none g j e in
     record { linked = rw n at (d .linked); rested = rest; same = rw n at (d .same) })

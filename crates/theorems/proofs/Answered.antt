@@ -38,7 +38,8 @@ module _ {o : Outcome Mux} {f : Mux → CCDataWriter} {w : CCDataWriter} {r : Wr
   stays-denied is why e = let d = denied why e in rw (d .0) (stays refl refl (d .1))
 
 -- the switches
-pub pads-moves : (w : CCDataWriter) (r : WriterAnswer) (x y : Bool) → Sound w → Answers (checked (validWriter w) (gave (withPads x y (means w)))) (stored w) w r → Moved w [] noItems (r .writer) (Unit {0})
+pub pads-moves : (w : CCDataWriter) (r : WriterAnswer) (x y : Bool) → Sound w → Answers (checked (validWriter w) (gave (withPads x y (means w)))) (stored w) w r
+    → Moved w [] noItems (r .writer) (Unit {0})
 unfolding call others
 pads-moves w r x y s a =
     let g = given a (withPads x y (means w)) (rw (s .valid)) .1 in

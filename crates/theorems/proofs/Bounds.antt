@@ -121,7 +121,8 @@ module _ {w₀ w : CCDataWriter} {fs₀ : List (List ℕ)} {is₀ : Items} (new 
   -- a write at an accepted rate, with room for the longest frame, is accepted
   pub write-accepted : (κs : Lfts 1) (rate : Framerate) (out end : Lent) (r : WriterCount) → Write κs w rate out end r → AcceptsWrite w rate (now out) (r .answer)
   write-accepted κs rate out end r a b given room =
-      saidCounted-injective (r .answer) (counted.Count (length (frameBytes (writeFrame b (means w) .frame)))) (rw (write-given w (reached .sound .valid) rate (now out) given (omega arith)) at (a .answer))
+      let said = rw (write-given w (reached .sound .valid) rate (now out) given (omega arith)) at (a .answer) in
+      saidCounted-injective (r .answer) (counted.Count (length (frameBytes (writeFrame b (means w) .frame)))) said
 
   -- so many accepted writes drain a multiplexer, if nothing more is accepted: twice as many as the pairs of either field, and a quarter of the
   -- packet triples

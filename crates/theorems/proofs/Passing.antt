@@ -115,8 +115,8 @@ module _ (l : List Slot) (count : ℕ) (q : length l ≡ count) (slot : Slot) (a
       let it : readSlot (getD l (length gone) noSlot) ≡ p =
       sym (List·getD-map readSlot l (length gone) noSlot)
       ∙ ap (λ (ps : List Packet). getD ps (length gone) (readSlot noSlot)) e ∙ getD-behind gone p (o .packets) (readSlot noSlot) in
-      rw (next, it, e)
-      (passed-front (restIn slot at) (passed-front gone (passed-one p (leb (writtenLength (getD l (length gone) noSlot)) (writtenLength (getD l (length gone) noSlot) - 2 * length (o .sending))) (o .packets))))
+      let long : ℕ = writtenLength (getD l (length gone) noSlot) in
+      rw (next, it, e) (passed-front (restIn slot at) (passed-front gone (passed-one p (leb long (long - 2 * length (o .sending))) (o .packets))))
 
   -- either way
   passed-by : Begins (leftFrom at (writtenBytes slot)) (readSlots l) o → Passed (restIn slot at ++ readSlots l) [] (restIn last sent ++ o .packets)
