@@ -11,31 +11,23 @@ use ccread_report::Told;
 use libc::STDIN_FILENO;
 use libc::STDOUT_FILENO;
 use parser::CCDataParser;
-use program_records::Found;
 use program_records::part;
-use program_streams::Left;
+use program_streams::Ahead;
+use program_streams::Held;
 
 // The lines of a frame have at most 32768 bytes, and the last line has fewer.
 const ROOM: usize = 32768;
 
-// Where the program stands in a buffer: the place there and in the input, the number of the next record, and the demultiplexer; how many
-// bytes are laid since it stood elsewhere, whether it stands there for want of room, and else where the records end.
+// Where the program stands in a buffer: what is ahead there, and the demultiplexer; how many bytes are laid since it stood elsewhere.
 struct Stand {
-    at: usize,
-    passed: u64,
-    records: u64,
+    ahead: Ahead,
     parser: CCDataParser,
     laid: usize,
-    full: bool,
-    left: Left,
 }
 
-// The bytes of input that wait, those before them, the records so far, whether to go on, and the demultiplexer.
+// What is held from one read to the next, and the demultiplexer.
 struct State {
-    have: usize,
-    passed: u64,
-    records: u64,
-    going: bool,
+    held: Held,
     parser: CCDataParser,
 }
 
@@ -52,44 +44,32 @@ fn put_record(out: &mut [u8], at: usize, number: u64, frame: &[u8], parser: CCDa
 fn drain(buf: &[u8], ended: bool, out: &mut [u8], from: Stand) -> Stand
     requires { ⌜ 32768 ≤ length (now out) ⌝ }
     ensures { λ r. ⌜ toTell ended (now (buf .entry)) from ≡ before (take (r .laid) (now (out .exit))) (stillToTell ended (now (buf .entry)) r) ⌝ }
-    ensures { λ r. ⌜ (r .full ≡ true → (from .at < r .at) × (r .at ≤ length (now (buf .entry)))) ⌝ }
+    ensures { λ r. ⌜ (r .ahead .full ≡ true → (from .ahead .place .at < r .ahead .place .at) × (r .ahead .place .at ≤ length (now (buf .entry)))) ⌝ }
 {
     let most = out.len() - ROOM;
-    let mut at = from.at;
-    let mut passed = from.passed;
-    let mut records = from.records;
+    let mut place = from.ahead.place;
     let mut parser = from.parser;
     let mut laid: usize = 0;
-    while laid <= most {
-        let found = program_records::next_record(buf, at, ended, 0xCC, 0xDA);
-        let Found::Record { start, len, next } = found else {
-            let left = program_streams::left_at(found);
-            let end = program_streams::put_last(out, laid, left, passed, records);
+    loop {
+        let ahead = program_streams::look(buf, place, ended, 0xDA, laid <= most);
+        if !ahead.whole {
+            let end = program_streams::put_last(out, laid, ahead);
             return Stand {
-                at,
-                passed,
-                records,
+                ahead,
                 parser,
                 laid: end,
-                full: false,
-                left,
             };
-        };
-        let told = put_record(out, laid, records, part(buf, start, len), parser);
+        }
+        let told = put_record(
+            out,
+            laid,
+            place.records,
+            program_streams::body_at(buf, place.at),
+            parser,
+        );
         laid = told.laid;
         parser = told.parser;
-        at = next;
-        passed = std::num::wrapping_add_u64(passed, (3 + len) as u64);
-        records = std::num::wrapping_add_u64(records, 1);
-    }
-    Stand {
-        at,
-        passed,
-        records,
-        parser,
-        laid,
-        full: true,
-        left: Left::More,
+        place = ahead.place;
     }
 }
 
@@ -103,19 +83,15 @@ fn send(text: &[u8], buf: &[u8], ended: bool, from: Stand, to: Stand)
 // Every record that is whole in the buffer, in as many pieces as the room makes of what they tell.
 fn tell_all(buf: &[u8], ended: bool, out: &mut [u8], s: State) -> Stand
     requires { ⌜ 32768 ≤ length (now out) ⌝ }
-    ensures { λ r. ⌜ silent (told mark tell ended (now (buf .entry)) (s .passed) (s .records) (s .parser)) ≡ done (drop (r .at) (now (buf .entry))) (r .passed) (r .records) (r .parser) (r .left) ⌝ }
+    ensures { λ r. ⌜ silent (told mark tell ended (now (buf .entry)) (s .held .passed) (s .held .records) (s .parser)) ≡ done (drop (r .ahead .place .at) (now (buf .entry))) (r .ahead .place .passed) (r .ahead .place .records) (r .parser) (r .ahead .left) ⌝ }
 {
     let parser = s.parser;
     let mut to = Stand {
-        at: 0,
-        passed: s.passed,
-        records: s.records,
+        ahead: program_streams::front(s.held),
         parser,
         laid: 0,
-        full: true,
-        left: Left::More,
     };
-    while to.full {
+    while to.ahead.full {
         let from = to;
         to = drain(buf, ended, out, from);
         send(part(out, 0, to.laid), buf, ended, from, to);
@@ -125,21 +101,13 @@ fn tell_all(buf: &[u8], ended: bool, out: &mut [u8], s: State) -> Stand
 
 // Takes in the first `more` bytes of the buffer, and keeps those behind the last whole record.
 fn take_in(buf: &mut [u8], more: usize, ended: bool, out: &mut [u8], s: State) -> State
-    requires { ⌜ more ≤ length (now buf) ⌝ }
     requires { ⌜ 32768 ≤ length (now out) ⌝ }
-    ensures { λ r. ⌜ Kept (told mark tell ended (take more (now (buf .entry))) (s .passed) (s .records) (s .parser)) (now (buf .exit)) (r .have) (r .passed) (r .records) (r .parser) (r .going) ⌝ }
+    ensures { λ r. ⌜ Kept (told mark tell ended (take more (now (buf .entry))) (s .held .passed) (s .held .records) (s .parser)) (now (buf .exit)) (r .held) (r .parser) ⌝ }
 {
-    let to = tell_all(&buf[0..more], ended, out, s);
-    let at = to.at;
-    let left = to.left;
+    let to = tell_all(part(buf, 0, more), ended, out, s);
     let parser = to.parser;
-    let going = program_streams::goes_on(left);
-    let have = program_records::move_to_front(buf, at, more);
     State {
-        have,
-        passed: to.passed,
-        records: to.records,
-        going,
+        held: program_streams::keep(buf, more, to.ahead),
         parser,
     }
 }
@@ -155,11 +123,11 @@ fn read_more(buf: &mut [u8], have: usize) -> usize
 
 // One read of the input, and what it completes.
 fn step(buf: &mut [u8], out: &mut [u8], s: State) -> State
-    requires { ⌜ s .have ≤ length (now buf) ⌝ }
+    requires { ⌜ s .held .have ≤ length (now buf) ⌝ }
     requires { ⌜ 32768 ≤ length (now out) ⌝ }
     ensures { λ r. ⌜ Steps (now (buf .entry)) s (now (buf .exit)) r ⌝ }
 {
-    let have = s.have;
+    let have = s.held.have;
     let n = read_more(buf, have);
     take_in(buf, have + n, n == 0, out, s)
 }
@@ -171,10 +139,7 @@ fn fresh() -> State
     let on = CCDataParser::new().handle_cea608();
     let parser = on.parser;
     State {
-        have: 0,
-        passed: 0,
-        records: 0,
-        going: true,
+        held: program_streams::unread(),
         parser,
     }
 }
@@ -182,14 +147,14 @@ fn fresh() -> State
 // Reads the input to its end, and answers where the program stands then.
 fn run(buf: &mut [u8], out: &mut [u8]) -> State
     requires { ⌜ 32768 ≤ length (now out) ⌝ }
-    ensures { λ r. ⌜ (r .going ≡ false → Ran (now (buf .exit)) r) ⌝ }
+    ensures { λ r. ⌜ (r .held .going ≡ false → Ran (now (buf .exit)) r) ⌝ }
 {
     let mut s = fresh();
     let mut turns = u64::MAX;
     while turns > 0 {
         turns -= 1;
         s = step(buf, out, s);
-        if !s.going {
+        if !s.held.going {
             return s;
         }
     }

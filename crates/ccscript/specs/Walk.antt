@@ -1,13 +1,14 @@
 -- What `ccscript` tells of its input: records of mark CC 5C, one length byte, and as many bytes, which are an operation and its arguments.
 -- Assumes nothing.
-use mathlib.Core.Bool.{Bool, true, false, cond}
-use mathlib.Core.List.{List, [], _∷_, _++_}
+use mathlib.Core.Bool.{Bool, true, cond}
+use mathlib.Core.List.{List, [], _∷_}
 use Prim.Native.Nat.{ℕ}
-use lib.Dec.{eqb, ltb}
-use lib.ListN.{length, take, drop}
+use lib.Dec.{ltb}
+use lib.ListN.{length}
 use Rattle.script_operations.specs.Ran.{ran, freshMachine}
 use Rattle.script_operations.specs.declared.Machine.{Machine}
-use Rattle.program_streams.specs.Walk.{Told, Walked, told, leftToTell, Kept}
+use Rattle.program_streams.specs.Ahead.{nothingRead}
+use Rattle.program_streams.specs.Walk.{Told, Walked, toldFrom, leftToTell, Stepped, ToldSoFar}
 use Rattle.ccscript.specs.declared.Stand.{Stand}
 use Rattle.ccscript.specs.declared.State.{State}
 
@@ -24,21 +25,19 @@ tell n m bytes = record { text = lineOf m bytes; next = ran m bytes .next }
 
 -- what a buffer tells from where the program stands, and what it tells still
 abbrev pub toTell : Bool → List ℕ → Stand → Walked Machine
-toTell ended buf d = told mark tell ended (drop (d .at) buf) (d .passed) (d .records) (d .machine)
+toTell ended buf d = toldFrom mark tell ended buf (d .ahead .place) (d .machine)
 
 abbrev pub stillToTell : Bool → List ℕ → Stand → Walked Machine
-stillToTell ended buf d = leftToTell mark tell ended buf (d .at) (d .passed) (d .records) (d .machine) (d .full) (d .left)
+stillToTell ended buf d = leftToTell mark tell ended buf (d .ahead) (d .machine)
 
 -- nothing is read
 abbrev pub freshState : State
-freshState = record { have = 0; passed = 0; records = 0; going = true; machine = freshMachine }
+freshState = record { held = nothingRead; machine = freshMachine }
 
 -- some bytes follow those that wait, none only at the end of the input, and all that they complete is told
 abbrev pub Steps : List ℕ → State → List ℕ → State → Type 0
-Steps buf s after r =
-    (got : List ℕ)
-    × Kept (told mark tell (eqb (length got) 0) (take (s .have) buf ++ got) (s .passed) (s .records) (s .machine)) after (r .have) (r .passed) (r .records) (r .machine) (r .going)
+Steps buf s after r = Stepped mark tell buf (s .held) (s .machine) after (r .held) (r .machine)
 
 -- all of an input is told
 abbrev pub Ran : List ℕ → State → Type 0
-Ran buf r = (input : List ℕ) × Kept (told mark tell true input 0 0 (freshState .machine)) buf (r .have) (r .passed) (r .records) (r .machine) false
+Ran buf r = ToldSoFar mark tell true (freshState .machine) buf (r .held) (r .machine)

@@ -11,9 +11,9 @@ ghost use Rattle.script_operations.specs.Ran.{ran};
 ghost use Rattle.ccscript.specs.Walk.{mark, lineOf, tell, toTell, stillToTell, Steps, Ran, freshState};
 use libc::STDIN_FILENO;
 use libc::STDOUT_FILENO;
-use program_records::Found;
 use program_records::part;
-use program_streams::Left;
+use program_streams::Ahead;
+use program_streams::Held;
 use script_operations::Machine;
 use script_operations::Stepped;
 
@@ -21,24 +21,16 @@ use script_operations::Stepped;
 // not be told.
 const ROOM: usize = 600;
 
-// Where the program stands in a buffer: the place there and in the input, the number of the next record, and what the operations left; how many
-// bytes are laid since it stood elsewhere, whether it stands there for want of room, and else where the records end.
+// Where the program stands in a buffer: what is ahead there, and what the operations left; how many bytes are laid since it stood elsewhere.
 struct Stand {
-    at: usize,
-    passed: u64,
-    records: u64,
+    ahead: Ahead,
     machine: Machine,
     laid: usize,
-    full: bool,
-    left: Left,
 }
 
-// The bytes of input that wait, those before them, the records so far, whether to go on, and what the operations left.
+// What is held from one read to the next, and what the operations left.
 struct State {
-    have: usize,
-    passed: u64,
-    records: u64,
-    going: bool,
+    held: Held,
     machine: Machine,
 }
 
@@ -63,44 +55,26 @@ fn put_record(out: &mut [u8], at: usize, record: &[u8], machine: Machine) -> Ste
 fn drain(buf: &[u8], ended: bool, out: &mut [u8], from: Stand) -> Stand
     requires { ⌜ 600 ≤ length (now out) ⌝ }
     ensures { λ r. ⌜ toTell ended (now (buf .entry)) from ≡ before (take (r .laid) (now (out .exit))) (stillToTell ended (now (buf .entry)) r) ⌝ }
-    ensures { λ r. ⌜ (r .full ≡ true → (from .at < r .at) × (r .at ≤ length (now (buf .entry)))) ⌝ }
+    ensures { λ r. ⌜ (r .ahead .full ≡ true → (from .ahead .place .at < r .ahead .place .at) × (r .ahead .place .at ≤ length (now (buf .entry)))) ⌝ }
 {
     let most = out.len() - ROOM;
-    let mut at = from.at;
-    let mut passed = from.passed;
-    let mut records = from.records;
+    let mut place = from.ahead.place;
     let mut machine = from.machine;
     let mut laid: usize = 0;
-    while laid <= most {
-        let found = program_records::next_record(buf, at, ended, 0xCC, 0x5C);
-        let Found::Record { start, len, next } = found else {
-            let left = program_streams::left_at(found);
-            let end = program_streams::put_last(out, laid, left, passed, records);
+    loop {
+        let ahead = program_streams::look(buf, place, ended, 0x5C, laid <= most);
+        if !ahead.whole {
+            let end = program_streams::put_last(out, laid, ahead);
             return Stand {
-                at,
-                passed,
-                records,
+                ahead,
                 machine,
                 laid: end,
-                full: false,
-                left,
             };
-        };
-        let told = put_record(out, laid, part(buf, start, len), machine);
+        }
+        let told = put_record(out, laid, program_streams::body_at(buf, place.at), machine);
         laid = told.laid;
         machine = told.machine;
-        at = next;
-        passed = std::num::wrapping_add_u64(passed, (3 + len) as u64);
-        records = std::num::wrapping_add_u64(records, 1);
-    }
-    Stand {
-        at,
-        passed,
-        records,
-        machine,
-        laid,
-        full: true,
-        left: Left::More,
+        place = ahead.place;
     }
 }
 
@@ -114,19 +88,15 @@ fn send(text: &[u8], buf: &[u8], ended: bool, from: Stand, to: Stand)
 // Every record that is whole in the buffer, in as many pieces as the room makes of what they tell.
 fn tell_all(buf: &[u8], ended: bool, out: &mut [u8], s: State) -> Stand
     requires { ⌜ 600 ≤ length (now out) ⌝ }
-    ensures { λ r. ⌜ silent (told mark tell ended (now (buf .entry)) (s .passed) (s .records) (s .machine)) ≡ done (drop (r .at) (now (buf .entry))) (r .passed) (r .records) (r .machine) (r .left) ⌝ }
+    ensures { λ r. ⌜ silent (told mark tell ended (now (buf .entry)) (s .held .passed) (s .held .records) (s .machine)) ≡ done (drop (r .ahead .place .at) (now (buf .entry))) (r .ahead .place .passed) (r .ahead .place .records) (r .machine) (r .ahead .left) ⌝ }
 {
     let machine = s.machine;
     let mut to = Stand {
-        at: 0,
-        passed: s.passed,
-        records: s.records,
+        ahead: program_streams::front(s.held),
         machine,
         laid: 0,
-        full: true,
-        left: Left::More,
     };
-    while to.full {
+    while to.ahead.full {
         let from = to;
         to = drain(buf, ended, out, from);
         send(part(out, 0, to.laid), buf, ended, from, to);
@@ -136,21 +106,13 @@ fn tell_all(buf: &[u8], ended: bool, out: &mut [u8], s: State) -> Stand
 
 // Takes in the first `more` bytes of the buffer, and keeps those behind the last whole record.
 fn take_in(buf: &mut [u8], more: usize, ended: bool, out: &mut [u8], s: State) -> State
-    requires { ⌜ more ≤ length (now buf) ⌝ }
     requires { ⌜ 600 ≤ length (now out) ⌝ }
-    ensures { λ r. ⌜ Kept (told mark tell ended (take more (now (buf .entry))) (s .passed) (s .records) (s .machine)) (now (buf .exit)) (r .have) (r .passed) (r .records) (r .machine) (r .going) ⌝ }
+    ensures { λ r. ⌜ Kept (told mark tell ended (take more (now (buf .entry))) (s .held .passed) (s .held .records) (s .machine)) (now (buf .exit)) (r .held) (r .machine) ⌝ }
 {
-    let to = tell_all(&buf[0..more], ended, out, s);
-    let at = to.at;
-    let left = to.left;
+    let to = tell_all(part(buf, 0, more), ended, out, s);
     let machine = to.machine;
-    let going = program_streams::goes_on(left);
-    let have = program_records::move_to_front(buf, at, more);
     State {
-        have,
-        passed: to.passed,
-        records: to.records,
-        going,
+        held: program_streams::keep(buf, more, to.ahead),
         machine,
     }
 }
@@ -166,11 +128,11 @@ fn read_more(buf: &mut [u8], have: usize) -> usize
 
 // One read of the input, and what it completes.
 fn step(buf: &mut [u8], out: &mut [u8], s: State) -> State
-    requires { ⌜ s .have ≤ length (now buf) ⌝ }
+    requires { ⌜ s .held .have ≤ length (now buf) ⌝ }
     requires { ⌜ 600 ≤ length (now out) ⌝ }
     ensures { λ r. ⌜ Steps (now (buf .entry)) s (now (buf .exit)) r ⌝ }
 {
-    let have = s.have;
+    let have = s.held.have;
     let n = read_more(buf, have);
     take_in(buf, have + n, n == 0, out, s)
 }
@@ -181,10 +143,7 @@ fn fresh() -> State
 {
     let machine = script_operations::fresh();
     State {
-        have: 0,
-        passed: 0,
-        records: 0,
-        going: true,
+        held: program_streams::unread(),
         machine,
     }
 }
@@ -192,14 +151,14 @@ fn fresh() -> State
 // Reads the input to its end, and answers where the program stands then.
 fn run(buf: &mut [u8], out: &mut [u8]) -> State
     requires { ⌜ 600 ≤ length (now out) ⌝ }
-    ensures { λ r. ⌜ (r .going ≡ false → Ran (now (buf .exit)) r) ⌝ }
+    ensures { λ r. ⌜ (r .held .going ≡ false → Ran (now (buf .exit)) r) ⌝ }
 {
     let mut s = fresh();
     let mut turns = u64::MAX;
     while turns > 0 {
         turns -= 1;
         s = step(buf, out, s);
-        if !s.going {
+        if !s.held.going {
             return s;
         }
     }

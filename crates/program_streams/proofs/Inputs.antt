@@ -12,7 +12,9 @@ use Rattle.program_records.specs.Reading.{canBe, recordLength, missing, foundIn
 use Rattle.program_records.specs.declared.Found.{Found}
 use Rattle.program_records.specs.declared.Found.the-variants as found
 use Rattle.program_streams.specs.Ends.{leftAt, goesOn}
-use Rattle.program_streams.specs.Walk.{Told, Walked, before, ifRecord, walked, told, resumed, Kept, Follow}
+use Rattle.program_streams.specs.Ahead.{nothingRead}
+use Rattle.program_streams.specs.Walk.{Told, Walked, before, ifRecord, walked, told, resumed, Kept, Stepped, ToldSoFar, Follow}
+use Rattle.program_streams.specs.declared.Held.{Held}
 use Rattle.program_streams.specs.declared.Left.{Left}
 use Rattle.program_streams.specs.declared.Left.the-variants.{More, Stopped, Ended}
 use Rattle.program_streams.proofs.Walks.{by-front}
@@ -27,7 +29,7 @@ given {before} {after} {have} {n} f =
     (length-take-le n (drop have after) k, take-add have n after ∙ rw (f .stay))
 
 -- what is kept does not tell what was told
-kept-before : {S : Type 0} (t : List ℕ) (w : Walked S) {buf : List ℕ} {have place n : ℕ} {x : S} {going : Bool} → Kept w buf have place n x going → Kept (before t w) buf have place n x going
+kept-before : {S : Type 0} (t : List ℕ) (w : Walked S) {buf : List ℕ} {h : Held} {x : S} → Kept w buf h x → Kept (before t w) buf h x
 kept-before t w k = record { count = k .count; within = k .within; bytes = k .bytes; reached = k .reached; number = k .number; state = k .state; goes = k .goes }
 
 -- at the end of the input nothing more is waited for
@@ -66,61 +68,46 @@ module _ {S : Type 0} (mark : List ℕ) (tell : ℕ → S → List ℕ → Told 
   ends-in (suc k) s b n x h = ends-by s b n x (λ r a m y l. ends-in k r a m y (omega arith)) (foundIn mark true 0 s) refl (no-more mark s)
 
   -- a program that has read nothing
-  pub starts : (buf : List ℕ) (x : S) → Kept (told mark tell false [] 0 0 x) buf 0 0 0 x true
+  pub starts : (buf : List ℕ) (x : S) → ToldSoFar mark tell false x buf nothingRead x
   unfolding told walked foundIn leftAt
-  starts buf x = record { count = refl; within = omega arith; bytes = refl; reached = refl; number = refl; state = refl; goes = refl }
+  starts buf x = ([], record { count = refl; within = omega arith; bytes = refl; reached = refl; number = refl; state = refl; goes = refl })
 
-  -- one more read
-  module _ (short : length mark ≤ 3) (input got : List ℕ) (x : S) {buf after : List ℕ} {have b n have′ b′ n′ : ℕ} {y z : S} {going : Bool}
-      (k : Kept (told mark tell false input 0 0 x) buf have b n y true)
-      (s : Kept (told mark tell (eqb (length got) 0) (take have buf ++ got) b n y) after have′ b′ n′ z going) where
-    pub further : Kept (told mark tell (eqb (length got) 0) (input ++ got) 0 0 x) after have′ b′ n′ z going
-    further =
-        let w = told mark tell false input 0 0 x in
-        let m : w .left ≡ More = only-more (w .left) (sym (k .goes)) in
-        rw (cut-anywhere mark tell (eqb (length got) 0) got short input 0 0 x, m)
-        (kept-before (w .text) (told mark tell (eqb (length got) 0) (w .rest ++ got) (w .place) (w .number) (w .state))
-        (rw (k .bytes, k .reached, k .number, k .state) at s))
+  -- one read after another: the program stands where the bytes read so far leave it
+  module _ (short : length mark ≤ 3) (x : S) {buf after : List ℕ} {h k : Held} {y z : S}
+      (i : ToldSoFar mark tell false x buf h y) (going : h .going ≡ true) (g : Stepped mark tell buf h y after k z) where
+    -- what all of them tell
+    all-read : Kept (told mark tell (eqb (length (g .0)) 0) (i .0 ++ g .0) 0 0 x) after k z
+    all-read =
+        let w = told mark tell false (i .0) 0 0 x in
+        let m : w .left ≡ More = only-more (w .left) (sym (i .1 .goes) ∙ going) in
+        rw (cut-anywhere mark tell (eqb (length (g .0)) 0) (g .0) short (i .0) 0 0 x, m)
+        (kept-before (w .text) (told mark tell (eqb (length (g .0)) 0) (w .rest ++ g .0) (w .place) (w .number) (w .state))
+        (rw (i .1 .bytes, i .1 .reached, i .1 .number, i .1 .state) at (g .1)))
       where
         only-more : (l : Left) → goesOn l ≡ true → l ≡ More
         only-more More e = refl
         only-more Stopped e = absurd (false≢true e)
         only-more Ended e = absurd (false≢true e)
 
-  -- the input goes on, or it is told whole
-  module _ (short : length mark ≤ 3) (x : S) {buf : List ℕ} {have b n : ℕ} {y : S} where
-    pub goes-further : (ended : Bool) (input : List ℕ) → Kept (told mark tell ended input 0 0 x) buf have b n y true
-        → (all : List ℕ) × Kept (told mark tell false all 0 0 x) buf have b n y true
-    goes-further false input k = (input, k)
-    goes-further true input k = absurd (false≢true (sym (k .goes ∙ ends-in (length input) input 0 0 x (omega arith))))
+    goes-further : k .going ≡ true → (ended : Bool) (input : List ℕ) → Kept (told mark tell ended input 0 0 x) after k z → ToldSoFar mark tell false x after k z
+    goes-further e false input q = (input, q)
+    goes-further e true input q = absurd (false≢true (sym (ends-in (length input) input 0 0 x (omega arith)) ∙ sym (q .goes) ∙ e))
 
-    pub is-told : (ended : Bool) (input : List ℕ) → Kept (told mark tell ended input 0 0 x) buf have b n y false
-        → (all : List ℕ) × Kept (told mark tell true all 0 0 x) buf have b n y false
-    is-told true input k = (input, k)
-    is-told false input k =
+    is-told : k .going ≡ false → (ended : Bool) (input : List ℕ) → Kept (told mark tell ended input 0 0 x) after k z → ToldSoFar mark tell true x after k z
+    is-told e true input q = (input, q)
+    is-told e false input q =
         let w = told mark tell false input 0 0 x in
-        (input ++ [], rw (cut-anywhere mark tell true [] short input 0 0 x) (nothing-follows w k (w .left) (sym (k .goes))))
+        (input ++ [], rw (cut-anywhere mark tell true [] short input 0 0 x) (nothing-follows w q (w .left) (sym (q .goes) ∙ e)))
       where
-        nothing-follows : (w : Walked S) → Kept w buf have b n y false → (l : Left) → goesOn l ≡ false → Kept (resumed mark tell true [] w l) buf have b n y false
-        nothing-follows w k More e = absurd (false≢true (sym e))
-        nothing-follows w k Stopped e = rw (append-nil (w .rest)) k
-        nothing-follows w k Ended e = rw (append-nil (w .rest)) k
-
-  -- an input is told so far, and the program stands behind it
-  abbrev pub ToldSoFar : Bool → S → List ℕ → ℕ → ℕ → ℕ → S → Bool → Type 0
-  ToldSoFar ended x buf have b n y going = (input : List ℕ) × Kept (told mark tell ended input 0 0 x) buf have b n y going
-
-  -- one read after another: the program stands where the bytes read so far leave it
-  module _ (short : length mark ≤ 3) (x : S) {buf after : List ℕ} {have have′ b b′ n n′ : ℕ} {y z : S} {going : Bool}
-      (i : ToldSoFar false x buf have b n y true) (g : (got : List ℕ) × Kept (told mark tell (eqb (length got) 0) (take have buf ++ got) b n y) after have′ b′ n′ z going) where
-    -- what all of them tell
-    all-read : Kept (told mark tell (eqb (length (g .0)) 0) (i .0 ++ g .0) 0 0 x) after have′ b′ n′ z going
-    all-read = further short (i .0) (g .0) x (i .1) (g .1)
+        nothing-follows : (w : Walked S) → Kept w after k z → (l : Left) → goesOn l ≡ false → Kept (resumed mark tell true [] w l) after k z
+        nothing-follows w q More e = absurd (false≢true (sym e))
+        nothing-follows w q Stopped e = rw (append-nil (w .rest)) q
+        nothing-follows w q Ended e = rw (append-nil (w .rest)) q
 
     -- more is to be read
-    pub reads-on : going ≡ true → ToldSoFar false x after have′ b′ n′ z true
-    reads-on e = goes-further short x (eqb (length (g .0)) 0) (i .0 ++ g .0) (rw e at all-read)
+    pub reads-on : k .going ≡ true → ToldSoFar mark tell false x after k z
+    reads-on e = goes-further e (eqb (length (g .0)) 0) (i .0 ++ g .0) all-read
 
     -- the input is told whole
-    pub reads-all : going ≡ false → ToldSoFar true x after have′ b′ n′ z false
-    reads-all e = is-told short x (eqb (length (g .0)) 0) (i .0 ++ g .0) (rw e at all-read)
+    pub reads-all : k .going ≡ false → ToldSoFar mark tell true x after k z
+    reads-all e = is-told e (eqb (length (g .0)) 0) (i .0 ++ g .0) all-read

@@ -7,9 +7,11 @@ use native.Mathlib.Omega.{arith}
 use lib.ListN.{length, take, drop, length-append}
 use lib.Seq.{take-at}
 use Rattle.program_records.specs.Moved.{Moved, between}
+use Rattle.program_streams.specs.Ahead.{heldAt}
 use Rattle.program_streams.specs.Ends.{goesOn}
 use Rattle.program_streams.specs.Walk.{Walked, silent, done, Kept}
-use Rattle.program_streams.specs.declared.Left.{Left}
+use Rattle.program_streams.specs.declared.Ahead.{Ahead}
+use Rattle.program_streams.specs.declared.Held.{Held}
 use Rattle.program_streams.proofs.Stands.{rest-between}
 
 -- while there is no room, what is left of the buffer falls
@@ -27,18 +29,19 @@ module _ {S : Type 0} {w : Walked S} (full : Bool) (more none : Walked S) (inv :
   last-piece e = rw e at inv
 
 -- what is kept is what is behind the last whole record
-pub moved-kept : {S : Type 0} {w : Walked S} (buf : List ℕ) (at more : ℕ) {exit : List ℕ} {have place n : ℕ} {x : S} {left : Left} {going : Bool}
-    → silent w ≡ done (drop at (take more buf)) place n x left → Moved (between at more buf) buf have exit → going ≡ goesOn left
-    → Kept w exit have place n x going
-moved-kept {S} {w} buf at more {exit} {have} {place} {n} {x} {left} {going} e m g =
-    let k : w .rest ≡ between at more buf = ap (λ (v : Walked S). v .rest) e ∙ rest-between at more buf in
-    let taken : take have exit ≡ between at more buf = rw (m .bytes, m .count) (take-at (between at more buf) _ _ refl) in
+pub moved-kept : {S : Type 0} {w : Walked S} (buf : List ℕ) (more : ℕ) {exit : List ℕ} {h : Held} {x : S} (a : Ahead)
+    → silent w ≡ done (drop (a .place .at) (take more buf)) (a .place .passed) (a .place .records) x (a .left)
+    → Moved (between (a .place .at) more buf) buf (h .have) exit → h ≡ heldAt (h .have) a → Kept w exit h x
+moved-kept {S} {w} buf more {exit} {h} a e m g =
+    let l = between (a .place .at) more buf in
+    let k : w .rest ≡ l = ap (λ (v : Walked S). v .rest) e ∙ rest-between (a .place .at) more buf in
+    let taken : take (h .have) exit ≡ l = rw (m .bytes, m .count) (take-at l _ _ refl) in
     record {
       count = m .count ∙ ap length (sym k);
-      within = omega (arith, m .count, ap length (m .bytes) ∙ length-append (between at more buf) (drop (length (between at more buf)) buf));
+      within = omega (arith, m .count, ap length (m .bytes) ∙ length-append l (drop (length l) buf));
       bytes = taken ∙ sym k;
-      reached = sym (ap (λ (v : Walked S). v .place) e);
-      number = sym (ap (λ (v : Walked S). v .number) e);
+      reached = ap (λ (v : Held). v .passed) g ∙ sym (ap (λ (v : Walked S). v .place) e);
+      number = ap (λ (v : Held). v .records) g ∙ sym (ap (λ (v : Walked S). v .number) e);
       state = sym (ap (λ (v : Walked S). v .state) e);
-      goes = g ∙ ap goesOn (sym (ap (λ (v : Walked S). v .left) e));
+      goes = ap (λ (v : Held). v .going) g ∙ ap goesOn (sym (ap (λ (v : Walked S). v .left) e));
     }

@@ -1,23 +1,29 @@
 -- A walk over a buffer: what is told so far, and behind it what is left to tell, is the whole at each turn. Assumes nothing.
-use mathlib.Core.Path.{_≡_, sym, ap, _∙_}
-use mathlib.Core.Bool.{Bool}
-use mathlib.Core.List.{List, _++_, append-assoc, append-nil}
+use mathlib.Core.Path.{_≡_, refl, sym, ap, _∙_}
+use mathlib.Core.Bool.{Bool, true, false, false≢true}
+use mathlib.Core.List.{List, [], _++_, append-assoc, append-nil}
+use mathlib.Core.Logic.{inl, inr}
 use Prim.Native.Nat.{ℕ, _+_, _-_, _%_, _^_, _≤_, _<_}
 use native.Mathlib.Omega.{arith}
 use lib.Dec.{leb}
 use lib.ListN.{length, take, drop, length-take, length-drop, drop-of-length-le}
-use lib.Seq.{drop-drop, take-add, drop-at, length-take-le}
+use lib.Seq.{drop-drop, take-add, take-all, drop-at, length-take-le}
 use borrow.Author.Tests.{leb-true, leb-false}
 use Rattle.model.proofs.Cases.{by-test}
 use Rattle.program_records.proofs.Cuts.{whole}
 use Rattle.program_records.specs.Moved.{between}
-use Rattle.program_records.specs.Reading.{foundIn}
+use Rattle.program_text.specs.Laid.{Laid}
+use Rattle.program_records.specs.Reading.{recordLength, foundIn}
 use Rattle.program_records.specs.declared.Found.{Found}
 use Rattle.program_records.specs.declared.Found.the-variants as found
 use Rattle.program_streams.specs.Ends.{leftAt, lastLine}
-use Rattle.program_streams.specs.Walk.{Told, Walked, before, done, told}
-use Rattle.program_streams.specs.declared.Left.{Left}
-use Rattle.program_streams.proofs.Walks.{NoRecord, told-stops, told-on}
+use Rattle.program_streams.specs.Ahead.{aheadOf}
+use Rattle.program_streams.specs.Walk.{Told, Walked, body, before, toldFrom, leftToTell}
+use Rattle.program_streams.specs.declared.Ahead.{Ahead}
+use Rattle.program_streams.specs.declared.Place.{Place}
+use Rattle.program_streams.proofs.Walks.{told-stops, told-on}
+use Rattle.program_streams.proofs.Aheads.{Passed, is-passed, at-rest}
+use Rattle.program_streams.proofs.Ends.{last-taken}
 
 module _ {S : Type 0} where
   -- two texts, one behind the other
@@ -32,23 +38,103 @@ record-within mark ended buf at h e =
     let d = length-drop at buf in
     (omega (arith, w .begins, w .ends), omega (arith, w .begins, w .ends, w .there), omega (arith, w .there))
 
-module _ {S : Type 0} (mark : List ℕ) (tell : ℕ → S → List ℕ → Told S) (ended : Bool) (buf : List ℕ) (at b n : ℕ) (x : S) {f : Found}
-    (h : f ≡ foundIn mark ended at (drop at buf)) where
-  module _ (t : List ℕ) {u : List ℕ} {w : Walked S} (inv : w ≡ before t (told mark tell ended (drop at buf) b n x)) where
-    -- where no whole record is left
-    pub stands-at-end : NoRecord f → {left : Left} → left ≡ leftAt f → u ≡ t ++ lastLine left b n
-        → w ≡ before u (done (drop at buf) b n x left)
-    stands-at-end none e g = inv ∙ ap (before t) (told-stops mark tell ended at (drop at buf) b n x h none) ∙ rw (g, e, append-nil)
+-- a number of 64 bits
+below : (n : ℕ) → n % 2 ^ 64 < 2 ^ 64
+below n = omega arith
 
-    -- behind a record
-    pub stands-behind : {start len next c m : ℕ} {y : S} {bytes : List ℕ} → f ≡ found.Record start len next → bytes ≡ take len (drop start buf)
-        → u ≡ t ++ tell n x bytes .text → y ≡ tell n x bytes .next → c ≡ (b + (3 + len)) % 2 ^ 64 → m ≡ (n + 1) % 2 ^ 64
-        → w ≡ before u (told mark tell ended (drop next buf) c m y)
-    stands-behind {start} {len} {next} e p q r k l =
-        let s = whole mark ended at (drop at buf) (sym h ∙ e) in
-        let i : next ≡ at + (3 + len) = omega (arith, s .begins, s .ends) in
-        inv ∙ ap (before t) (told-on mark tell ended at (drop at buf) b n x h e)
-        ∙ rw (drop-drop 3 at buf, ← s .says, drop-drop (3 + len) at buf, ← s .begins, ← i, ← p, before-before, ← q, ← r, ← k, ← l)
+-- where no text is laid, what was laid stays
+none-laid : {out after : List ℕ} {laid end : ℕ} → Laid [] out laid end after → take end after ≡ take laid out ++ []
+none-laid {out} {after} {laid} {end} w =
+    rw (append-nil (take laid out), w .bytes)
+    (by-test (leb laid (length out)) (λ t. let h : laid ≤ length out = leb-true _ _ t in
+    let e : end ≡ laid = omega (arith, w .place) in
+    rw e)
+    (λ t. let h : length out < laid = leb-false _ _ t in
+    let e : length out ≤ end = omega (arith, w .place) in
+    take-all end out e ∙ sym (take-all laid out (omega arith))))
+
+-- what a program has told of a buffer since it stood at the place p₀ and had x₀: it has laid it at the front of another one, and stands at p now
+pub record Stands {S : Type 0} (mark : List ℕ) (tell : ℕ → S → List ℕ → Told S) (ended : Bool) (buf : List ℕ) (p₀ : Place) (x₀ : S) (out : List ℕ) (laid : ℕ) (p : Place) (x : S) : Type 0 where
+  pub few : p .passed < 2 ^ 64
+  pub fewer : p .records < 2 ^ 64
+  pub told-so-far : toldFrom mark tell ended buf p₀ x₀ ≡ before (take laid out) (toldFrom mark tell ended buf p x)
+  pub further : p₀ .at ≤ p .at
+  pub within : 0 < laid → (p₀ .at < p .at) × (p .at ≤ length buf)
+
+module _ {S : Type 0} (mark : List ℕ) (tell : ℕ → S → List ℕ → Told S) (ended : Bool) (buf : List ℕ) where
+  -- it has told nothing yet
+  pub stands-first : (out : List ℕ) (p : Place) (x : S) → p .passed < 2 ^ 64 → p .records < 2 ^ 64 → Stands mark tell ended buf p x out 0 p x
+  stands-first out p x h k = record { few = h; fewer = k; told-so-far = refl; further = omega arith; within = λ z. absurd (omega arith) }
+
+  module _ {p₀ p : Place} {x₀ x : S} {out : List ℕ} {laid : ℕ} (s : Stands mark tell ended buf p₀ x₀ out laid p x) (most : ℕ) {a : Ahead}
+      (e : a ≡ aheadOf mark ended (leb laid most) buf p) where
+    -- a record is told
+    module _ (w : a .whole ≡ true) where
+      passed : Passed mark ended buf p (leb laid most) (a .place)
+      passed = rw e (is-passed mark ended buf p (leb laid most) (rw e at w))
+
+      -- there was room for it
+      pub has-room : laid ≤ most
+      has-room = leb-true laid most (passed .roomy)
+
+      -- what is left of the buffer falls
+      pub less-left : length buf - a .place .at < length buf - p .at
+      less-left =
+          let d = passed in
+          let r = record-within mark ended buf (p .at) refl (d .there) in
+          rw (d .reached) (omega (arith, r))
+
+      pub stands-behind : {bytes after : List ℕ} {end : ℕ} {y : S} → bytes ≡ body (drop (p .at) buf) → take end after ≡ take laid out ++ tell (p .records) x bytes .text
+          → y ≡ tell (p .records) x bytes .next → Stands mark tell ended buf p₀ x₀ after end (a .place) y
+      stands-behind {bytes} {after} {end} {y} h q k =
+          let d = passed in
+          let r = record-within mark ended buf (p .at) refl (d .there) in
+          let l = whole mark ended (p .at) (drop (p .at) buf) (d .there) in
+          let i : d .next ≡ p .at + recordLength (drop (p .at) buf) = omega (arith, l .begins, l .ends, l .says) in
+          rw (d .reached)
+          (record {
+            few = below _;
+            fewer = below _;
+            told-so-far = s .told-so-far ∙ ap (before (take laid out)) (told-on mark tell ended (p .at) (drop (p .at) buf) _ _ x refl (d .there))
+                ∙ rw (← h, drop-drop (recordLength (drop (p .at) buf)) (p .at) buf, ← i, ← l .says, before-before, ← q, ← k);
+            further = omega (arith, s .further, r);
+            within = λ z. (omega (arith, s .further, r), omega (arith, r));
+          })
+
+    -- nothing more is told but the last line, if the input ends here
+    module _ (w : a .whole ≡ false) where
+      rest-told : toldFrom mark tell ended buf p x ≡ before (lastLine (a .left) (a .place .passed) (a .place .records)) (leftToTell mark tell ended buf a x)
+      rest-told =
+          elim (at-rest mark ended buf p (leb laid most) (rw e at w)) [
+            | inl h ↦ rw (e, h .1)
+            | inr h ↦ rw (e, h .2) (told-stops mark tell ended (p .at) (drop (p .at) buf) _ _ x refl (h .1) ∙ rw (append-nil (lastLine (leftAt (foundIn mark ended (p .at) (drop (p .at) buf))) (p .passed) (p .records))))
+          ]
+
+      last-laid : {after : List ℕ} {end : ℕ} → most + 64 ≤ length out
+          → Laid (lastLine (a .left) (a .place .passed) (a .place .records)) out laid end after
+          → take end after ≡ take laid out ++ lastLine (a .left) (a .place .passed) (a .place .records)
+      last-laid r l =
+          elim (at-rest mark ended buf p (leb laid most) (rw e at w)) [
+            | inl g ↦ rw (e, g .1) (none-laid (rw (e, g .1) at l))
+            | inr g ↦ (let same : a .place ≡ p = rw (e, g .2) in last-taken (a .left) (a .place .passed) (a .place .records) (rw same (s .few)) (rw same (s .fewer)) (let k : laid ≤ most = leb-true laid most (g .0) in omega arith) l)
+          ]
+
+      pub stands-at-end : {after : List ℕ} {end : ℕ} → most + 64 ≤ length out
+          → Laid (lastLine (a .left) (a .place .passed) (a .place .records)) out laid end after
+          → toldFrom mark tell ended buf p₀ x₀ ≡ before (take end after) (leftToTell mark tell ended buf a x)
+      stands-at-end r l =
+          let left = leftToTell mark tell ended buf a x in
+          s .told-so-far ∙ ap (before (take laid out)) rest-told
+          ∙ before-before (take laid out) (lastLine (a .left) (a .place .passed) (a .place .records)) left
+          ∙ ap (λ (u : List ℕ). before u left) (sym (last-laid r l))
+
+      -- it is for want of room only behind a record
+      pub stands-full : a .full ≡ true → (p₀ .at < a .place .at) × (a .place .at ≤ length buf)
+      stands-full f =
+          elim (at-rest mark ended buf p (leb laid most) (rw e at w)) [
+            | inl g ↦ rw (e, g .1) (s .within (let k : most < laid = leb-false laid most (g .0) in omega arith))
+            | inr g ↦ absurd (false≢true (rw (e, g .2) at f))
+          ]
 
 -- what is behind a place of the first bytes of a buffer lies between the two places
 pub rest-between : (at more : ℕ) (l : List ℕ) → drop at (take more l) ≡ between at more l

@@ -3,6 +3,7 @@ use mathlib.Core.Path.{_≡_}
 use mathlib.Core.Bool.{Bool, cond}
 use mathlib.Core.List.{List, [], _++_}
 use Prim.Native.Nat.{ℕ, zero, suc, _+_, _%_, _^_, _≤_}
+use lib.Dec.{eqb}
 use lib.ListN.{length, take, drop, getD}
 use Rattle.program_records.specs.Reading.{recordLength, foundIn}
 use Rattle.program_records.specs.declared.Found.{Found}
@@ -10,6 +11,9 @@ use Rattle.program_records.specs.declared.Found.the-variants as found
 use Rattle.program_streams.specs.Ends.{leftAt, goesOn, lastLine}
 use Rattle.program_streams.specs.declared.Left.{Left}
 use Rattle.program_streams.specs.declared.Left.the-variants.{More, Stopped, Ended}
+use Rattle.program_streams.specs.declared.Place.{Place}
+use Rattle.program_streams.specs.declared.Ahead.{Ahead}
+use Rattle.program_streams.specs.declared.Held.{Held}
 
 -- what is told of a record, and what the program has behind it
 pub record Told (S : Type 0) : Type 0 where
@@ -72,9 +76,13 @@ module _ {S : Type 0} (mark : List ℕ) (tell : ℕ → S → List ℕ → Told 
   unfoldable pub told : List ℕ → ℕ → ℕ → S → Walked S
   told s place n x = walked (length s) s place n x
 
-  -- what is left to tell of a buffer from place `at` on: nothing, unless it was room that was wanting
-  abbrev pub leftToTell : List ℕ → ℕ → ℕ → ℕ → S → Bool → Left → Walked S
-  leftToTell buf at place n x full left = cond full (told (drop at buf) place n x) (done (drop at buf) place n x left)
+  -- what a buffer tells from a place on
+  abbrev pub toldFrom : List ℕ → Place → S → Walked S
+  toldFrom buf p x = told (drop (p .at) buf) (p .passed) (p .records) x
+
+  -- what is left to tell of a buffer where no record was told: nothing, unless it was room that was wanting
+  abbrev pub leftToTell : List ℕ → Ahead → S → Walked S
+  leftToTell buf a x = cond (a .full) (toldFrom buf (a .place) x) (done (drop (a .place .at) buf) (a .place .passed) (a .place .records) x (a .left))
 
   -- behind what some bytes tell, what is told once the bytes c follow: of those kept and of these, unless the input has ended
   abbrev pub resumed : List ℕ → Walked S → Left → Walked S
@@ -83,14 +91,23 @@ module _ {S : Type 0} (mark : List ℕ) (tell : ℕ → S → List ℕ → Told 
   resumed c w Ended = record { text = w .text; rest = w .rest ++ c; place = w .place; number = w .number; left = w .left; state = w .state }
 
 -- what a program keeps for its next read, at the front of a buffer and beside it, once some bytes are told
-pub record Kept {S : Type 0} (w : Walked S) (buf : List ℕ) (have place n : ℕ) (x : S) (going : Bool) : Type 0 where
-  pub count : have ≡ length (w .rest)
-  pub within : have ≤ length buf
-  pub bytes : take have buf ≡ w .rest
-  pub reached : place ≡ w .place
-  pub number : n ≡ w .number
+pub record Kept {S : Type 0} (w : Walked S) (buf : List ℕ) (h : Held) (x : S) : Type 0 where
+  pub count : h .have ≡ length (w .rest)
+  pub within : h .have ≤ length buf
+  pub bytes : take (h .have) buf ≡ w .rest
+  pub reached : h .passed ≡ w .place
+  pub number : h .records ≡ w .number
   pub state : x ≡ w .state
-  pub goes : going ≡ goesOn (w .left)
+  pub goes : h .going ≡ goesOn (w .left)
+
+module _ {S : Type 0} (mark : List ℕ) (tell : ℕ → S → List ℕ → Told S) where
+  -- some bytes follow those that wait, none only at the end of the input, and all that they complete is told
+  abbrev pub Stepped : List ℕ → Held → S → List ℕ → Held → S → Type 0
+  Stepped buf h x after k y = (got : List ℕ) × Kept (told mark tell (eqb (length got) 0) (take (h .have) buf ++ got) (h .passed) (h .records) x) after k y
+
+  -- an input is told from a state on, and the program stands behind it
+  abbrev pub ToldSoFar : Bool → S → List ℕ → Held → S → Type 0
+  ToldSoFar ended x buf h y = (input : List ℕ) × Kept (told mark tell ended input 0 0 x) buf h y
 
 -- r bytes follow the first `have` of a buffer, which stay
 pub record Follow (before : List ℕ) (have r : ℕ) (after : List ℕ) : Type 0 where

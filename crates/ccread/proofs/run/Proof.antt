@@ -1,13 +1,14 @@
 -- The turns fall, and the program stands where the bytes read so far leave it. Assumes nothing.
 use mathlib.Core.Path.{_≡_, refl, sym, _∙_}
 use mathlib.Core.Bool.{true, false, false≢true}
-use mathlib.Core.List.{List, []}
+use mathlib.Core.List.{List}
 use Prim.Native.Nat.{ℕ, _≤_}
 use native.Mathlib.Omega.{arith}
 use lib.ListN.{length}
 use borrow.Author.Needs.{needs}
 use borrow.Author.Tests.{not-false}
-use Rattle.program_streams.proofs.Inputs.{ToldSoFar, starts, reads-on, reads-all}
+use Rattle.program_streams.specs.Walk.{ToldSoFar}
+use Rattle.program_streams.proofs.Inputs.{starts, reads-on, reads-all}
 use Rattle.ccread.specs.Walk.{mark, tell, freshState}
 use Rattle.ccread.specs.declared.State.{State}
 use Rattle.ccread.proofs.run.Statement.{statement}
@@ -15,11 +16,11 @@ use Rattle.ccread.proofs.run.Tie as tie
 
 -- more is to be read
 abbrev Stays : List ℕ → State → Type 0
-Stays buf s = (s .going ≡ true) × ToldSoFar mark tell false (freshState .parser) buf (s .have) (s .passed) (s .records) (s .parser) true
+Stays buf s = (s .held .going ≡ true) × ToldSoFar mark tell false (freshState .parser) buf (s .held) (s .parser)
 
 -- before the first read
 begins : (buf : List ℕ) (s : State) → s ≡ freshState → Stays buf s
-begins buf s e = rw e (refl, ([], starts mark tell buf (freshState .parser)))
+begins buf s e = rw e (refl, starts mark tell buf (freshState .parser))
 
 -- the mark is shorter than a record's head
 short : length mark ≤ 3
@@ -51,23 +52,17 @@ same-length-2 c = search needs
 
 returns : tie.Need-returns Inv-loop μ-loop
 returns c =
-    λ e. reads-all mark tell short (freshState .parser) (c .before .before .before .before .before .before .before .before .before .before .loop .inv .2 .1)
-    (c .before .before .before .before .before .before .step .ensures) e
+    let l = c .before .before .before .before .before .before .before .before .before .before .loop .inv .2 in
+    λ e. reads-all mark tell short (freshState .parser) (l .1) (l .0) (c .before .before .before .before .before .before .step .ensures) e
 
 loop-less : tie.Need-loop-less Inv-loop μ-loop
 loop-less c = search needs
 
 loop-again : tie.Need-loop-again Inv-loop μ-loop
-loop-again c = (
-  search needs,
-  search needs,
-  (
-    not-false _ (c .if1 .left),
-    reads-on mark tell short (freshState .parser)
-        (c .before .before .before .before .before .before .before .before .before .before .loop .inv .2 .1)
-        (c .before .before .before .before .before .before .step .ensures) (not-false _ (c .if1 .left)),
-  ),
-)
+loop-again c =
+    let l = c .before .before .before .before .before .before .before .before .before .before .loop .inv .2 in
+    let e = not-false _ (c .if1 .left) in
+    (search needs, search needs, (e, reads-on mark tell short (freshState .parser) (l .1) (l .0) (c .before .before .before .before .before .before .step .ensures) e))
 
 same-length-3 : tie.Need-same-length-3 Inv-loop μ-loop
 same-length-3 c = search needs

@@ -1,7 +1,7 @@
--- `program_streams::put_last` meets its contract: each line is laid by its own function. Assumes nothing.
+-- `program_streams::put_end` meets its contract: each line is laid by its own function. Assumes nothing.
 use borrow.Author.Needs.{needs}
-use Rattle.program_streams.proofs.put_last.Statement.{statement}
-use Rattle.program_streams.proofs.put_last.Tie as tie
+use Rattle.program_streams.proofs.put_end.Statement.{statement}
+use Rattle.program_streams.proofs.put_end.Tie as tie
 
 enum-told : tie.Need-enum-told
 enum-told c = search needs
@@ -42,8 +42,8 @@ same-length-3 c = search needs
 returns-3 : tie.Need-returns-3
 returns-3 c = rw (c .before .before .before .before .enum-told3 .given .1) (c .before .before .put-end-line .ensures)
 
-pub put-last-spec : {M : Type 1} → statement M
-put-last-spec =
+pub put-end-spec : {M : Type 1} → statement M
+put-end-spec =
     tie.close
     (tie.spec
     enum-told

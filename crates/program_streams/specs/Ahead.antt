@@ -1,0 +1,53 @@
+-- What is ahead of a place in a buffer, and what is held from one read to the next. Assumes nothing.
+use mathlib.Core.Bool.{Bool, true, false, cond}
+use mathlib.Core.List.{List}
+use Prim.Native.Nat.{ℕ, _+_, _%_, _^_}
+use lib.ListN.{drop}
+use Rattle.program_records.specs.Reading.{foundIn}
+use Rattle.program_records.specs.declared.Found.{Found}
+use Rattle.program_records.specs.declared.Found.the-variants as found
+use Rattle.program_streams.specs.Ends.{leftAt, goesOn}
+use Rattle.program_streams.specs.declared.Left.the-variants.{More}
+use Rattle.program_streams.specs.declared.Place.{Place}
+use Rattle.program_streams.specs.declared.Ahead.{Ahead}
+use Rattle.program_streams.specs.declared.Held.{Held}
+
+-- the place behind a record; places and numbers are of 64 bits
+abbrev pub behind : Place → ℕ → ℕ → Place
+behind p len next = record { at = next; passed = (p .passed + (3 + len)) % 2 ^ 64; records = (p .records + 1) % 2 ^ 64 }
+
+-- a whole record is to be told
+abbrev pub passing : Place → ℕ → ℕ → Ahead
+passing p len next = record { whole = true; full = false; left = More; place = behind p len next }
+
+-- no whole record is found
+abbrev pub standing : Place → Found → Ahead
+standing p f = record { whole = false; full = false; left = leftAt f; place = p }
+
+-- by what is found at a place
+unfoldable pub byFound : Place → Found → Ahead
+byFound p (found.Record start len next) = passing p len next
+byFound p found.More = standing p found.More
+byFound p found.WrongMark = standing p found.WrongMark
+byFound p found.Short = standing p found.Short
+byFound p found.End = standing p found.End
+
+-- there is no room for what a record tells
+abbrev pub waiting : Place → Ahead
+waiting p = record { whole = false; full = true; left = More; place = p }
+
+-- what is ahead of a place, where records have a mark
+unfoldable pub aheadOf : List ℕ → Bool → Bool → List ℕ → Place → Ahead
+aheadOf mark ended room buf p = cond room (byFound p (foundIn mark ended (p .at) (drop (p .at) buf))) (waiting p)
+
+-- the front of a buffer
+abbrev pub frontOf : Held → Place
+frontOf h = record { at = 0; passed = h .passed; records = h .records }
+
+-- what is held behind the last record, beside so many bytes
+abbrev pub heldAt : ℕ → Ahead → Held
+heldAt have a = record { have = have; passed = a .place .passed; records = a .place .records; going = goesOn (a .left) }
+
+-- nothing is read
+abbrev pub nothingRead : Held
+nothingRead = record { have = 0; passed = 0; records = 0; going = true }
