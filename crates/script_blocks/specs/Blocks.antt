@@ -5,9 +5,10 @@ use Rattle.model.specs.Said.{checked}
 use Rattle.model.specs.Block.{newBlock, readBlock, writtenBlock, partIn, pushToBlock}
 use Rattle.service.specs.declared.Service.{Service}
 use Rattle.service.specs.Service.{blockOf, validService, over, blank}
-use Rattle.script_answers.specs.Script.{answerLine, runLine, blockMeasures, readBlockLine}
+use Rattle.script_answers.specs.Script.{answerLine, runLine}
 use Rattle.script_answers.specs.Steps.{Effect, lays, makes, reads, becomes, stays, writtenLine}
 use Rattle.script_answers.specs.Rows.{Row, row, exactly, allOfThem, byte}
+use Rattle.script_blocks.specs.Lines.{blockMeasures, readBlockLine}
 
 -- a new block of a number
 abbrev pub renewsBlock : ℕ → Service → Effect Service

@@ -1,12 +1,21 @@
 // The operations of a script, by their letters, on its block: each makes one call, lays the line that tells of it into a lent buffer from a place
 // on, and answers the place behind the line beside what the call leaves.
+ghost use mathlib.Core.Path.{_≡_};
 ghost use Rattle.model.specs.Block.{writtenBlock};
+ghost use Rattle.caption.specs.Answers.{saidAnswer, saidCounted, saidTruth};
 ghost use Rattle.service.specs.Service.{validService, blockOf};
-ghost use Rattle.script_answers.specs.Steps.{Runs, Lends};
+ghost use Rattle.program_records.specs.Laid.{Laid};
+ghost use Rattle.script_answers.specs.Script.{answerLine};
+ghost use Rattle.script_answers.specs.Steps.{Runs, Lends, chosen};
 ghost use Rattle.script_answers.specs.Rows.{sought, Asked};
+ghost use Rattle.script_blocks.specs.Lines.{blockMeasures, blockLine, readBlockLine};
 ghost use Rattle.script_blocks.specs.Blocks.{renewsBlock, pushesToBlock, measuresBlock, writesBlock, readsBlock, tellsPart, setsBlock, blockRows};
 use caption::Answer;
+use caption::Counted;
+use caption::Truth;
 use program_records::byte_at;
+use program_records::put_newline;
+use program_records::put_word;
 use script_answers::asks;
 use service::Service;
 
@@ -17,25 +26,76 @@ pub struct OnBlock {
     pub service: Service,
 }
 
+// Yes and no as 1 and 0.
+fn truth_count(truth: Truth) -> Counted
+    ensures { λ r. ⌜ saidCounted r ≡ saidTruth truth ⌝ }
+{
+    match truth {
+        Truth::Is(yes) => {
+            if yes {
+                return Counted::Count(1);
+            }
+            Counted::Count(0)
+        }
+        Truth::Refused(why) => Counted::Refused(why),
+    }
+}
+
+// The measures of a block: number, length, room, 1 if it is empty.
+fn put_block_measures(out: &mut [u8], at: usize, service: Service) -> usize
+    ensures { λ r. ⌜ Laid (answerLine (blockMeasures service)) (now (out .entry)) at r (now (out .exit)) ⌝ }
+{
+    let number = service.number();
+    let length = service.len();
+    let room = service.free_space();
+    let empty = truth_count(service.is_empty());
+    script_answers::put_four_line(out, at, number, length, room, empty)
+}
+
+// A block that was read: its number and its payload.
+fn put_read_block(out: &mut [u8], at: usize, service: Service) -> usize
+    ensures { λ r. ⌜ Laid (blockLine service) (now (out .entry)) at r (now (out .exit)) ⌝ }
+{
+    let len = service.len;
+    let payload = service.payload;
+    let p = put_word(out, at, b"ok");
+    let q = program_lines::put_value(out, p, service.number as u64);
+    let s = program_lines::put_run(out, q, program_records::part(&payload, 0, len));
+    put_newline(out, s)
+}
+
+// The same, where the call accepts.
+fn put_block_line(out: &mut [u8], at: usize, answer: Answer, service: Service) -> usize
+    ensures { λ r. ⌜ Laid (readBlockLine (saidAnswer answer) service) (now (out .entry)) at r (now (out .exit)) ⌝ }
+{
+    match answer {
+        Answer::Accepted => put_read_block(out, at, service),
+        Answer::Refused(why) => script_answers::put_refusal_line(out, at, why),
+    }
+}
+
+// By an answer, the new block or the one that was there.
+fn block_kept(answer: Answer, made: Service, before: Service) -> Service
+    ensures { λ r. ⌜ r ≡ chosen (saidAnswer answer) made before ⌝ }
+{
+    match answer {
+        Answer::Accepted => made,
+        Answer::Refused(_) => before,
+    }
+}
+
 // A new block, where the call accepts.
 fn new_block(out: &mut [u8], at: usize, before: Service, number: u8) -> OnBlock
     ensures { λ r. ⌜ Runs (renewsBlock number before) (now (out .entry)) at (r .ran) (r .laid) (r .service) (now (out .exit)) ⌝ }
 {
     let made = Service::new(number);
     let answer = made.answer;
-    let service = made.service;
     let laid = script_answers::put_answer_line(out, at, answer);
-    match answer {
-        Answer::Accepted => OnBlock {
-            ran: true,
-            laid,
-            service,
-        },
-        Answer::Refused(_) => OnBlock {
-            ran: true,
-            laid,
-            service: before,
-        },
+    let service = block_kept(answer, made.service, before);
+    OnBlock {
+        ran: true,
+        laid,
+        service,
     }
 }
 
@@ -60,19 +120,13 @@ fn read_block(out: &mut [u8], at: usize, before: Service, bytes: &[u8]) -> OnBlo
 {
     let read = Service::parse(bytes);
     let answer = read.answer;
-    let service = read.service;
-    let laid = script_answers::put_block_line(out, at, answer, service);
-    match answer {
-        Answer::Accepted => OnBlock {
-            ran: true,
-            laid,
-            service,
-        },
-        Answer::Refused(_) => OnBlock {
-            ran: true,
-            laid,
-            service: before,
-        },
+    let made = read.service;
+    let laid = put_block_line(out, at, answer, made);
+    let service = block_kept(answer, made, before);
+    OnBlock {
+        ran: true,
+        laid,
+        service,
     }
 }
 
@@ -106,7 +160,7 @@ fn set_block(out: &mut [u8], at: usize, before: Service, number: u8, len: u8) ->
 fn measure_block(out: &mut [u8], at: usize, service: Service) -> OnBlock
     ensures { λ r. ⌜ Runs (measuresBlock service) (now (out .entry)) at (r .ran) (r .laid) (r .service) (now (out .exit)) ⌝ }
 {
-    let laid = script_answers::put_block_measures(out, at, service);
+    let laid = put_block_measures(out, at, service);
     OnBlock {
         ran: true,
         laid,

@@ -9,9 +9,10 @@ use Rattle.service.specs.declared.Service.{Service}
 use Rattle.service.specs.Service.{blockOf, validService}
 use Rattle.packet.specs.declared.DTVCCPacket.{DTVCCPacket}
 use Rattle.packet.specs.Packet.{packetOf, validDTVCC, over, blank}
-use Rattle.script_answers.specs.Script.{answerLine, packetMeasures, readPacketLine}
+use Rattle.script_answers.specs.Script.{answerLine}
 use Rattle.script_answers.specs.Steps.{Effect, lays, makes, reads, becomes, stays, chosen, writtenLine}
 use Rattle.script_answers.specs.Rows.{Row, row, exactly, numberAndRun, allOfThem, byte}
+use Rattle.script_packets.specs.Lines.{packetMeasures, readPacketLine}
 
 -- a new packet of a sequence number
 abbrev pub renewsPacket : ℕ → DTVCCPacket → Effect DTVCCPacket

@@ -1,17 +1,27 @@
 // The operations of a script, by their letters, on its packet: each makes one call, lays the line that tells of it into a lent buffer from a place
 // on, and answers the place behind the line beside what the call leaves.
+ghost use mathlib.Core.Path.{_≡_};
 ghost use Rattle.model.specs.Packet.{writtenPacket};
 ghost use Rattle.caption.specs.Answers.{saidAnswer};
+ghost use Rattle.service.specs.Service.{blockOf};
 ghost use Rattle.packet.specs.Packet.{validDTVCC, packetOf};
-ghost use Rattle.script_answers.specs.Steps.{Runs, Lends, tells};
+ghost use Rattle.program_records.specs.Laid.{Laid};
+ghost use Rattle.program_lines.specs.Lines.{blockText};
+ghost use Rattle.script_answers.specs.Script.{answerLine};
+ghost use Rattle.script_answers.specs.Steps.{Runs, Lends, tells, chosen};
 ghost use Rattle.script_answers.specs.Rows.{sought, Asked};
+ghost use Rattle.script_packets.specs.Lines.{packetMeasures, blocksText, blocksIn, heldText, heldLine, readPacketLine};
 ghost use Rattle.script_packets.specs.Packets.{renewsPacket, pushesBlock, pushesRun, pushesSingle, measuresPacket, writesPacket, packetRead};
 ghost use Rattle.script_packets.specs.Packets.{readsPlainly, readsTidily, setsPacket, packetRows};
+use basics::MOST_BLOCKS;
 use caption::Answer;
 use packet::DTVCCPacket;
 use packet::PacketAnswer;
+use packet::Place;
 use program_records::byte_at;
 use program_records::part;
+use program_records::put_newline;
+use program_records::put_word;
 use script_answers::asks;
 use service::Service;
 
@@ -22,25 +32,101 @@ pub struct OnPacket {
     pub packet: DTVCCPacket,
 }
 
+// The measures of a packet: sequence number, length, room, blocks.
+fn put_packet_measures(out: &mut [u8], at: usize, packet: DTVCCPacket) -> usize
+    ensures { λ r. ⌜ Laid (answerLine (packetMeasures packet)) (now (out .entry)) at r (now (out .exit)) ⌝ }
+{
+    let sequence = packet.sequence_no();
+    let length = packet.len();
+    let room = packet.free_space();
+    let blocks = packet.service_count();
+    script_answers::put_four_line(out, at, sequence, length, room, blocks)
+}
+
+// A block of a packet, as `number:payload`.
+fn put_block(out: &mut [u8], at: usize, service: Service) -> usize
+    ensures { λ r. ⌜ Laid (blockText (service .number) (blockOf service .payload)) (now (out .entry)) at r (now (out .exit)) ⌝ }
+{
+    let len = service.len;
+    let payload = service.payload;
+    program_lines::put_block(out, at, service.number, part(&payload, 0, len))
+}
+
+// The blocks of a packet.
+fn put_blocks(out: &mut [u8], at: usize, packet: DTVCCPacket) -> usize
+    ensures { λ r. ⌜ Laid (blocksText (blocksIn packet)) (now (out .entry)) at r (now (out .exit)) ⌝ }
+{
+    let mut laid = put_word(out, at, b"");
+    let mut i: usize = 0;
+    while i < MOST_BLOCKS {
+        let here = packet.service(i);
+        let place = here.place;
+        match place {
+            Place::Here => {
+                let service = here.service;
+                laid = put_block(out, laid, service);
+                i += 1;
+            }
+            Place::Nothing => {
+                return laid;
+            }
+            Place::Refused(_) => {
+                return laid;
+            }
+        }
+    }
+    laid
+}
+
+// The sequence number of a packet and its blocks.
+pub fn put_packet(out: &mut [u8], at: usize, packet: DTVCCPacket) -> usize
+    ensures { λ r. ⌜ Laid (heldText packet) (now (out .entry)) at r (now (out .exit)) ⌝ }
+{
+    let p = program_lines::put_value(out, at, packet.seq_no as u64);
+    put_blocks(out, p, packet)
+}
+
+// A packet that was read.
+fn put_held_line(out: &mut [u8], at: usize, packet: DTVCCPacket) -> usize
+    ensures { λ r. ⌜ Laid (heldLine packet) (now (out .entry)) at r (now (out .exit)) ⌝ }
+{
+    let p = put_word(out, at, b"ok");
+    let q = put_packet(out, p, packet);
+    put_newline(out, q)
+}
+
+// The same, where the call accepts.
+fn put_packet_line(out: &mut [u8], at: usize, answer: Answer, packet: DTVCCPacket) -> usize
+    ensures { λ r. ⌜ Laid (readPacketLine (saidAnswer answer) packet) (now (out .entry)) at r (now (out .exit)) ⌝ }
+{
+    match answer {
+        Answer::Accepted => put_held_line(out, at, packet),
+        Answer::Refused(why) => script_answers::put_refusal_line(out, at, why),
+    }
+}
+
+// By an answer, the new packet or the one that was there.
+fn packet_kept(answer: Answer, made: DTVCCPacket, before: DTVCCPacket) -> DTVCCPacket
+    ensures { λ r. ⌜ r ≡ chosen (saidAnswer answer) made before ⌝ }
+{
+    match answer {
+        Answer::Accepted => made,
+        Answer::Refused(_) => before,
+    }
+}
+
 // A new packet, where the call accepts.
 fn new_packet(out: &mut [u8], at: usize, before: DTVCCPacket, sequence: u8) -> OnPacket
     ensures { λ r. ⌜ Runs (renewsPacket sequence before) (now (out .entry)) at (r .ran) (r .laid) (r .packet) (now (out .exit)) ⌝ }
 {
     let made = DTVCCPacket::new(sequence);
     let answer = made.answer;
-    let packet = made.packet;
     let laid = script_answers::put_answer_line(out, at, answer);
-    match answer {
-        Answer::Accepted => OnPacket {
-            ran: true,
-            laid,
-            packet,
-        },
-        Answer::Refused(_) => OnPacket {
-            ran: true,
-            laid,
-            packet: before,
-        },
+    let packet = packet_kept(answer, made.packet, before);
+    OnPacket {
+        ran: true,
+        laid,
+        packet,
     }
 }
 
@@ -84,19 +170,13 @@ fn packet_read(out: &mut [u8], at: usize, before: DTVCCPacket, read: PacketAnswe
     ensures { λ r. ⌜ Runs (packetRead before (saidAnswer (read .answer)) (read .packet)) (now (out .entry)) at (r .ran) (r .laid) (r .packet) (now (out .exit)) ⌝ }
 {
     let answer = read.answer;
-    let packet = read.packet;
-    let laid = script_answers::put_packet_line(out, at, answer, packet);
-    match answer {
-        Answer::Accepted => OnPacket {
-            ran: true,
-            laid,
-            packet,
-        },
-        Answer::Refused(_) => OnPacket {
-            ran: true,
-            laid,
-            packet: before,
-        },
+    let made = read.packet;
+    let laid = put_packet_line(out, at, answer, made);
+    let packet = packet_kept(answer, made, before);
+    OnPacket {
+        ran: true,
+        laid,
+        packet,
     }
 }
 
@@ -141,7 +221,7 @@ fn set_packet(out: &mut [u8], at: usize, before: DTVCCPacket, sequence: u8, coun
 fn measure_packet(out: &mut [u8], at: usize, packet: DTVCCPacket) -> OnPacket
     ensures { λ r. ⌜ Runs (measuresPacket packet) (now (out .entry)) at (r .ran) (r .laid) (r .packet) (now (out .exit)) ⌝ }
 {
-    let laid = script_answers::put_packet_measures(out, at, packet);
+    let laid = put_packet_measures(out, at, packet);
     OnPacket {
         ran: true,
         laid,

@@ -11,9 +11,9 @@ use Rattle.parser.specs.Valid.{valid}
 use Rattle.parser.specs.Means.{means}
 use Rattle.parser.specs.Calls.{fresh, laidAfter}
 use Rattle.parser.specs.After.{saidOf, leftBy, drawn}
-use Rattle.script_answers.specs.Script.{itemLine}
 use Rattle.script_answers.specs.Steps.{Effect, tells, becomes}
 use Rattle.script_answers.specs.Rows.{Row, row, exactly, allOfThem, byte}
+use Rattle.script_parsers.specs.Lines.{itemLine}
 
 -- a fresh one
 abbrev pub renewsParser : Effect CCDataParser

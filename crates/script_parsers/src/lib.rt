@@ -1,13 +1,25 @@
 // The operations of a script, by their letters, on its demultiplexer: each makes one call, lays the line that tells of it into a lent buffer from
 // a place on, and answers the place behind the line beside what the call leaves.
-ghost use mathlib.Core.Path.{_≡_};
+ghost use mathlib.Core.List.{_++_};
 ghost use Rattle.caption.specs.Answers.{saidAnswer};
+ghost use Rattle.caption.specs.Pairs.{cea608Of};
+ghost use Rattle.parser.specs.Items.{saidItem};
+ghost use Rattle.program_records.specs.Laid.{Laid};
+ghost use Rattle.program_records.specs.Text.{word};
+ghost use Rattle.program_lines.specs.Lines.{pairText};
 ghost use Rattle.script_answers.specs.Steps.{Runs, tells};
 ghost use Rattle.script_answers.specs.Rows.{sought, Asked};
+ghost use Rattle.script_packets.specs.Lines.{heldText};
+ghost use Rattle.script_parsers.specs.Lines.{itemLine};
 ghost use Rattle.script_parsers.specs.Parsers.{renewsParser, turnsOn, pushesFrame, draws, flushesParser, setsParser, parserRows};
+use caption::Cea608;
+use packet::DTVCCPacket;
 use parser::CCDataParser;
+use parser::Item;
 use parser::ParserAnswer;
 use program_records::byte_at;
+use program_records::put_newline;
+use program_records::put_word;
 use script_answers::asks;
 
 // Whether an operation was run, the place behind its line, and the demultiplexer.
@@ -15,6 +27,36 @@ pub struct OnParser {
     pub ran: bool,
     pub laid: usize,
     pub parser: CCDataParser,
+}
+
+// A pair that was drawn.
+fn put_pair_line(out: &mut [u8], at: usize, pair: Cea608) -> usize
+    ensures { λ r. ⌜ Laid (word "ok " ++ pairText (cea608Of pair) ++ word "\n") (now (out .entry)) at r (now (out .exit)) ⌝ }
+{
+    let p = put_word(out, at, b"ok ");
+    let q = program_lines::put_pair(out, p, pair);
+    put_newline(out, q)
+}
+
+// A packet that was drawn.
+fn put_packet_line(out: &mut [u8], at: usize, packet: DTVCCPacket) -> usize
+    ensures { λ r. ⌜ Laid (word "ok packet" ++ heldText packet ++ word "\n") (now (out .entry)) at r (now (out .exit)) ⌝ }
+{
+    let p = put_word(out, at, b"ok packet");
+    let q = script_packets::put_packet(out, p, packet);
+    put_newline(out, q)
+}
+
+// An item that was drawn, and the packet beside it.
+fn put_item_line(out: &mut [u8], at: usize, item: Item, packet: DTVCCPacket) -> usize
+    ensures { λ r. ⌜ Laid (itemLine (saidItem item) packet) (now (out .entry)) at r (now (out .exit)) ⌝ }
+{
+    match item {
+        Item::Pair(pair) => put_pair_line(out, at, pair),
+        Item::Packet => put_packet_line(out, at, packet),
+        Item::Nothing => put_word(out, at, b"ok none\n"),
+        Item::Refused(why) => script_answers::put_refusal_line(out, at, why),
+    }
 }
 
 // What a call leaves of a demultiplexer.
@@ -60,7 +102,7 @@ fn draw(out: &mut [u8], at: usize, before: CCDataParser) -> OnParser
     let item = drawn.item;
     let packet = drawn.packet;
     let parser = drawn.parser;
-    let laid = script_answers::put_item_line(out, at, item, packet);
+    let laid = put_item_line(out, at, item, packet);
     OnParser {
         ran: true,
         laid,

@@ -4,7 +4,8 @@ use mathlib.Core.List.{List, [], _∷_}
 use Prim.Native.Nat.{ℕ, _/_, _%_}
 use lib.Dec.{eqb}
 use lib.ListN.{length, drop}
-use Rattle.model.specs.Said.{gave, checked, saysWith, mapped, after}
+use Rattle.model.specs.Said.{Said, gave, checked, saysWith, mapped, after}
+use Rattle.model.specs.Duration.{field1Duration, field2Duration, packetDuration}
 use Rattle.model.specs.Mux.{withPads, flushMux, pushPacket, pushCea608}
 use Rattle.caption.specs.declared.Framerate.{Framerate}
 use Rattle.caption.specs.declared.Cea608.{Cea608}
@@ -17,7 +18,7 @@ use Rattle.writer.specs.declared.CCDataWriter.{CCDataWriter}
 use Rattle.writer.specs.Writer.{means, validWriter, fresh, stored, emptied, moved}
 use Rattle.writer.specs.Calls.{written}
 use Rattle.program_records.specs.Reading.{highestFirst}
-use Rattle.script_answers.specs.Script.{answerLine, lentLine, durations}
+use Rattle.script_answers.specs.Script.{answerLine, lentLine, measures}
 use Rattle.script_answers.specs.Steps.{Effect, lays, becomes, stays, lentOut}
 use Rattle.script_answers.specs.Rows.{Row, row, exactly, byte}
 
@@ -49,6 +50,10 @@ wrote speed out w =
 -- the same where the rate stands in two times four bytes, the highest first, and behind them the length of the output
 abbrev pub writesFrame : List ℕ → CCDataWriter → Effect CCDataWriter
 writesFrame a w = wrote (rate (highestFirst a) (highestFirst (drop 4 a))) (lentOut (byte a 8)) w
+
+-- how many microseconds field 1, field 2 and the packets take [D]
+unfoldable pub durations : CCDataWriter → Said
+durations w = measures (validWriter w) (field1Duration (means w) ∷ field2Duration (means w) ∷ packetDuration (means w) ∷ [])
 
 -- its three durations
 abbrev pub tellsDurations : CCDataWriter → Effect CCDataWriter

@@ -2,18 +2,22 @@
 // place on, and answers the place behind the line beside what the call leaves.
 ghost use mathlib.Core.Path.{_≡_};
 ghost use Rattle.model.specs.Said.{mapped, after};
-ghost use Rattle.caption.specs.Answers.{saidAnswer};
-ghost use Rattle.writer.specs.Calls.{written};
+ghost use Rattle.caption.specs.Answers.{saidAnswer, saidCounted};
+ghost use Rattle.writer.specs.Calls.{written, saidMicros};
+ghost use Rattle.program_records.specs.Laid.{Laid};
+ghost use Rattle.script_answers.specs.Script.{answerLine};
 ghost use Rattle.script_answers.specs.Steps.{Runs, tells};
 ghost use Rattle.script_answers.specs.Rows.{sought, Asked};
-ghost use Rattle.script_writers.specs.Writers.{renewsWriter, switches, pushesPacket, pushesPair, wrote, writesFrame, tellsDurations};
+ghost use Rattle.script_writers.specs.Writers.{durations, renewsWriter, switches, pushesPacket, pushesPair, wrote, writesFrame, tellsDurations};
 ghost use Rattle.script_writers.specs.Writers.{flushesWriter, setsWriter, writerRows};
 use caption::Cea608;
+use caption::Counted;
 use caption::Framerate;
 use packet::DTVCCPacket;
 use program_records::byte_at;
 use script_answers::asks;
 use writer::CCDataWriter;
+use writer::Micros;
 use writer::WriterAnswer;
 
 // Whether an operation was run, the place behind its line, and the multiplexer.
@@ -21,6 +25,26 @@ pub struct OnWriter {
     pub ran: bool,
     pub laid: usize,
     pub writer: CCDataWriter,
+}
+
+// A time as a number.
+fn micros_count(micros: Micros) -> Counted
+    ensures { λ r. ⌜ saidCounted r ≡ saidMicros micros ⌝ }
+{
+    match micros {
+        Micros::Of(n) => Counted::Count(n as usize),
+        Micros::Refused(why) => Counted::Refused(why),
+    }
+}
+
+// The durations of a multiplexer: field 1, field 2, packets.
+fn put_durations(out: &mut [u8], at: usize, writer: CCDataWriter) -> usize
+    ensures { λ r. ⌜ Laid (answerLine (durations writer)) (now (out .entry)) at r (now (out .exit)) ⌝ }
+{
+    let field1 = micros_count(writer.buffered_cea608_field1_duration());
+    let field2 = micros_count(writer.buffered_cea608_field2_duration());
+    let packets = micros_count(writer.buffered_packet_duration());
+    script_answers::put_three_line(out, at, field1, field2, packets)
 }
 
 // What a call leaves of a multiplexer.
@@ -154,7 +178,7 @@ fn write_frame(out: &mut [u8], at: usize, w: CCDataWriter, args: &[u8]) -> OnWri
 fn tell_durations(out: &mut [u8], at: usize, writer: CCDataWriter) -> OnWriter
     ensures { λ r. ⌜ Runs (tellsDurations writer) (now (out .entry)) at (r .ran) (r .laid) (r .writer) (now (out .exit)) ⌝ }
 {
-    let laid = script_answers::put_durations(out, at, writer);
+    let laid = put_durations(out, at, writer);
     OnWriter {
         ran: true,
         laid,
