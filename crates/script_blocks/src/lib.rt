@@ -7,9 +7,9 @@ ghost use Rattle.service.specs.Service.{validService, blockOf};
 ghost use Rattle.program_records.specs.Laid.{Laid};
 ghost use Rattle.script_answers.specs.Script.{answerLine};
 ghost use Rattle.script_answers.specs.Steps.{Runs, Lends, chosen};
-ghost use Rattle.script_answers.specs.Rows.{sought, Asked};
+ghost use Rattle.script_answers.specs.Rows.{byte, sought, Asked};
 ghost use Rattle.script_blocks.specs.Lines.{blockMeasures, blockLine, readBlockLine};
-ghost use Rattle.script_blocks.specs.Blocks.{renewsBlock, pushesToBlock, measuresBlock, writesBlock, readsBlock, tellsPart, setsBlock, blockRows};
+ghost use Rattle.script_blocks.specs.Blocks.{renewsBlock, pushesToBlock, measuresBlock, writesBlock, readsBlock, tellsPart, setsBlock, tellingRows, blockRows};
 use caption::Answer;
 use caption::Counted;
 use caption::Truth;
@@ -85,10 +85,10 @@ fn block_kept(answer: Answer, made: Service, before: Service) -> Service
 }
 
 // A new block, where the call accepts.
-fn new_block(out: &mut [u8], at: usize, before: Service, number: u8) -> OnBlock
-    ensures { λ r. ⌜ Runs (renewsBlock number before) (now (out .entry)) at (r .ran) (r .laid) (r .service) (now (out .exit)) ⌝ }
+fn new_block(out: &mut [u8], at: usize, before: Service, args: &[u8]) -> OnBlock
+    ensures { λ r. ⌜ Runs (renewsBlock (byte (now (args .entry)) 0) before) (now (out .entry)) at (r .ran) (r .laid) (r .service) (now (out .exit)) ⌝ }
 {
-    let made = Service::new(number);
+    let made = Service::new(byte_at(args, 0));
     let answer = made.answer;
     let laid = script_answers::put_answer_line(out, at, answer);
     let service = block_kept(answer, made.service, before);
@@ -139,9 +139,11 @@ fn tell_block(out: &mut [u8], at: usize, service: Service, lent: &mut [u8]) -> u
 }
 
 // Two fields of the block set, whatever they break.
-fn set_block(out: &mut [u8], at: usize, before: Service, number: u8, len: u8) -> OnBlock
-    ensures { λ r. ⌜ Runs (setsBlock number len before) (now (out .entry)) at (r .ran) (r .laid) (r .service) (now (out .exit)) ⌝ }
+fn set_block(out: &mut [u8], at: usize, before: Service, args: &[u8]) -> OnBlock
+    ensures { λ r. ⌜ Runs (setsBlock (byte (now (args .entry)) 0) (byte (now (args .entry)) 1) before) (now (out .entry)) at (r .ran) (r .laid) (r .service) (now (out .exit)) ⌝ }
 {
+    let number = byte_at(args, 0);
+    let len = byte_at(args, 1);
     let payload = before.payload;
     let service = Service {
         number,
@@ -168,12 +170,12 @@ fn measure_block(out: &mut [u8], at: usize, service: Service) -> OnBlock
     }
 }
 
-// The block written to an output of `len` bytes.
-fn write_block(out: &mut [u8], at: usize, service: Service, len: u8) -> OnBlock
-    ensures { λ r. ⌜ Runs (writesBlock len service) (now (out .entry)) at (r .ran) (r .laid) (r .service) (now (out .exit)) ⌝ }
+// The block written to an output of as many bytes as the argument says.
+fn write_block(out: &mut [u8], at: usize, service: Service, args: &[u8]) -> OnBlock
+    ensures { λ r. ⌜ Runs (writesBlock (byte (now (args .entry)) 0) service) (now (out .entry)) at (r .ran) (r .laid) (r .service) (now (out .exit)) ⌝ }
 {
     let mut lent = [0xA5u8; 255];
-    let end = len as usize;
+    let end = byte_at(args, 0) as usize;
     let laid = tell_block(out, at, service, &mut lent[0..end]);
     OnBlock {
         ran: true,
@@ -194,37 +196,43 @@ fn tell_part(out: &mut [u8], at: usize, service: Service, bytes: &[u8]) -> OnBlo
     }
 }
 
-// The operations on the block.
-pub fn on_block(out: &mut [u8], at: usize, s: Service, op: u8, args: &[u8]) -> OnBlock
-    ensures { λ r. ⌜ Asked (sought (blockRows s) op (now (args .entry))) s (now (out .entry)) at (r .ran) (r .laid) (r .service) (now (out .exit)) ⌝ }
+// The operations that tell of the block or of bytes, and leave the block as it is.
+fn on_block_telling(out: &mut [u8], at: usize, s: Service, op: u8, args: &[u8]) -> OnBlock
+    ensures { λ r. ⌜ Asked (sought (tellingRows s) op (now (args .entry))) s (now (out .entry)) at (r .ran) (r .laid) (r .service) (now (out .exit)) ⌝ }
 {
     let n = args.len();
-    let a = byte_at(args, 0);
-    let b = byte_at(args, 1);
-    if asks(op, b'b', n == 1) {
-        return new_block(out, at, s, a);
-    }
-    if asks(op, b'c', true) {
-        return push_to_block(out, at, s, args);
-    }
     if asks(op, b'm', n == 0) {
         return measure_block(out, at, s);
     }
     if asks(op, b'e', n == 1) {
-        return write_block(out, at, s, a);
-    }
-    if asks(op, b'd', true) {
-        return read_block(out, at, s, args);
+        return write_block(out, at, s, args);
     }
     if asks(op, b'y', true) {
         return tell_part(out, at, s, args);
-    }
-    if asks(op, b'B', n == 2) {
-        return set_block(out, at, s, a, b);
     }
     OnBlock {
         ran: false,
         laid: at,
         service: s,
     }
+}
+
+// The operations on the block: those that can change it, and behind them the others.
+pub fn on_block(out: &mut [u8], at: usize, s: Service, op: u8, args: &[u8]) -> OnBlock
+    ensures { λ r. ⌜ Asked (sought (blockRows s) op (now (args .entry))) s (now (out .entry)) at (r .ran) (r .laid) (r .service) (now (out .exit)) ⌝ }
+{
+    let n = args.len();
+    if asks(op, b'b', n == 1) {
+        return new_block(out, at, s, args);
+    }
+    if asks(op, b'c', true) {
+        return push_to_block(out, at, s, args);
+    }
+    if asks(op, b'd', true) {
+        return read_block(out, at, s, args);
+    }
+    if asks(op, b'B', n == 2) {
+        return set_block(out, at, s, args);
+    }
+    on_block_telling(out, at, s, op, args)
 }

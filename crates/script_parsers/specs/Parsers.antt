@@ -59,12 +59,18 @@ setsParser pairs pending waiting r =
       waiting = r .waiting;
     })
 
+-- those that frames go in by, and items out
+unfoldable pub streamingRows : CCDataParser → List (Row CCDataParser)
+streamingRows r =
+    row "f" allOfThem (λ a. pushesFrame a r)
+    ∷ row "n" (exactly 0) (λ a. draws r)
+    ∷ []
+
+-- all, and before those the ones that set it
 unfoldable pub parserRows : CCDataParser → List (Row CCDataParser)
 parserRows r =
     row "R" (exactly 0) (λ a. renewsParser)
     ∷ row "H" (exactly 0) (λ a. turnsOn r)
-    ∷ row "f" allOfThem (λ a. pushesFrame a r)
-    ∷ row "n" (exactly 0) (λ a. draws r)
     ∷ row "F" (exactly 0) (λ a. flushesParser r)
     ∷ row "D" (exactly 3) (λ a. setsParser (byte a 0) (byte a 1) (byte a 2) r)
-    ∷ []
+    ∷ streamingRows r

@@ -79,15 +79,26 @@ setsWriter packets sent count1 count2 w =
       «field2_next» = w .«field2_next»;
     })
 
+-- those that frames and durations come out by
+unfoldable pub tellingRows : CCDataWriter → List (Row CCDataWriter)
+tellingRows w =
+    row "w" (exactly 9) (λ a. writesFrame a w)
+    ∷ row "u" (exactly 0) (λ a. tellsDurations w)
+    ∷ []
+
+-- before those the ones that push to it
+unfoldable pub pushingRows : DTVCCPacket → CCDataWriter → List (Row CCDataWriter)
+pushingRows p w =
+    row "q" (exactly 0) (λ a. pushesPacket p w)
+    ∷ row "1" (exactly 2) (λ a. pushesPair (Field1 (byte a 0) (byte a 1)) w)
+    ∷ row "2" (exactly 2) (λ a. pushesPair (Field2 (byte a 0) (byte a 1)) w)
+    ∷ tellingRows w
+
+-- all, and before those the ones that set it
 unfoldable pub writerRows : DTVCCPacket → CCDataWriter → List (Row CCDataWriter)
 writerRows p w =
     row "W" (exactly 0) (λ a. renewsWriter)
     ∷ row "S" (exactly 1) (λ a. switches (eqb (byte a 0 % 2) 1) (eqb (byte a 0 / 2 % 2) 1) w)
-    ∷ row "q" (exactly 0) (λ a. pushesPacket p w)
-    ∷ row "1" (exactly 2) (λ a. pushesPair (Field1 (byte a 0) (byte a 1)) w)
-    ∷ row "2" (exactly 2) (λ a. pushesPair (Field2 (byte a 0) (byte a 1)) w)
-    ∷ row "w" (exactly 9) (λ a. writesFrame a w)
-    ∷ row "u" (exactly 0) (λ a. tellsDurations w)
     ∷ row "x" (exactly 0) (λ a. flushesWriter w)
     ∷ row "Q" (exactly 4) (λ a. setsWriter (byte a 0) (byte a 1) (byte a 2) (byte a 3) w)
-    ∷ []
+    ∷ pushingRows p w

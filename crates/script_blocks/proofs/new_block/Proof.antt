@@ -4,6 +4,9 @@ use borrow.Author.Needs.{needs}
 use Rattle.script_blocks.proofs.new_block.Statement.{statement}
 use Rattle.script_blocks.proofs.new_block.Tie as tie
 
+byte-at-requires : tie.Need-byte-at-requires
+byte-at-requires c κs = search needs
+
 new-requires : tie.Need-new-requires
 new-requires c κs = search needs
 
@@ -17,9 +20,15 @@ same-length : tie.Need-same-length
 same-length c = search needs
 
 returns : tie.Need-returns
-returns c = search (needs, did-make)
+returns c = rw (← c .before .before .before .before .before .before .byte-at .ensures) (search (needs, did-make))
 
 pub new-block-spec : {M : Type 1} → statement M
 new-block-spec =
     tie.close
-    (tie.spec new-requires put-answer-line-requires block-kept-requires same-length returns)
+    (tie.spec
+    byte-at-requires
+    new-requires
+    put-answer-line-requires
+    block-kept-requires
+    same-length
+    returns)

@@ -4,6 +4,9 @@ use borrow.Author.Needs.{needs}
 use Rattle.script_packets.proofs.new_packet.Statement.{statement}
 use Rattle.script_packets.proofs.new_packet.Tie as tie
 
+byte-at-requires : tie.Need-byte-at-requires
+byte-at-requires c κs = search needs
+
 new-requires : tie.Need-new-requires
 new-requires c κs = search needs
 
@@ -17,9 +20,15 @@ same-length : tie.Need-same-length
 same-length c = search needs
 
 returns : tie.Need-returns
-returns c = search (needs, did-make)
+returns c = rw (← c .before .before .before .before .before .before .byte-at .ensures) (search (needs, did-make))
 
 pub new-packet-spec : {M : Type 1} → statement M
 new-packet-spec =
     tie.close
-    (tie.spec new-requires put-answer-line-requires packet-kept-requires same-length returns)
+    (tie.spec
+    byte-at-requires
+    new-requires
+    put-answer-line-requires
+    packet-kept-requires
+    same-length
+    returns)
