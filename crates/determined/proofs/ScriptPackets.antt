@@ -1,4 +1,4 @@
--- The operations of a script by their letters, on the packet. Assumes nothing.
+-- The text of a packet in a script, and the operations on it by their letters. Assumes nothing.
 use mathlib.Core.Path.{_≡_}
 use mathlib.Core.Bool.{Bool}
 use mathlib.Core.List.{List}
@@ -9,9 +9,15 @@ use Rattle.packet.specs.declared.DTVCCPacket.{DTVCCPacket}
 use Rattle.script_answers.specs.Rows.{Sought, sought, Asked}
 use Rattle.script_packets.specs.Packets.{packetRows}
 use Rattle.script_packets.specs.declared.OnPacket.{OnPacket}
+use Rattle.script_packets.proofs.put_packet.Reads as put_packet
 use Rattle.script_packets.proofs.on_packet.Reads as on_packet
 use Rattle.determined.specs.Determines.{DeterminesLent}
 use Rattle.determined.proofs.Asked.{at-once, asked-one}
+use Rattle.determined.proofs.ProgramText.{lays}
+
+-- `put_packet(out, at, packet)`
+pub put-packet : (κs : Lfts 1) → DeterminesLent (λ e. now (e .0)) (put_packet.Post κs)
+put-packet κs = lays
 
 packets : (w : Sought DTVCCPacket) (old : DTVCCPacket) (before out out′ : List ℕ) (at : ℕ) (r q : OnPacket)
     → Asked w old before at (r .ran) (r .laid) (r .packet) out → Asked w old before at (q .ran) (q .laid) (q .packet) out′ → (r ≡ q) × (out ≡ out′)

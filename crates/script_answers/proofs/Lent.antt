@@ -18,7 +18,7 @@ front n h =
     let z : n - 0 ≡ n = omega arith in
     rw z (front-same 165 255 n (omega arith))
 
--- what is told of an output, once it is known what the output held
-pub told-lent : {S : Type 0} {out now lent lent′ : List ℕ} {at laid : ℕ} (m : S) (valid : Bool) (bytes : List ℕ) (len : ℕ)
-    → Lends valid bytes lent lent′ out at laid now → lent ≡ lentOut len → Did (stays m (writtenLine valid bytes len)) out at laid m now
-told-lent m valid bytes len l e = record { told = rw (← e, ← l .output) (l .told); left = refl }
+-- what is told of an output, once it is known how many bytes it has and what it held
+pub told-lent : {S : Type 0} {out now lent lent′ : List ℕ} {at laid : ℕ} (m : S) (valid : Bool) (bytes : List ℕ) (len n : ℕ) → n ≡ len
+    → Lends valid bytes lent lent′ out at laid now → lent ≡ lentOut n → Did (stays m (writtenLine valid bytes len)) out at laid m now
+told-lent m valid bytes len n h l e = record { told = rw (← h, ← e, ← l .output) (l .told); left = refl }

@@ -5,9 +5,10 @@ use Rattle.model.specs.Said.{checked}
 use Rattle.model.specs.Block.{newBlock, readBlock, writtenBlock, partIn, pushToBlock}
 use Rattle.service.specs.declared.Service.{Service}
 use Rattle.service.specs.Service.{blockOf, validService, over, blank}
-use Rattle.script_answers.specs.Script.{answerLine, runLine, blockMeasures, readBlockLine}
+use Rattle.script_answers.specs.Script.{answerLine, runLine}
 use Rattle.script_answers.specs.Steps.{Effect, lays, makes, reads, becomes, stays, writtenLine}
 use Rattle.script_answers.specs.Rows.{Row, row, exactly, allOfThem, byte}
+use Rattle.script_blocks.specs.Lines.{blockMeasures, readBlockLine}
 
 -- a new block of a number
 abbrev pub renewsBlock : ℕ → Service → Effect Service
@@ -37,13 +38,19 @@ tellsPart bytes s = stays s (runLine (partIn bytes))
 abbrev pub setsBlock : ℕ → ℕ → Service → Effect Service
 setsBlock number len s = becomes (record { number = number; len = len; payload = s .payload })
 
+-- those that leave the block as it is
+unfoldable pub tellingRows : Service → List (Row Service)
+tellingRows s =
+    row "m" (exactly 0) (λ a. measuresBlock s)
+    ∷ row "e" (exactly 1) (λ a. writesBlock (byte a 0) s)
+    ∷ row "y" allOfThem (λ a. tellsPart a s)
+    ∷ []
+
+-- all, and before those the ones that can change it
 unfoldable pub blockRows : Service → List (Row Service)
 blockRows s =
     row "b" (exactly 1) (λ a. renewsBlock (byte a 0) s)
     ∷ row "c" allOfThem (λ a. pushesToBlock a s)
-    ∷ row "m" (exactly 0) (λ a. measuresBlock s)
-    ∷ row "e" (exactly 1) (λ a. writesBlock (byte a 0) s)
     ∷ row "d" allOfThem (λ a. readsBlock a s)
-    ∷ row "y" allOfThem (λ a. tellsPart a s)
     ∷ row "B" (exactly 2) (λ a. setsBlock (byte a 0) (byte a 1) s)
-    ∷ []
+    ∷ tellingRows s

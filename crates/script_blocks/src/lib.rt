@@ -1,12 +1,21 @@
 // The operations of a script, by their letters, on its block: each makes one call, lays the line that tells of it into a lent buffer from a place
 // on, and answers the place behind the line beside what the call leaves.
+ghost use mathlib.Core.Path.{_≡_};
 ghost use Rattle.model.specs.Block.{writtenBlock};
+ghost use Rattle.caption.specs.Answers.{saidAnswer, saidCounted, saidTruth};
 ghost use Rattle.service.specs.Service.{validService, blockOf};
-ghost use Rattle.script_answers.specs.Steps.{Runs, Lends};
-ghost use Rattle.script_answers.specs.Rows.{sought, Asked};
-ghost use Rattle.script_blocks.specs.Blocks.{renewsBlock, pushesToBlock, measuresBlock, writesBlock, readsBlock, tellsPart, setsBlock, blockRows};
+ghost use Rattle.program_text.specs.Laid.{Laid};
+ghost use Rattle.script_answers.specs.Script.{answerLine};
+ghost use Rattle.script_answers.specs.Steps.{Runs, Lends, chosen};
+ghost use Rattle.script_answers.specs.Rows.{byte, sought, Asked};
+ghost use Rattle.script_blocks.specs.Lines.{blockMeasures, blockLine, readBlockLine};
+ghost use Rattle.script_blocks.specs.Blocks.{renewsBlock, pushesToBlock, measuresBlock, writesBlock, readsBlock, tellsPart, setsBlock, tellingRows, blockRows};
 use caption::Answer;
+use caption::Counted;
+use caption::Truth;
 use program_records::byte_at;
+use program_text::put_newline;
+use program_text::put_word;
 use script_answers::asks;
 use service::Service;
 
@@ -17,25 +26,76 @@ pub struct OnBlock {
     pub service: Service,
 }
 
-// A new block, where the call accepts.
-fn new_block(out: &mut [u8], at: usize, before: Service, number: u8) -> OnBlock
-    ensures { λ r. ⌜ Runs (renewsBlock number before) (now (out .entry)) at (r .ran) (r .laid) (r .service) (now (out .exit)) ⌝ }
+// Yes and no as 1 and 0.
+fn truth_count(truth: Truth) -> Counted
+    ensures { λ r. ⌜ saidCounted r ≡ saidTruth truth ⌝ }
 {
-    let made = Service::new(number);
-    let answer = made.answer;
-    let service = made.service;
-    let laid = script_answers::put_answer_line(out, at, answer);
+    match truth {
+        Truth::Is(yes) => {
+            if yes {
+                return Counted::Count(1);
+            }
+            Counted::Count(0)
+        }
+        Truth::Refused(why) => Counted::Refused(why),
+    }
+}
+
+// The measures of a block: number, length, room, 1 if it is empty.
+fn put_block_measures(out: &mut [u8], at: usize, service: Service) -> usize
+    ensures { λ r. ⌜ Laid (answerLine (blockMeasures service)) (now (out .entry)) at r (now (out .exit)) ⌝ }
+{
+    let number = service.number();
+    let length = service.len();
+    let room = service.free_space();
+    let empty = truth_count(service.is_empty());
+    script_answers::put_four_line(out, at, number, length, room, empty)
+}
+
+// A block that was read: its number and its payload.
+fn put_read_block(out: &mut [u8], at: usize, service: Service) -> usize
+    ensures { λ r. ⌜ Laid (blockLine service) (now (out .entry)) at r (now (out .exit)) ⌝ }
+{
+    let len = service.len;
+    let payload = service.payload;
+    let p = put_word(out, at, b"ok");
+    let q = program_lines::put_value(out, p, service.number as u64);
+    let s = program_lines::put_run(out, q, program_records::part(&payload, 0, len));
+    put_newline(out, s)
+}
+
+// The same, where the call accepts.
+fn put_block_line(out: &mut [u8], at: usize, answer: Answer, service: Service) -> usize
+    ensures { λ r. ⌜ Laid (readBlockLine (saidAnswer answer) service) (now (out .entry)) at r (now (out .exit)) ⌝ }
+{
     match answer {
-        Answer::Accepted => OnBlock {
-            ran: true,
-            laid,
-            service,
-        },
-        Answer::Refused(_) => OnBlock {
-            ran: true,
-            laid,
-            service: before,
-        },
+        Answer::Accepted => put_read_block(out, at, service),
+        Answer::Refused(why) => script_answers::put_refusal_line(out, at, why),
+    }
+}
+
+// By an answer, the new block or the one that was there.
+fn block_kept(answer: Answer, made: Service, before: Service) -> Service
+    ensures { λ r. ⌜ r ≡ chosen (saidAnswer answer) made before ⌝ }
+{
+    match answer {
+        Answer::Accepted => made,
+        Answer::Refused(_) => before,
+    }
+}
+
+// A new block, where the call accepts.
+fn new_block(out: &mut [u8], at: usize, before: Service, args: &[u8]) -> OnBlock
+    ensures { λ r. ⌜ Runs (renewsBlock (byte (now (args .entry)) 0) before) (now (out .entry)) at (r .ran) (r .laid) (r .service) (now (out .exit)) ⌝ }
+{
+    let made = Service::new(byte_at(args, 0));
+    let answer = made.answer;
+    let laid = script_answers::put_answer_line(out, at, answer);
+    let service = block_kept(answer, made.service, before);
+    OnBlock {
+        ran: true,
+        laid,
+        service,
     }
 }
 
@@ -60,19 +120,13 @@ fn read_block(out: &mut [u8], at: usize, before: Service, bytes: &[u8]) -> OnBlo
 {
     let read = Service::parse(bytes);
     let answer = read.answer;
-    let service = read.service;
-    let laid = script_answers::put_block_line(out, at, answer, service);
-    match answer {
-        Answer::Accepted => OnBlock {
-            ran: true,
-            laid,
-            service,
-        },
-        Answer::Refused(_) => OnBlock {
-            ran: true,
-            laid,
-            service: before,
-        },
+    let made = read.service;
+    let laid = put_block_line(out, at, answer, made);
+    let service = block_kept(answer, made, before);
+    OnBlock {
+        ran: true,
+        laid,
+        service,
     }
 }
 
@@ -85,9 +139,11 @@ fn tell_block(out: &mut [u8], at: usize, service: Service, lent: &mut [u8]) -> u
 }
 
 // Two fields of the block set, whatever they break.
-fn set_block(out: &mut [u8], at: usize, before: Service, number: u8, len: u8) -> OnBlock
-    ensures { λ r. ⌜ Runs (setsBlock number len before) (now (out .entry)) at (r .ran) (r .laid) (r .service) (now (out .exit)) ⌝ }
+fn set_block(out: &mut [u8], at: usize, before: Service, args: &[u8]) -> OnBlock
+    ensures { λ r. ⌜ Runs (setsBlock (byte (now (args .entry)) 0) (byte (now (args .entry)) 1) before) (now (out .entry)) at (r .ran) (r .laid) (r .service) (now (out .exit)) ⌝ }
 {
+    let number = byte_at(args, 0);
+    let len = byte_at(args, 1);
     let payload = before.payload;
     let service = Service {
         number,
@@ -106,7 +162,7 @@ fn set_block(out: &mut [u8], at: usize, before: Service, number: u8, len: u8) ->
 fn measure_block(out: &mut [u8], at: usize, service: Service) -> OnBlock
     ensures { λ r. ⌜ Runs (measuresBlock service) (now (out .entry)) at (r .ran) (r .laid) (r .service) (now (out .exit)) ⌝ }
 {
-    let laid = script_answers::put_block_measures(out, at, service);
+    let laid = put_block_measures(out, at, service);
     OnBlock {
         ran: true,
         laid,
@@ -114,12 +170,12 @@ fn measure_block(out: &mut [u8], at: usize, service: Service) -> OnBlock
     }
 }
 
-// The block written to an output of `len` bytes.
-fn write_block(out: &mut [u8], at: usize, service: Service, len: u8) -> OnBlock
-    ensures { λ r. ⌜ Runs (writesBlock len service) (now (out .entry)) at (r .ran) (r .laid) (r .service) (now (out .exit)) ⌝ }
+// The block written to an output of as many bytes as the argument says.
+fn write_block(out: &mut [u8], at: usize, service: Service, args: &[u8]) -> OnBlock
+    ensures { λ r. ⌜ Runs (writesBlock (byte (now (args .entry)) 0) service) (now (out .entry)) at (r .ran) (r .laid) (r .service) (now (out .exit)) ⌝ }
 {
     let mut lent = [0xA5u8; 255];
-    let end = len as usize;
+    let end = byte_at(args, 0) as usize;
     let laid = tell_block(out, at, service, &mut lent[0..end]);
     OnBlock {
         ran: true,
@@ -140,37 +196,43 @@ fn tell_part(out: &mut [u8], at: usize, service: Service, bytes: &[u8]) -> OnBlo
     }
 }
 
-// The operations on the block.
-pub fn on_block(out: &mut [u8], at: usize, s: Service, op: u8, args: &[u8]) -> OnBlock
-    ensures { λ r. ⌜ Asked (sought (blockRows s) op (now (args .entry))) s (now (out .entry)) at (r .ran) (r .laid) (r .service) (now (out .exit)) ⌝ }
+// The operations that tell of the block or of bytes, and leave the block as it is.
+fn on_block_telling(out: &mut [u8], at: usize, s: Service, op: u8, args: &[u8]) -> OnBlock
+    ensures { λ r. ⌜ Asked (sought (tellingRows s) op (now (args .entry))) s (now (out .entry)) at (r .ran) (r .laid) (r .service) (now (out .exit)) ⌝ }
 {
     let n = args.len();
-    let a = byte_at(args, 0);
-    let b = byte_at(args, 1);
-    if asks(op, b'b', n == 1) {
-        return new_block(out, at, s, a);
-    }
-    if asks(op, b'c', true) {
-        return push_to_block(out, at, s, args);
-    }
     if asks(op, b'm', n == 0) {
         return measure_block(out, at, s);
     }
     if asks(op, b'e', n == 1) {
-        return write_block(out, at, s, a);
-    }
-    if asks(op, b'd', true) {
-        return read_block(out, at, s, args);
+        return write_block(out, at, s, args);
     }
     if asks(op, b'y', true) {
         return tell_part(out, at, s, args);
-    }
-    if asks(op, b'B', n == 2) {
-        return set_block(out, at, s, a, b);
     }
     OnBlock {
         ran: false,
         laid: at,
         service: s,
     }
+}
+
+// The operations on the block: those that can change it, and behind them the others.
+pub fn on_block(out: &mut [u8], at: usize, s: Service, op: u8, args: &[u8]) -> OnBlock
+    ensures { λ r. ⌜ Asked (sought (blockRows s) op (now (args .entry))) s (now (out .entry)) at (r .ran) (r .laid) (r .service) (now (out .exit)) ⌝ }
+{
+    let n = args.len();
+    if asks(op, b'b', n == 1) {
+        return new_block(out, at, s, args);
+    }
+    if asks(op, b'c', true) {
+        return push_to_block(out, at, s, args);
+    }
+    if asks(op, b'd', true) {
+        return read_block(out, at, s, args);
+    }
+    if asks(op, b'B', n == 2) {
+        return set_block(out, at, s, args);
+    }
+    on_block_telling(out, at, s, op, args)
 }

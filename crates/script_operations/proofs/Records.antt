@@ -16,18 +16,22 @@ use Rattle.script_answers.proofs.Rows.{behind}
 use Rattle.script_blocks.specs.declared.OnBlock.{OnBlock}
 use Rattle.script_packets.specs.declared.OnPacket.{OnPacket}
 use Rattle.script_blocks.specs.Blocks.{blockRows}
+use Rattle.script_blocks.specs.Blocks as block
 use Rattle.script_packets.specs.Packets.{packetRows}
+use Rattle.script_packets.specs.Packets as packet
 use Rattle.script_parsers.specs.declared.OnParser.{OnParser}
 use Rattle.script_writers.specs.declared.OnWriter.{OnWriter}
 use Rattle.script_parsers.specs.Parsers.{parserRows}
+use Rattle.script_parsers.specs.Parsers as parser
 use Rattle.script_writers.specs.Writers.{writerRows}
+use Rattle.script_writers.specs.Writers as writer
 use Rattle.script_operations.specs.declared.Machine.{Machine}
 use Rattle.script_operations.specs.declared.Stepped.{Stepped}
 use Rattle.script_operations.specs.Ran.{within, bad, withBlock, withPacket, withParser, withWriter, onMachines, operated, ran}
 
 -- no operation is 0, which stands for the letter of an empty record
 ran-by : (m : Machine) (l : List ℕ) → ran m l ≡ operated m (getD l 0 0) (drop 1 l)
-unfolding ran operated onMachines sought blockRows packetRows parserRows writerRows
+unfolding ran operated onMachines sought blockRows block.tellingRows packetRows packet.pushingRows packet.tellingRows parserRows parser.streamingRows writerRows writer.pushingRows writer.tellingRows
 ran-by m [] = refl
 ran-by m (x ∷ l) = refl
 

@@ -1,1 +1,2 @@
-pub mod Read
+pub mod Blocks
+pub mod Lines

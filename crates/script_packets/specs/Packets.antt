@@ -9,9 +9,10 @@ use Rattle.service.specs.declared.Service.{Service}
 use Rattle.service.specs.Service.{blockOf, validService}
 use Rattle.packet.specs.declared.DTVCCPacket.{DTVCCPacket}
 use Rattle.packet.specs.Packet.{packetOf, validDTVCC, over, blank}
-use Rattle.script_answers.specs.Script.{answerLine, packetMeasures, readPacketLine}
+use Rattle.script_answers.specs.Script.{answerLine}
 use Rattle.script_answers.specs.Steps.{Effect, lays, makes, reads, becomes, stays, chosen, writtenLine}
 use Rattle.script_answers.specs.Rows.{Row, row, exactly, numberAndRun, allOfThem, byte}
+use Rattle.script_packets.specs.Lines.{packetMeasures, readPacketLine}
 
 -- a new packet of a sequence number
 abbrev pub renewsPacket : ℕ → DTVCCPacket → Effect DTVCCPacket
@@ -54,15 +55,26 @@ abbrev pub setsPacket : ℕ → ℕ → DTVCCPacket → Effect DTVCCPacket
 setsPacket sequence count p =
     becomes (record { «seq_no» = sequence; count = count; numbers = p .numbers; sizes = p .sizes; payload = p .payload })
 
+-- those that leave the packet as it is
+unfoldable pub tellingRows : DTVCCPacket → List (Row DTVCCPacket)
+tellingRows p =
+    row "l" (exactly 0) (λ a. measuresPacket p)
+    ∷ row "o" (exactly 1) (λ a. writesPacket (byte a 0) p)
+    ∷ []
+
+-- before those the ones that push to it
+unfoldable pub pushingRows : Service → DTVCCPacket → List (Row DTVCCPacket)
+pushingRows s p =
+    row "v" (exactly 0) (λ a. pushesBlock s p)
+    ∷ row "a" numberAndRun (λ a. pushesRun (byte a 0) (drop 1 a) p)
+    ∷ row "i" numberAndRun (λ a. pushesSingle (byte a 0) (drop 1 a) p)
+    ∷ tellingRows p
+
+-- all, and before those the ones that replace it or fields of it
 unfoldable pub packetRows : Service → DTVCCPacket → List (Row DTVCCPacket)
 packetRows s p =
     row "k" (exactly 1) (λ a. renewsPacket (byte a 0) p)
-    ∷ row "v" (exactly 0) (λ a. pushesBlock s p)
-    ∷ row "a" numberAndRun (λ a. pushesRun (byte a 0) (drop 1 a) p)
-    ∷ row "i" numberAndRun (λ a. pushesSingle (byte a 0) (drop 1 a) p)
-    ∷ row "l" (exactly 0) (λ a. measuresPacket p)
-    ∷ row "o" (exactly 1) (λ a. writesPacket (byte a 0) p)
     ∷ row "p" allOfThem (λ a. readsPlainly a p)
     ∷ row "t" allOfThem (λ a. readsTidily a p)
     ∷ row "K" (exactly 2) (λ a. setsPacket (byte a 0) (byte a 1) p)
-    ∷ []
+    ∷ pushingRows s p

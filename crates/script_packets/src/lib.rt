@@ -1,17 +1,28 @@
 // The operations of a script, by their letters, on its packet: each makes one call, lays the line that tells of it into a lent buffer from a place
 // on, and answers the place behind the line beside what the call leaves.
+ghost use mathlib.Core.Path.{_≡_};
+ghost use lib.ListN.{drop};
 ghost use Rattle.model.specs.Packet.{writtenPacket};
 ghost use Rattle.caption.specs.Answers.{saidAnswer};
+ghost use Rattle.service.specs.Service.{blockOf};
 ghost use Rattle.packet.specs.Packet.{validDTVCC, packetOf};
-ghost use Rattle.script_answers.specs.Steps.{Runs, Lends, tells};
-ghost use Rattle.script_answers.specs.Rows.{sought, Asked};
+ghost use Rattle.program_text.specs.Laid.{Laid};
+ghost use Rattle.program_lines.specs.Lines.{blockText};
+ghost use Rattle.script_answers.specs.Script.{answerLine};
+ghost use Rattle.script_answers.specs.Steps.{Runs, Lends, tells, chosen};
+ghost use Rattle.script_answers.specs.Rows.{byte, sought, Asked};
+ghost use Rattle.script_packets.specs.Lines.{packetMeasures, blocksText, blocksIn, heldText, heldLine, readPacketLine};
 ghost use Rattle.script_packets.specs.Packets.{renewsPacket, pushesBlock, pushesRun, pushesSingle, measuresPacket, writesPacket, packetRead};
-ghost use Rattle.script_packets.specs.Packets.{readsPlainly, readsTidily, setsPacket, packetRows};
+ghost use Rattle.script_packets.specs.Packets.{readsPlainly, readsTidily, setsPacket, tellingRows, pushingRows, packetRows};
+use basics::MOST_BLOCKS;
 use caption::Answer;
 use packet::DTVCCPacket;
 use packet::PacketAnswer;
+use packet::Place;
 use program_records::byte_at;
 use program_records::part;
+use program_text::put_newline;
+use program_text::put_word;
 use script_answers::asks;
 use service::Service;
 
@@ -22,25 +33,101 @@ pub struct OnPacket {
     pub packet: DTVCCPacket,
 }
 
-// A new packet, where the call accepts.
-fn new_packet(out: &mut [u8], at: usize, before: DTVCCPacket, sequence: u8) -> OnPacket
-    ensures { λ r. ⌜ Runs (renewsPacket sequence before) (now (out .entry)) at (r .ran) (r .laid) (r .packet) (now (out .exit)) ⌝ }
+// The measures of a packet: sequence number, length, room, blocks.
+fn put_packet_measures(out: &mut [u8], at: usize, packet: DTVCCPacket) -> usize
+    ensures { λ r. ⌜ Laid (answerLine (packetMeasures packet)) (now (out .entry)) at r (now (out .exit)) ⌝ }
 {
-    let made = DTVCCPacket::new(sequence);
-    let answer = made.answer;
-    let packet = made.packet;
-    let laid = script_answers::put_answer_line(out, at, answer);
+    let sequence = packet.sequence_no();
+    let length = packet.len();
+    let room = packet.free_space();
+    let blocks = packet.service_count();
+    script_answers::put_four_line(out, at, sequence, length, room, blocks)
+}
+
+// A block of a packet, as `number:payload`.
+fn put_block(out: &mut [u8], at: usize, service: Service) -> usize
+    ensures { λ r. ⌜ Laid (blockText (service .number) (blockOf service .payload)) (now (out .entry)) at r (now (out .exit)) ⌝ }
+{
+    let len = service.len;
+    let payload = service.payload;
+    program_lines::put_block(out, at, service.number, part(&payload, 0, len))
+}
+
+// The blocks of a packet.
+fn put_blocks(out: &mut [u8], at: usize, packet: DTVCCPacket) -> usize
+    ensures { λ r. ⌜ Laid (blocksText (blocksIn packet)) (now (out .entry)) at r (now (out .exit)) ⌝ }
+{
+    let mut laid = put_word(out, at, b"");
+    let mut i: usize = 0;
+    while i < MOST_BLOCKS {
+        let here = packet.service(i);
+        let place = here.place;
+        match place {
+            Place::Here => {
+                let service = here.service;
+                laid = put_block(out, laid, service);
+                i += 1;
+            }
+            Place::Nothing => {
+                return laid;
+            }
+            Place::Refused(_) => {
+                return laid;
+            }
+        }
+    }
+    laid
+}
+
+// The sequence number of a packet and its blocks.
+pub fn put_packet(out: &mut [u8], at: usize, packet: DTVCCPacket) -> usize
+    ensures { λ r. ⌜ Laid (heldText packet) (now (out .entry)) at r (now (out .exit)) ⌝ }
+{
+    let p = program_lines::put_value(out, at, packet.seq_no as u64);
+    put_blocks(out, p, packet)
+}
+
+// A packet that was read.
+fn put_held_line(out: &mut [u8], at: usize, packet: DTVCCPacket) -> usize
+    ensures { λ r. ⌜ Laid (heldLine packet) (now (out .entry)) at r (now (out .exit)) ⌝ }
+{
+    let p = put_word(out, at, b"ok");
+    let q = put_packet(out, p, packet);
+    put_newline(out, q)
+}
+
+// The same, where the call accepts.
+fn put_packet_line(out: &mut [u8], at: usize, answer: Answer, packet: DTVCCPacket) -> usize
+    ensures { λ r. ⌜ Laid (readPacketLine (saidAnswer answer) packet) (now (out .entry)) at r (now (out .exit)) ⌝ }
+{
     match answer {
-        Answer::Accepted => OnPacket {
-            ran: true,
-            laid,
-            packet,
-        },
-        Answer::Refused(_) => OnPacket {
-            ran: true,
-            laid,
-            packet: before,
-        },
+        Answer::Accepted => put_held_line(out, at, packet),
+        Answer::Refused(why) => script_answers::put_refusal_line(out, at, why),
+    }
+}
+
+// By an answer, the new packet or the one that was there.
+fn packet_kept(answer: Answer, made: DTVCCPacket, before: DTVCCPacket) -> DTVCCPacket
+    ensures { λ r. ⌜ r ≡ chosen (saidAnswer answer) made before ⌝ }
+{
+    match answer {
+        Answer::Accepted => made,
+        Answer::Refused(_) => before,
+    }
+}
+
+// A new packet, where the call accepts.
+fn new_packet(out: &mut [u8], at: usize, before: DTVCCPacket, args: &[u8]) -> OnPacket
+    ensures { λ r. ⌜ Runs (renewsPacket (byte (now (args .entry)) 0) before) (now (out .entry)) at (r .ran) (r .laid) (r .packet) (now (out .exit)) ⌝ }
+{
+    let made = DTVCCPacket::new(byte_at(args, 0));
+    let answer = made.answer;
+    let laid = script_answers::put_answer_line(out, at, answer);
+    let packet = packet_kept(answer, made.packet, before);
+    OnPacket {
+        ran: true,
+        laid,
+        packet,
     }
 }
 
@@ -66,17 +153,23 @@ fn push_block(out: &mut [u8], at: usize, before: DTVCCPacket, service: Service) 
 }
 
 // A run pushed to the packet.
-fn push_run(out: &mut [u8], at: usize, before: DTVCCPacket, number: u8, run: &[u8]) -> OnPacket
-    ensures { λ r. ⌜ Runs (pushesRun number (now (run .entry)) before) (now (out .entry)) at (r .ran) (r .laid) (r .packet) (now (out .exit)) ⌝ }
+fn push_run(out: &mut [u8], at: usize, before: DTVCCPacket, args: &[u8]) -> OnPacket
+    ensures { λ r. ⌜ Runs (pushesRun (byte (now (args .entry)) 0) (drop 1 (now (args .entry))) before) (now (out .entry)) at (r .ran) (r .laid) (r .packet) (now (out .exit)) ⌝ }
 {
-    packet_pushed(out, at, before.push_code(number, run))
+    let run = part(args, 1, args.len());
+    packet_pushed(out, at, before.push_code(byte_at(args, 0), run))
 }
 
 // A run pushed to the packet, in the single-service form.
-fn push_single(out: &mut [u8], at: usize, before: DTVCCPacket, number: u8, run: &[u8]) -> OnPacket
-    ensures { λ r. ⌜ Runs (pushesSingle number (now (run .entry)) before) (now (out .entry)) at (r .ran) (r .laid) (r .packet) (now (out .exit)) ⌝ }
+fn push_single(out: &mut [u8], at: usize, before: DTVCCPacket, args: &[u8]) -> OnPacket
+    ensures { λ r. ⌜ Runs (pushesSingle (byte (now (args .entry)) 0) (drop 1 (now (args .entry))) before) (now (out .entry)) at (r .ran) (r .laid) (r .packet) (now (out .exit)) ⌝ }
 {
-    packet_pushed(out, at, before.push_code_into_single_service(number, run))
+    let run = part(args, 1, args.len());
+    packet_pushed(
+        out,
+        at,
+        before.push_code_into_single_service(byte_at(args, 0), run),
+    )
 }
 
 // A packet that was read, where it was.
@@ -84,19 +177,13 @@ fn packet_read(out: &mut [u8], at: usize, before: DTVCCPacket, read: PacketAnswe
     ensures { λ r. ⌜ Runs (packetRead before (saidAnswer (read .answer)) (read .packet)) (now (out .entry)) at (r .ran) (r .laid) (r .packet) (now (out .exit)) ⌝ }
 {
     let answer = read.answer;
-    let packet = read.packet;
-    let laid = script_answers::put_packet_line(out, at, answer, packet);
-    match answer {
-        Answer::Accepted => OnPacket {
-            ran: true,
-            laid,
-            packet,
-        },
-        Answer::Refused(_) => OnPacket {
-            ran: true,
-            laid,
-            packet: before,
-        },
+    let made = read.packet;
+    let laid = put_packet_line(out, at, answer, made);
+    let packet = packet_kept(answer, made, before);
+    OnPacket {
+        ran: true,
+        laid,
+        packet,
     }
 }
 
@@ -123,12 +210,12 @@ fn tell_packet(out: &mut [u8], at: usize, held: DTVCCPacket, lent: &mut [u8]) ->
 }
 
 // Two fields of the packet set, whatever they break.
-fn set_packet(out: &mut [u8], at: usize, before: DTVCCPacket, sequence: u8, count: u8) -> OnPacket
-    ensures { λ r. ⌜ Runs (setsPacket sequence count before) (now (out .entry)) at (r .ran) (r .laid) (r .packet) (now (out .exit)) ⌝ }
+fn set_packet(out: &mut [u8], at: usize, before: DTVCCPacket, args: &[u8]) -> OnPacket
+    ensures { λ r. ⌜ Runs (setsPacket (byte (now (args .entry)) 0) (byte (now (args .entry)) 1) before) (now (out .entry)) at (r .ran) (r .laid) (r .packet) (now (out .exit)) ⌝ }
 {
     let mut packet = before;
-    packet.seq_no = sequence;
-    packet.count = count as usize;
+    packet.seq_no = byte_at(args, 0);
+    packet.count = byte_at(args, 1) as usize;
     let laid = script_answers::put_ok_line(out, at);
     OnPacket {
         ran: true,
@@ -141,7 +228,7 @@ fn set_packet(out: &mut [u8], at: usize, before: DTVCCPacket, sequence: u8, coun
 fn measure_packet(out: &mut [u8], at: usize, packet: DTVCCPacket) -> OnPacket
     ensures { λ r. ⌜ Runs (measuresPacket packet) (now (out .entry)) at (r .ran) (r .laid) (r .packet) (now (out .exit)) ⌝ }
 {
-    let laid = script_answers::put_packet_measures(out, at, packet);
+    let laid = put_packet_measures(out, at, packet);
     OnPacket {
         ran: true,
         laid,
@@ -149,12 +236,12 @@ fn measure_packet(out: &mut [u8], at: usize, packet: DTVCCPacket) -> OnPacket
     }
 }
 
-// The packet written to an output of `len` bytes.
-fn write_packet(out: &mut [u8], at: usize, packet: DTVCCPacket, len: u8) -> OnPacket
-    ensures { λ r. ⌜ Runs (writesPacket len packet) (now (out .entry)) at (r .ran) (r .laid) (r .packet) (now (out .exit)) ⌝ }
+// The packet written to an output of as many bytes as the argument says.
+fn write_packet(out: &mut [u8], at: usize, packet: DTVCCPacket, args: &[u8]) -> OnPacket
+    ensures { λ r. ⌜ Runs (writesPacket (byte (now (args .entry)) 0) packet) (now (out .entry)) at (r .ran) (r .laid) (r .packet) (now (out .exit)) ⌝ }
 {
     let mut lent = [0xA5u8; 255];
-    let end = len as usize;
+    let end = byte_at(args, 0) as usize;
     let laid = tell_packet(out, at, packet, &mut lent[0..end]);
     OnPacket {
         ran: true,
@@ -163,7 +250,49 @@ fn write_packet(out: &mut [u8], at: usize, packet: DTVCCPacket, len: u8) -> OnPa
     }
 }
 
-// The operations on the packet.
+// The operations that tell of the packet, and leave it as it is.
+fn on_packet_telling(out: &mut [u8], at: usize, p: DTVCCPacket, op: u8, args: &[u8]) -> OnPacket
+    ensures { λ r. ⌜ Asked (sought (tellingRows p) op (now (args .entry))) p (now (out .entry)) at (r .ran) (r .laid) (r .packet) (now (out .exit)) ⌝ }
+{
+    let n = args.len();
+    if asks(op, b'l', n == 0) {
+        return measure_packet(out, at, p);
+    }
+    if asks(op, b'o', n == 1) {
+        return write_packet(out, at, p, args);
+    }
+    OnPacket {
+        ran: false,
+        laid: at,
+        packet: p,
+    }
+}
+
+// Those that push to it, and behind them the ones above.
+fn on_packet_pushing(
+    out: &mut [u8],
+    at: usize,
+    s: Service,
+    p: DTVCCPacket,
+    op: u8,
+    args: &[u8],
+) -> OnPacket
+    ensures { λ r. ⌜ Asked (sought (pushingRows s p) op (now (args .entry))) p (now (out .entry)) at (r .ran) (r .laid) (r .packet) (now (out .exit)) ⌝ }
+{
+    let n = args.len();
+    if asks(op, b'v', n == 0) {
+        return push_block(out, at, p, s);
+    }
+    if asks(op, b'a', 1 <= n) {
+        return push_run(out, at, p, args);
+    }
+    if asks(op, b'i', 1 <= n) {
+        return push_single(out, at, p, args);
+    }
+    on_packet_telling(out, at, p, op, args)
+}
+
+// The operations on the packet: those that replace it or fields of it, and behind them the ones above.
 pub fn on_packet(
     out: &mut [u8],
     at: usize,
@@ -175,26 +304,8 @@ pub fn on_packet(
     ensures { λ r. ⌜ Asked (sought (packetRows s p) op (now (args .entry))) p (now (out .entry)) at (r .ran) (r .laid) (r .packet) (now (out .exit)) ⌝ }
 {
     let n = args.len();
-    let a = byte_at(args, 0);
-    let b = byte_at(args, 1);
-    let run = part(args, 1, n);
     if asks(op, b'k', n == 1) {
-        return new_packet(out, at, p, a);
-    }
-    if asks(op, b'v', n == 0) {
-        return push_block(out, at, p, s);
-    }
-    if asks(op, b'a', 1 <= n) {
-        return push_run(out, at, p, a, run);
-    }
-    if asks(op, b'i', 1 <= n) {
-        return push_single(out, at, p, a, run);
-    }
-    if asks(op, b'l', n == 0) {
-        return measure_packet(out, at, p);
-    }
-    if asks(op, b'o', n == 1) {
-        return write_packet(out, at, p, a);
+        return new_packet(out, at, p, args);
     }
     if asks(op, b'p', true) {
         return read_plain(out, at, p, args);
@@ -203,11 +314,7 @@ pub fn on_packet(
         return read_tidily(out, at, p, args);
     }
     if asks(op, b'K', n == 2) {
-        return set_packet(out, at, p, a, b);
+        return set_packet(out, at, p, args);
     }
-    OnPacket {
-        ran: false,
-        laid: at,
-        packet: p,
-    }
+    on_packet_pushing(out, at, s, p, op, args)
 }

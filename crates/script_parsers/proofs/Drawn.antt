@@ -5,8 +5,8 @@ use Rattle.parser.specs.declared.CCDataParser.{CCDataParser}
 use Rattle.parser.specs.declared.Drawn.{Drawn}
 use Rattle.parser.specs.Items.{Draws, saidItem}
 use Rattle.program_text.specs.Laid.{Laid}
-use Rattle.script_answers.specs.Script.{itemLine}
 use Rattle.script_answers.specs.Steps.{Did}
+use Rattle.script_parsers.specs.Lines.{itemLine}
 use Rattle.script_parsers.specs.Parsers.{draws}
 
 -- an item drawn

@@ -11,9 +11,9 @@ use Rattle.parser.specs.Valid.{valid}
 use Rattle.parser.specs.Means.{means}
 use Rattle.parser.specs.Calls.{fresh, laidAfter}
 use Rattle.parser.specs.After.{saidOf, leftBy, drawn}
-use Rattle.script_answers.specs.Script.{itemLine}
 use Rattle.script_answers.specs.Steps.{Effect, tells, becomes}
 use Rattle.script_answers.specs.Rows.{Row, row, exactly, allOfThem, byte}
+use Rattle.script_parsers.specs.Lines.{itemLine}
 
 -- a fresh one
 abbrev pub renewsParser : Effect CCDataParser
@@ -59,12 +59,18 @@ setsParser pairs pending waiting r =
       waiting = r .waiting;
     })
 
+-- those that frames go in by, and items out
+unfoldable pub streamingRows : CCDataParser → List (Row CCDataParser)
+streamingRows r =
+    row "f" allOfThem (λ a. pushesFrame a r)
+    ∷ row "n" (exactly 0) (λ a. draws r)
+    ∷ []
+
+-- all, and before those the ones that set it
 unfoldable pub parserRows : CCDataParser → List (Row CCDataParser)
 parserRows r =
     row "R" (exactly 0) (λ a. renewsParser)
     ∷ row "H" (exactly 0) (λ a. turnsOn r)
-    ∷ row "f" allOfThem (λ a. pushesFrame a r)
-    ∷ row "n" (exactly 0) (λ a. draws r)
     ∷ row "F" (exactly 0) (λ a. flushesParser r)
     ∷ row "D" (exactly 3) (λ a. setsParser (byte a 0) (byte a 1) (byte a 2) r)
-    ∷ []
+    ∷ streamingRows r

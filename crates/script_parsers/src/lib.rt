@@ -1,13 +1,25 @@
 // The operations of a script, by their letters, on its demultiplexer: each makes one call, lays the line that tells of it into a lent buffer from
 // a place on, and answers the place behind the line beside what the call leaves.
-ghost use mathlib.Core.Path.{_≡_};
+ghost use mathlib.Core.List.{_++_};
 ghost use Rattle.caption.specs.Answers.{saidAnswer};
+ghost use Rattle.caption.specs.Pairs.{cea608Of};
+ghost use Rattle.parser.specs.Items.{saidItem};
+ghost use Rattle.program_text.specs.Laid.{Laid};
+ghost use Rattle.program_text.specs.Text.{word};
+ghost use Rattle.program_lines.specs.Lines.{pairText};
 ghost use Rattle.script_answers.specs.Steps.{Runs, tells};
-ghost use Rattle.script_answers.specs.Rows.{sought, Asked};
-ghost use Rattle.script_parsers.specs.Parsers.{renewsParser, turnsOn, pushesFrame, draws, flushesParser, setsParser, parserRows};
+ghost use Rattle.script_answers.specs.Rows.{byte, sought, Asked};
+ghost use Rattle.script_packets.specs.Lines.{heldText};
+ghost use Rattle.script_parsers.specs.Lines.{itemLine};
+ghost use Rattle.script_parsers.specs.Parsers.{renewsParser, turnsOn, pushesFrame, draws, flushesParser, setsParser, streamingRows, parserRows};
+use caption::Cea608;
+use packet::DTVCCPacket;
 use parser::CCDataParser;
+use parser::Item;
 use parser::ParserAnswer;
 use program_records::byte_at;
+use program_text::put_newline;
+use program_text::put_word;
 use script_answers::asks;
 
 // Whether an operation was run, the place behind its line, and the demultiplexer.
@@ -15,6 +27,36 @@ pub struct OnParser {
     pub ran: bool,
     pub laid: usize,
     pub parser: CCDataParser,
+}
+
+// A pair that was drawn.
+fn put_pair_line(out: &mut [u8], at: usize, pair: Cea608) -> usize
+    ensures { λ r. ⌜ Laid (word "ok " ++ pairText (cea608Of pair) ++ word "\n") (now (out .entry)) at r (now (out .exit)) ⌝ }
+{
+    let p = put_word(out, at, b"ok ");
+    let q = program_lines::put_pair(out, p, pair);
+    put_newline(out, q)
+}
+
+// A packet that was drawn.
+fn put_packet_line(out: &mut [u8], at: usize, packet: DTVCCPacket) -> usize
+    ensures { λ r. ⌜ Laid (word "ok packet" ++ heldText packet ++ word "\n") (now (out .entry)) at r (now (out .exit)) ⌝ }
+{
+    let p = put_word(out, at, b"ok packet");
+    let q = script_packets::put_packet(out, p, packet);
+    put_newline(out, q)
+}
+
+// An item that was drawn, and the packet beside it.
+fn put_item_line(out: &mut [u8], at: usize, item: Item, packet: DTVCCPacket) -> usize
+    ensures { λ r. ⌜ Laid (itemLine (saidItem item) packet) (now (out .entry)) at r (now (out .exit)) ⌝ }
+{
+    match item {
+        Item::Pair(pair) => put_pair_line(out, at, pair),
+        Item::Packet => put_packet_line(out, at, packet),
+        Item::Nothing => put_word(out, at, b"ok none\n"),
+        Item::Refused(why) => script_answers::put_refusal_line(out, at, why),
+    }
 }
 
 // What a call leaves of a demultiplexer.
@@ -60,7 +102,7 @@ fn draw(out: &mut [u8], at: usize, before: CCDataParser) -> OnParser
     let item = drawn.item;
     let packet = drawn.packet;
     let parser = drawn.parser;
-    let laid = script_answers::put_item_line(out, at, item, packet);
+    let laid = put_item_line(out, at, item, packet);
     OnParser {
         ran: true,
         laid,
@@ -82,20 +124,13 @@ fn new_parser(out: &mut [u8], at: usize) -> OnParser
 }
 
 // The three counts of the demultiplexer set, whatever they break.
-fn set_parser(
-    out: &mut [u8],
-    at: usize,
-    before: CCDataParser,
-    pairs: u8,
-    pending: u8,
-    waiting: u8,
-) -> OnParser
-    ensures { λ r. ⌜ Runs (setsParser pairs pending waiting before) (now (out .entry)) at (r .ran) (r .laid) (r .parser) (now (out .exit)) ⌝ }
+fn set_parser(out: &mut [u8], at: usize, before: CCDataParser, args: &[u8]) -> OnParser
+    ensures { λ r. ⌜ Runs (setsParser (byte (now (args .entry)) 0) (byte (now (args .entry)) 1) (byte (now (args .entry)) 2) before) (now (out .entry)) at (r .ran) (r .laid) (r .parser) (now (out .exit)) ⌝ }
 {
     let mut parser = before;
-    parser.pair_count = pairs as usize;
-    parser.pending_len = pending as usize;
-    parser.waiting_count = waiting as usize;
+    parser.pair_count = byte_at(args, 0) as usize;
+    parser.pending_len = byte_at(args, 1) as usize;
+    parser.waiting_count = byte_at(args, 2) as usize;
     let laid = script_answers::put_ok_line(out, at);
     OnParser {
         ran: true,
@@ -104,35 +139,40 @@ fn set_parser(
     }
 }
 
-// The operations on the demultiplexer.
-pub fn on_parser(out: &mut [u8], at: usize, r: CCDataParser, op: u8, args: &[u8]) -> OnParser
-    ensures { λ x. ⌜ Asked (sought (parserRows r) op (now (args .entry))) r (now (out .entry)) at (x .ran) (x .laid) (x .parser) (now (out .exit)) ⌝ }
+// The operations that frames go in by, and items out.
+fn on_parser_streaming(out: &mut [u8], at: usize, r: CCDataParser, op: u8, args: &[u8]) -> OnParser
+    ensures { λ x. ⌜ Asked (sought (streamingRows r) op (now (args .entry))) r (now (out .entry)) at (x .ran) (x .laid) (x .parser) (now (out .exit)) ⌝ }
 {
     let n = args.len();
-    let a = byte_at(args, 0);
-    let b = byte_at(args, 1);
-    let c = byte_at(args, 2);
-    if asks(op, b'R', n == 0) {
-        return new_parser(out, at);
-    }
-    if asks(op, b'H', n == 0) {
-        return turn_on(out, at, r);
-    }
     if asks(op, b'f', true) {
         return push_frame(out, at, r, args);
     }
     if asks(op, b'n', n == 0) {
         return draw(out, at, r);
     }
-    if asks(op, b'F', n == 0) {
-        return flush_parser(out, at, r);
-    }
-    if asks(op, b'D', n == 3) {
-        return set_parser(out, at, r, a, b, c);
-    }
     OnParser {
         ran: false,
         laid: at,
         parser: r,
     }
+}
+
+// The operations on the demultiplexer: those that set it, and behind them the ones above.
+pub fn on_parser(out: &mut [u8], at: usize, r: CCDataParser, op: u8, args: &[u8]) -> OnParser
+    ensures { λ x. ⌜ Asked (sought (parserRows r) op (now (args .entry))) r (now (out .entry)) at (x .ran) (x .laid) (x .parser) (now (out .exit)) ⌝ }
+{
+    let n = args.len();
+    if asks(op, b'R', n == 0) {
+        return new_parser(out, at);
+    }
+    if asks(op, b'H', n == 0) {
+        return turn_on(out, at, r);
+    }
+    if asks(op, b'F', n == 0) {
+        return flush_parser(out, at, r);
+    }
+    if asks(op, b'D', n == 3) {
+        return set_parser(out, at, r, args);
+    }
+    on_parser_streaming(out, at, r, op, args)
 }

@@ -1,26 +1,31 @@
 -- What is left of the multiplexer, by what its calls promise. Assumes nothing.
 use mathlib.Core.Path.{_≡_, _∙_}
 use mathlib.Core.Bool.{Bool, true, false}
-use mathlib.Core.List.{List}
+use mathlib.Core.List.{List, [], _∷_}
 use Prim.Native.Nat.{ℕ}
 use lib.ListN.{getD, drop}
-use Rattle.model.specs.Said.{Outcome, gave, says, checked, mapped, after}
+use Rattle.model.specs.Said.{Outcome, accepted, gave, says, checked, mapped, after, measured}
+use Rattle.model.specs.Duration.{field1Duration, field2Duration, packetDuration}
 use Rattle.model.specs.Mux.{Mux, withPads}
 use Rattle.model.proofs.Cases.{by-test}
+use Rattle.caption.specs.declared.Counted.{Counted}
 use Rattle.caption.specs.declared.Framerate.{Framerate}
 use Rattle.caption.specs.Answers.{saidAnswer, saidCounted}
 use Rattle.caption.specs.Rates.{rate}
 use Rattle.writer.specs.declared.CCDataWriter.{CCDataWriter}
+use Rattle.writer.specs.declared.Micros.{Micros}
+use Rattle.writer.specs.declared.Micros.the-variants as micros
 use Rattle.writer.specs.declared.WriterAnswer.{WriterAnswer}
 use Rattle.writer.specs.declared.WriterCount.{WriterCount}
 use Rattle.writer.specs.Writer.{means, validWriter, stored}
-use Rattle.writer.specs.Calls.{Answers, Writes}
+use Rattle.writer.specs.Calls.{Answers, Writes, saidMicros}
 use Rattle.writer.proofs.Kept.{pads-valid, pads-again}
 use Rattle.program_text.specs.Laid.{Laid}
 use Rattle.program_records.specs.Reading.{highestFirst}
-use Rattle.script_answers.specs.Script.{lentLine}
+use Rattle.script_answers.specs.Script.{answerLine, lentLine, countOf, together}
 use Rattle.script_answers.specs.Steps.{Did, tells, lays, lentOut}
-use Rattle.script_writers.specs.Writers.{wrote, writesFrame}
+use Rattle.script_answers.proofs.Measured.{three-measured, same-line}
+use Rattle.script_writers.specs.Writers.{durations, wrote, writesFrame}
 
 -- a frame written
 pub did-write : {out now lent′ : List ℕ} {at laid : ℕ} (lent : List ℕ) (rate : Framerate) (w : CCDataWriter) (r : WriterCount) → Writes rate lent w r lent′
@@ -32,6 +37,19 @@ pub told-frame : {out now lent : List ℕ} {at laid : ℕ} {next : CCDataWriter}
     → Did (wrote speed lent w) out at laid next now → speed ≡ rate x y → x ≡ highestFirst (drop 0 a) → y ≡ highestFirst (drop 4 a)
     → n ≡ getD a 8 0 → lent ≡ lentOut n → Did (writesFrame a w) out at laid next now
 told-frame a w speed x y n d p q s t e = rw (p, q, s, e, t) at d
+
+-- a time as a number
+pub time-given : (m : Micros) (n : ℕ) → m ≡ micros.Of n → accepted (n ∷ []) ≡ saidMicros m
+time-given m n e = rw e
+
+-- three times asked of one multiplexer
+pub times-measured : {out after : List ℕ} {at r : ℕ} (w : CCDataWriter) (a b c : Counted) (x y z : Micros)
+    → saidMicros x ≡ measured (validWriter w) (field1Duration (means w)) → saidMicros y ≡ measured (validWriter w) (field2Duration (means w))
+    → saidMicros z ≡ measured (validWriter w) (packetDuration (means w)) → saidCounted a ≡ saidMicros x → saidCounted b ≡ saidMicros y
+    → saidCounted c ≡ saidMicros z → Laid (answerLine (together (countOf a ∷ countOf b ∷ []) c)) out at r after
+    → Laid (answerLine (durations w)) out at r after
+unfolding durations
+times-measured w a b c x y z e f g i j k l = same-line (three-measured _ _ _ (validWriter w) a b c (i ∙ e) (j ∙ f) (k ∙ g)) l
 
 -- Both switches set, one after the other: the first call keeps the limits, so that the second is refused where the first was.
 module _ (a b : Bool) (w : CCDataWriter) (f s : WriterAnswer)

@@ -4,7 +4,8 @@ use mathlib.Core.List.{List, [], _∷_}
 use Prim.Native.Nat.{ℕ, _/_, _%_}
 use lib.Dec.{eqb}
 use lib.ListN.{length, drop}
-use Rattle.model.specs.Said.{gave, checked, saysWith, mapped, after}
+use Rattle.model.specs.Said.{Said, gave, checked, saysWith, mapped, after}
+use Rattle.model.specs.Duration.{field1Duration, field2Duration, packetDuration}
 use Rattle.model.specs.Mux.{withPads, flushMux, pushPacket, pushCea608}
 use Rattle.caption.specs.declared.Framerate.{Framerate}
 use Rattle.caption.specs.declared.Cea608.{Cea608}
@@ -17,7 +18,7 @@ use Rattle.writer.specs.declared.CCDataWriter.{CCDataWriter}
 use Rattle.writer.specs.Writer.{means, validWriter, fresh, stored, emptied, moved}
 use Rattle.writer.specs.Calls.{written}
 use Rattle.program_records.specs.Reading.{highestFirst}
-use Rattle.script_answers.specs.Script.{answerLine, lentLine, durations}
+use Rattle.script_answers.specs.Script.{answerLine, lentLine, measures}
 use Rattle.script_answers.specs.Steps.{Effect, lays, becomes, stays, lentOut}
 use Rattle.script_answers.specs.Rows.{Row, row, exactly, byte}
 
@@ -50,6 +51,10 @@ wrote speed out w =
 abbrev pub writesFrame : List ℕ → CCDataWriter → Effect CCDataWriter
 writesFrame a w = wrote (rate (highestFirst a) (highestFirst (drop 4 a))) (lentOut (byte a 8)) w
 
+-- how many microseconds field 1, field 2 and the packets take [D]
+unfoldable pub durations : CCDataWriter → Said
+durations w = measures (validWriter w) (field1Duration (means w) ∷ field2Duration (means w) ∷ packetDuration (means w) ∷ [])
+
 -- its three durations
 abbrev pub tellsDurations : CCDataWriter → Effect CCDataWriter
 tellsDurations w = stays w (answerLine (durations w))
@@ -74,15 +79,26 @@ setsWriter packets sent count1 count2 w =
       «field2_next» = w .«field2_next»;
     })
 
+-- those that frames and durations come out by
+unfoldable pub tellingRows : CCDataWriter → List (Row CCDataWriter)
+tellingRows w =
+    row "w" (exactly 9) (λ a. writesFrame a w)
+    ∷ row "u" (exactly 0) (λ a. tellsDurations w)
+    ∷ []
+
+-- before those the ones that push to it
+unfoldable pub pushingRows : DTVCCPacket → CCDataWriter → List (Row CCDataWriter)
+pushingRows p w =
+    row "q" (exactly 0) (λ a. pushesPacket p w)
+    ∷ row "1" (exactly 2) (λ a. pushesPair (Field1 (byte a 0) (byte a 1)) w)
+    ∷ row "2" (exactly 2) (λ a. pushesPair (Field2 (byte a 0) (byte a 1)) w)
+    ∷ tellingRows w
+
+-- all, and before those the ones that set it
 unfoldable pub writerRows : DTVCCPacket → CCDataWriter → List (Row CCDataWriter)
 writerRows p w =
     row "W" (exactly 0) (λ a. renewsWriter)
     ∷ row "S" (exactly 1) (λ a. switches (eqb (byte a 0 % 2) 1) (eqb (byte a 0 / 2 % 2) 1) w)
-    ∷ row "q" (exactly 0) (λ a. pushesPacket p w)
-    ∷ row "1" (exactly 2) (λ a. pushesPair (Field1 (byte a 0) (byte a 1)) w)
-    ∷ row "2" (exactly 2) (λ a. pushesPair (Field2 (byte a 0) (byte a 1)) w)
-    ∷ row "w" (exactly 9) (λ a. writesFrame a w)
-    ∷ row "u" (exactly 0) (λ a. tellsDurations w)
     ∷ row "x" (exactly 0) (λ a. flushesWriter w)
     ∷ row "Q" (exactly 4) (λ a. setsWriter (byte a 0) (byte a 1) (byte a 2) (byte a 3) w)
-    ∷ []
+    ∷ pushingRows p w

@@ -1,19 +1,26 @@
 // The operations of a script, by their letters, on its multiplexer: each makes one call, lays the line that tells of it into a lent buffer from a
 // place on, and answers the place behind the line beside what the call leaves.
 ghost use mathlib.Core.Path.{_≡_};
+ghost use Prim.Native.Nat.{_/_, _%_};
+ghost use lib.Dec.{eqb};
 ghost use Rattle.model.specs.Said.{mapped, after};
-ghost use Rattle.caption.specs.Answers.{saidAnswer};
-ghost use Rattle.writer.specs.Calls.{written};
+ghost use Rattle.caption.specs.declared.Cea608.the-variants.{Field1, Field2};
+ghost use Rattle.caption.specs.Answers.{saidAnswer, saidCounted};
+ghost use Rattle.writer.specs.Calls.{written, saidMicros};
+ghost use Rattle.program_text.specs.Laid.{Laid};
+ghost use Rattle.script_answers.specs.Script.{answerLine};
 ghost use Rattle.script_answers.specs.Steps.{Runs, tells};
-ghost use Rattle.script_answers.specs.Rows.{sought, Asked};
-ghost use Rattle.script_writers.specs.Writers.{renewsWriter, switches, pushesPacket, pushesPair, wrote, writesFrame, tellsDurations};
-ghost use Rattle.script_writers.specs.Writers.{flushesWriter, setsWriter, writerRows};
+ghost use Rattle.script_answers.specs.Rows.{byte, sought, Asked};
+ghost use Rattle.script_writers.specs.Writers.{durations, renewsWriter, switches, pushesPacket, pushesPair, wrote, writesFrame, tellsDurations};
+ghost use Rattle.script_writers.specs.Writers.{flushesWriter, setsWriter, tellingRows, pushingRows, writerRows};
 use caption::Cea608;
+use caption::Counted;
 use caption::Framerate;
 use packet::DTVCCPacket;
 use program_records::byte_at;
 use script_answers::asks;
 use writer::CCDataWriter;
+use writer::Micros;
 use writer::WriterAnswer;
 
 // Whether an operation was run, the place behind its line, and the multiplexer.
@@ -21,6 +28,26 @@ pub struct OnWriter {
     pub ran: bool,
     pub laid: usize,
     pub writer: CCDataWriter,
+}
+
+// A time as a number.
+fn micros_count(micros: Micros) -> Counted
+    ensures { λ r. ⌜ saidCounted r ≡ saidMicros micros ⌝ }
+{
+    match micros {
+        Micros::Of(n) => Counted::Count(n as usize),
+        Micros::Refused(why) => Counted::Refused(why),
+    }
+}
+
+// The durations of a multiplexer: field 1, field 2, packets.
+fn put_durations(out: &mut [u8], at: usize, writer: CCDataWriter) -> usize
+    ensures { λ r. ⌜ Laid (answerLine (durations writer)) (now (out .entry)) at r (now (out .exit)) ⌝ }
+{
+    let field1 = micros_count(writer.buffered_cea608_field1_duration());
+    let field2 = micros_count(writer.buffered_cea608_field2_duration());
+    let packets = micros_count(writer.buffered_packet_duration());
+    script_answers::put_three_line(out, at, field1, field2, packets)
 }
 
 // What a call leaves of a multiplexer.
@@ -37,19 +64,14 @@ fn told_writer(out: &mut [u8], at: usize, done: WriterAnswer) -> OnWriter
     }
 }
 
-// The two switches set.
-fn switch(
-    out: &mut [u8],
-    at: usize,
-    before: CCDataWriter,
-    cea608_padding: bool,
-    padding: bool,
-) -> OnWriter
-    ensures { λ r. ⌜ Runs (switches «cea608_padding» padding before) (now (out .entry)) at (r .ran) (r .laid) (r .writer) (now (out .exit)) ⌝ }
+// The two switches set, by two bits.
+fn switch(out: &mut [u8], at: usize, before: CCDataWriter, args: &[u8]) -> OnWriter
+    ensures { λ r. ⌜ Runs (switches (eqb (byte (now (args .entry)) 0 % 2) 1) (eqb (byte (now (args .entry)) 0 / 2 % 2) 1) before) (now (out .entry)) at (r .ran) (r .laid) (r .writer) (now (out .exit)) ⌝ }
 {
-    let first = before.set_output_cea608_padding(cea608_padding);
+    let bits = byte_at(args, 0);
+    let first = before.set_output_cea608_padding(bits % 2 == 1);
     let writer = first.writer;
-    told_writer(out, at, writer.set_output_padding(padding))
+    told_writer(out, at, writer.set_output_padding(bits / 2 % 2 == 1))
 }
 
 // A packet pushed.
@@ -59,10 +81,19 @@ fn push_packet(out: &mut [u8], at: usize, before: CCDataWriter, packet: DTVCCPac
     told_writer(out, at, before.push_packet(packet))
 }
 
-// A pair pushed.
-fn push_pair(out: &mut [u8], at: usize, before: CCDataWriter, pair: Cea608) -> OnWriter
-    ensures { λ r. ⌜ Runs (pushesPair pair before) (now (out .entry)) at (r .ran) (r .laid) (r .writer) (now (out .exit)) ⌝ }
+// A pair of field 1 pushed.
+fn push_field1(out: &mut [u8], at: usize, before: CCDataWriter, args: &[u8]) -> OnWriter
+    ensures { λ r. ⌜ Runs (pushesPair (Field1 (byte (now (args .entry)) 0) (byte (now (args .entry)) 1)) before) (now (out .entry)) at (r .ran) (r .laid) (r .writer) (now (out .exit)) ⌝ }
 {
+    let pair = Cea608::Field1(byte_at(args, 0), byte_at(args, 1));
+    told_writer(out, at, before.push_cea608(pair))
+}
+
+// A pair of field 2 pushed.
+fn push_field2(out: &mut [u8], at: usize, before: CCDataWriter, args: &[u8]) -> OnWriter
+    ensures { λ r. ⌜ Runs (pushesPair (Field2 (byte (now (args .entry)) 0) (byte (now (args .entry)) 1)) before) (now (out .entry)) at (r .ran) (r .laid) (r .writer) (now (out .exit)) ⌝ }
+{
+    let pair = Cea608::Field2(byte_at(args, 0), byte_at(args, 1));
     told_writer(out, at, before.push_cea608(pair))
 }
 
@@ -109,24 +140,16 @@ fn new_writer(out: &mut [u8], at: usize) -> OnWriter
 }
 
 // The three counts of the multiplexer set, and how many bytes of the packet being sent have left, whatever they break.
-fn set_writer(
-    out: &mut [u8],
-    at: usize,
-    before: CCDataWriter,
-    packets: u8,
-    sent: u8,
-    count1: u8,
-    count2: u8,
-) -> OnWriter
-    ensures { λ r. ⌜ Runs (setsWriter packets sent count1 count2 before) (now (out .entry)) at (r .ran) (r .laid) (r .writer) (now (out .exit)) ⌝ }
+fn set_writer(out: &mut [u8], at: usize, before: CCDataWriter, args: &[u8]) -> OnWriter
+    ensures { λ r. ⌜ Runs (setsWriter (byte (now (args .entry)) 0) (byte (now (args .entry)) 1) (byte (now (args .entry)) 2) (byte (now (args .entry)) 3) before) (now (out .entry)) at (r .ran) (r .laid) (r .writer) (now (out .exit)) ⌝ }
 {
     let mut field1 = before.field1;
-    field1.count = count1 as usize;
+    field1.count = byte_at(args, 2) as usize;
     let mut field2 = before.field2;
-    field2.count = count2 as usize;
+    field2.count = byte_at(args, 3) as usize;
     let mut writer = before;
-    writer.packet_count = packets as usize;
-    writer.sent = sent as usize;
+    writer.packet_count = byte_at(args, 0) as usize;
+    writer.sent = byte_at(args, 1) as usize;
     writer.field1 = field1;
     writer.field2 = field2;
     let laid = script_answers::put_ok_line(out, at);
@@ -154,7 +177,7 @@ fn write_frame(out: &mut [u8], at: usize, w: CCDataWriter, args: &[u8]) -> OnWri
 fn tell_durations(out: &mut [u8], at: usize, writer: CCDataWriter) -> OnWriter
     ensures { λ r. ⌜ Runs (tellsDurations writer) (now (out .entry)) at (r .ran) (r .laid) (r .writer) (now (out .exit)) ⌝ }
 {
-    let laid = script_answers::put_durations(out, at, writer);
+    let laid = put_durations(out, at, writer);
     OnWriter {
         ran: true,
         laid,
@@ -162,7 +185,49 @@ fn tell_durations(out: &mut [u8], at: usize, writer: CCDataWriter) -> OnWriter
     }
 }
 
-// The operations on the multiplexer.
+// The operations that frames and durations come out by.
+fn on_writer_telling(out: &mut [u8], at: usize, w: CCDataWriter, op: u8, args: &[u8]) -> OnWriter
+    ensures { λ x. ⌜ Asked (sought (tellingRows w) op (now (args .entry))) w (now (out .entry)) at (x .ran) (x .laid) (x .writer) (now (out .exit)) ⌝ }
+{
+    let n = args.len();
+    if asks(op, b'w', n == 9) {
+        return write_frame(out, at, w, args);
+    }
+    if asks(op, b'u', n == 0) {
+        return tell_durations(out, at, w);
+    }
+    OnWriter {
+        ran: false,
+        laid: at,
+        writer: w,
+    }
+}
+
+// Those that push to it, and behind them the ones above.
+fn on_writer_pushing(
+    out: &mut [u8],
+    at: usize,
+    p: DTVCCPacket,
+    w: CCDataWriter,
+    op: u8,
+    args: &[u8],
+) -> OnWriter
+    ensures { λ x. ⌜ Asked (sought (pushingRows p w) op (now (args .entry))) w (now (out .entry)) at (x .ran) (x .laid) (x .writer) (now (out .exit)) ⌝ }
+{
+    let n = args.len();
+    if asks(op, b'q', n == 0) {
+        return push_packet(out, at, w, p);
+    }
+    if asks(op, b'1', n == 2) {
+        return push_field1(out, at, w, args);
+    }
+    if asks(op, b'2', n == 2) {
+        return push_field2(out, at, w, args);
+    }
+    on_writer_telling(out, at, w, op, args)
+}
+
+// The operations on the multiplexer: those that set it, and behind them the ones above.
 pub fn on_writer(
     out: &mut [u8],
     at: usize,
@@ -174,40 +239,17 @@ pub fn on_writer(
     ensures { λ x. ⌜ Asked (sought (writerRows p w) op (now (args .entry))) w (now (out .entry)) at (x .ran) (x .laid) (x .writer) (now (out .exit)) ⌝ }
 {
     let n = args.len();
-    let a = byte_at(args, 0);
-    let b = byte_at(args, 1);
-    let c = byte_at(args, 2);
-    let d = byte_at(args, 3);
     if asks(op, b'W', n == 0) {
         return new_writer(out, at);
     }
     if asks(op, b'S', n == 1) {
-        return switch(out, at, w, a % 2 == 1, a / 2 % 2 == 1);
-    }
-    if asks(op, b'q', n == 0) {
-        return push_packet(out, at, w, p);
-    }
-    if asks(op, b'1', n == 2) {
-        return push_pair(out, at, w, Cea608::Field1(a, b));
-    }
-    if asks(op, b'2', n == 2) {
-        return push_pair(out, at, w, Cea608::Field2(a, b));
-    }
-    if asks(op, b'w', n == 9) {
-        return write_frame(out, at, w, args);
-    }
-    if asks(op, b'u', n == 0) {
-        return tell_durations(out, at, w);
+        return switch(out, at, w, args);
     }
     if asks(op, b'x', n == 0) {
         return flush_writer(out, at, w);
     }
     if asks(op, b'Q', n == 4) {
-        return set_writer(out, at, w, a, b, c, d);
+        return set_writer(out, at, w, args);
     }
-    OnWriter {
-        ran: false,
-        laid: at,
-        writer: w,
-    }
+    on_writer_pushing(out, at, p, w, op, args)
 }

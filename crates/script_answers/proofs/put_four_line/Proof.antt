@@ -1,5 +1,5 @@
 -- By the last measure: the numbers, laid one behind another, or the refusal. Assumes nothing.
-use Rattle.script_answers.proofs.Parts.{four-given, refused-together}
+use Rattle.script_answers.proofs.Parts.{given-together, refused-together}
 use borrow.Author.Needs.{needs}
 use Rattle.script_answers.proofs.put_four_line.Statement.{statement}
 use Rattle.script_answers.proofs.put_four_line.Tie as tie
@@ -7,20 +7,11 @@ use Rattle.script_answers.proofs.put_four_line.Tie as tie
 enum-known-d : tie.Need-enum-known-d
 enum-known-d c = search needs
 
-put-two-requires : tie.Need-put-two-requires
-put-two-requires c κs = search needs
+put-three-requires : tie.Need-put-three-requires
+put-three-requires c κs = search needs
 
-count-of-requires : tie.Need-count-of-requires
-count-of-requires c κs = search needs
-
-put-value-requires : tie.Need-put-value-requires
-put-value-requires c κs = search needs
-
-put-value-requires-2 : tie.Need-put-value-requires-2
-put-value-requires-2 c κs = search needs
-
-put-newline-requires : tie.Need-put-newline-requires
-put-newline-requires c κs = search needs
+put-last-requires : tie.Need-put-last-requires
+put-last-requires c κs = search needs
 
 enum-known-d-2 : tie.Need-enum-known-d-2
 enum-known-d-2 c = search needs
@@ -32,7 +23,7 @@ same-length : tie.Need-same-length
 same-length c = search needs
 
 returns : tie.Need-returns
-returns c = search (needs, four-given)
+returns c = search (needs, given-together)
 
 same-length-2 : tie.Need-same-length-2
 same-length-2 c = search needs
@@ -45,11 +36,8 @@ put-four-line-spec =
     tie.close
     (tie.spec
     enum-known-d
-    put-two-requires
-    count-of-requires
-    put-value-requires
-    put-value-requires-2
-    put-newline-requires
+    put-three-requires
+    put-last-requires
     enum-known-d-2
     put-refusal-line-requires
     same-length

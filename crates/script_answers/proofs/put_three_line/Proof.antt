@@ -1,5 +1,5 @@
 -- By the last measure: the numbers, laid one behind another, or the refusal. Assumes nothing.
-use Rattle.script_answers.proofs.Parts.{refused-together, three-given}
+use Rattle.script_answers.proofs.Parts.{given-together, refused-together}
 use borrow.Author.Needs.{needs}
 use Rattle.script_answers.proofs.put_three_line.Statement.{statement}
 use Rattle.script_answers.proofs.put_three_line.Tie as tie
@@ -10,11 +10,8 @@ enum-known-c c = search needs
 put-two-requires : tie.Need-put-two-requires
 put-two-requires c κs = search needs
 
-put-value-requires : tie.Need-put-value-requires
-put-value-requires c κs = search needs
-
-put-newline-requires : tie.Need-put-newline-requires
-put-newline-requires c κs = search needs
+put-last-requires : tie.Need-put-last-requires
+put-last-requires c κs = search needs
 
 enum-known-c-2 : tie.Need-enum-known-c-2
 enum-known-c-2 c = search needs
@@ -26,7 +23,7 @@ same-length : tie.Need-same-length
 same-length c = search needs
 
 returns : tie.Need-returns
-returns c = search (needs, three-given)
+returns c = search (needs, given-together)
 
 same-length-2 : tie.Need-same-length-2
 same-length-2 c = search needs
@@ -40,8 +37,7 @@ put-three-line-spec =
     (tie.spec
     enum-known-c
     put-two-requires
-    put-value-requires
-    put-newline-requires
+    put-last-requires
     enum-known-c-2
     put-refusal-line-requires
     same-length

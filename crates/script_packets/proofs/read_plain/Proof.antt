@@ -1,5 +1,5 @@
 -- What is left is told by what the reader promises of its answer. Assumes nothing.
-use Rattle.script_packets.proofs.Read.{packet-as}
+use Rattle.script_packets.proofs.Lines.{read-as}
 use borrow.Author.Needs.{needs}
 use Rattle.script_packets.proofs.read_plain.Statement.{statement}
 use Rattle.script_packets.proofs.read_plain.Tie as tie
@@ -14,7 +14,7 @@ same-length : tie.Need-same-length
 same-length c = search needs
 
 returns : tie.Need-returns
-returns c = search (needs, packet-as)
+returns c = search (needs, read-as)
 
 pub read-plain-spec : {M : Type 1} → statement M
 read-plain-spec = tie.close (tie.spec parse-requires packet-read-requires same-length returns)

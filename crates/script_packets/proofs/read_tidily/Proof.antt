@@ -1,5 +1,5 @@
 -- What is left is told by what the reader promises of its answer. Assumes nothing.
-use Rattle.script_packets.proofs.Read.{packet-as}
+use Rattle.script_packets.proofs.Lines.{read-as}
 use borrow.Author.Needs.{needs}
 use Rattle.script_packets.proofs.read_tidily.Statement.{statement}
 use Rattle.script_packets.proofs.read_tidily.Tie as tie
@@ -14,7 +14,7 @@ same-length : tie.Need-same-length
 same-length c = search needs
 
 returns : tie.Need-returns
-returns c = search (needs, packet-as)
+returns c = search (needs, read-as)
 
 pub read-tidily-spec : {M : Type 1} → statement M
 read-tidily-spec =

@@ -1,9 +1,14 @@
--- The output is the front of an array of 255 bytes 0xA5. Assumes nothing.
-use mathlib.Core.Path.{refl}
-use borrow.Author.Needs.{needs}
+-- The output is the front of an array of 255 bytes 0xA5, as long as the argument says. Assumes nothing.
 use Rattle.script_answers.proofs.Lent.{front, told-lent}
+use borrow.Author.Needs.{needs}
 use Rattle.script_packets.proofs.write_packet.Statement.{statement}
 use Rattle.script_packets.proofs.write_packet.Tie as tie
+
+byte-at-requires : tie.Need-byte-at-requires
+byte-at-requires c κs = search needs
+
+cast-end : tie.Need-cast-end
+cast-end c = search needs
 
 sub-tell-packet : tie.Need-sub-tell-packet
 sub-tell-packet c = search needs
@@ -21,17 +26,14 @@ same-length : tie.Need-same-length
 same-length c = search needs
 
 returns : tie.Need-returns
-returns c =
-    record {
-      did = told-lent _ _ _ (c .before .before .before .before .before .before .before .args .len) (c .before .before .before .tell-packet .ensures) (front
-          (c .before .before .before .before .before .before .before .args .len) (search needs));
-      says = refl;
-    }
+returns c = search (needs, told-lent, front)
 
 pub write-packet-spec : {M : Type 1} → statement M
 write-packet-spec =
     tie.close
     (tie.spec
+    byte-at-requires
+    cast-end
     sub-tell-packet
     part-lent-start
     part-lent-end

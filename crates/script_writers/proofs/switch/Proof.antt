@@ -4,6 +4,9 @@ use borrow.Author.Needs.{needs}
 use Rattle.script_writers.proofs.switch.Statement.{statement}
 use Rattle.script_writers.proofs.switch.Tie as tie
 
+byte-at-requires : tie.Need-byte-at-requires
+byte-at-requires c κs = search needs
+
 set-output-cea608-padding-requires : tie.Need-set-output-cea608-padding-requires
 set-output-cea608-padding-requires c κs = search needs
 
@@ -17,18 +20,16 @@ same-length : tie.Need-same-length
 same-length c = search needs
 
 returns : tie.Need-returns
-returns c =
-    record {
-      did = did-switch _ _ (c .before .before .before .before .before .before .before .before .args .before) _ _
-          (c .before .before .before .before .before .before .set-output-cea608-padding .ensures) (c .before .before .before .set-output-padding .ensures) _
-          (c .before .before .told-writer .ensures .did);
-      says = search needs;
-    }
+returns c = rw (← c .before .before .before .before .before .before .before .byte-at .ensures) (record {
+  did = did-switch _ _ (c .before .before .before .before .before .before .before .before .before .before .args .before) _ _ (c .before .before .before .before .before .before .set-output-cea608-padding .ensures) (c .before .before .before .set-output-padding .ensures) _ (c .before .before .told-writer .ensures .did);
+  says = search needs;
+})
 
 pub switch-spec : {M : Type 1} → statement M
 switch-spec =
     tie.close
     (tie.spec
+    byte-at-requires
     set-output-cea608-padding-requires
     set-output-padding-requires
     told-writer-requires
