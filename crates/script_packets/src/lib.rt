@@ -12,8 +12,8 @@ ghost use Rattle.script_answers.specs.Script.{answerLine};
 ghost use Rattle.script_answers.specs.Steps.{Runs, Lends, tells, chosen};
 ghost use Rattle.script_answers.specs.Rows.{byte, sought, Asked};
 ghost use Rattle.script_packets.specs.Lines.{packetMeasures, blocksText, blocksIn, heldText, heldLine, readPacketLine};
-ghost use Rattle.script_packets.specs.Packets.{renewsPacket, pushesBlock, pushesRun, pushesSingle, measuresPacket, writesPacket, packetRead};
-ghost use Rattle.script_packets.specs.Packets.{readsPlainly, readsTidily, setsPacket, tellingRows, pushingRows, packetRows};
+ghost use Rattle.script_packets.specs.Packets.{renewsPacket, pushesRun, pushesSingle, measuresPacket, writesPacket, packetRead};
+ghost use Rattle.script_packets.specs.Packets.{setsPacket, tellingRows, pushingRows, packetRows};
 use basics::MOST_BLOCKS;
 use caption::Answer;
 use packet::DTVCCPacket;
@@ -145,13 +145,6 @@ fn packet_pushed(out: &mut [u8], at: usize, pushed: PacketAnswer) -> OnPacket
     }
 }
 
-// A block pushed to the packet.
-fn push_block(out: &mut [u8], at: usize, before: DTVCCPacket, service: Service) -> OnPacket
-    ensures { λ r. ⌜ Runs (pushesBlock service before) (now (out .entry)) at (r .ran) (r .laid) (r .packet) (now (out .exit)) ⌝ }
-{
-    packet_pushed(out, at, before.push_service(service))
-}
-
 // A run pushed to the packet.
 fn push_run(out: &mut [u8], at: usize, before: DTVCCPacket, args: &[u8]) -> OnPacket
     ensures { λ r. ⌜ Runs (pushesRun (byte (now (args .entry)) 0) (drop 1 (now (args .entry))) before) (now (out .entry)) at (r .ran) (r .laid) (r .packet) (now (out .exit)) ⌝ }
@@ -185,20 +178,6 @@ fn packet_read(out: &mut [u8], at: usize, before: DTVCCPacket, read: PacketAnswe
         laid,
         packet,
     }
-}
-
-// A packet read plainly out of bytes, where the call accepts.
-fn read_plain(out: &mut [u8], at: usize, before: DTVCCPacket, bytes: &[u8]) -> OnPacket
-    ensures { λ r. ⌜ Runs (readsPlainly (now (bytes .entry)) before) (now (out .entry)) at (r .ran) (r .laid) (r .packet) (now (out .exit)) ⌝ }
-{
-    packet_read(out, at, before, DTVCCPacket::parse(bytes))
-}
-
-// A packet read tidily out of bytes, where the call accepts.
-fn read_tidily(out: &mut [u8], at: usize, before: DTVCCPacket, bytes: &[u8]) -> OnPacket
-    ensures { λ r. ⌜ Runs (readsTidily (now (bytes .entry)) before) (now (out .entry)) at (r .ran) (r .laid) (r .packet) (now (out .exit)) ⌝ }
-{
-    packet_read(out, at, before, DTVCCPacket::parse_tidy(bytes))
 }
 
 // The packet written to a lent output, which is told whole.
@@ -281,7 +260,7 @@ fn on_packet_pushing(
 {
     let n = args.len();
     if asks(op, b'v', n == 0) {
-        return push_block(out, at, p, s);
+        return packet_pushed(out, at, p.push_service(s));
     }
     if asks(op, b'a', 1 <= n) {
         return push_run(out, at, p, args);
@@ -308,10 +287,10 @@ pub fn on_packet(
         return new_packet(out, at, p, args);
     }
     if asks(op, b'p', true) {
-        return read_plain(out, at, p, args);
+        return packet_read(out, at, p, DTVCCPacket::parse(args));
     }
     if asks(op, b't', true) {
-        return read_tidily(out, at, p, args);
+        return packet_read(out, at, p, DTVCCPacket::parse_tidy(args));
     }
     if asks(op, b'K', n == 2) {
         return set_packet(out, at, p, args);

@@ -11,8 +11,8 @@ ghost use Rattle.program_records.specs.Laid.{Laid};
 ghost use Rattle.script_answers.specs.Script.{answerLine};
 ghost use Rattle.script_answers.specs.Steps.{Runs, tells};
 ghost use Rattle.script_answers.specs.Rows.{byte, sought, Asked};
-ghost use Rattle.script_writers.specs.Writers.{durations, renewsWriter, switches, pushesPacket, pushesPair, wrote, writesFrame, tellsDurations};
-ghost use Rattle.script_writers.specs.Writers.{flushesWriter, setsWriter, tellingRows, pushingRows, writerRows};
+ghost use Rattle.script_writers.specs.Writers.{durations, renewsWriter, switches, pushesPair, wrote, writesFrame, tellsDurations};
+ghost use Rattle.script_writers.specs.Writers.{setsWriter, tellingRows, pushingRows, writerRows};
 use caption::Cea608;
 use caption::Counted;
 use caption::Framerate;
@@ -74,13 +74,6 @@ fn switch(out: &mut [u8], at: usize, before: CCDataWriter, args: &[u8]) -> OnWri
     told_writer(out, at, writer.set_output_padding(bits / 2 % 2 == 1))
 }
 
-// A packet pushed.
-fn push_packet(out: &mut [u8], at: usize, before: CCDataWriter, packet: DTVCCPacket) -> OnWriter
-    ensures { λ r. ⌜ Runs (pushesPacket packet before) (now (out .entry)) at (r .ran) (r .laid) (r .writer) (now (out .exit)) ⌝ }
-{
-    told_writer(out, at, before.push_packet(packet))
-}
-
 // A pair of field 1 pushed.
 fn push_field1(out: &mut [u8], at: usize, before: CCDataWriter, args: &[u8]) -> OnWriter
     ensures { λ r. ⌜ Runs (pushesPair (Field1 (byte (now (args .entry)) 0) (byte (now (args .entry)) 1)) before) (now (out .entry)) at (r .ran) (r .laid) (r .writer) (now (out .exit)) ⌝ }
@@ -95,13 +88,6 @@ fn push_field2(out: &mut [u8], at: usize, before: CCDataWriter, args: &[u8]) -> 
 {
     let pair = Cea608::Field2(byte_at(args, 0), byte_at(args, 1));
     told_writer(out, at, before.push_cea608(pair))
-}
-
-// The multiplexer flushed.
-fn flush_writer(out: &mut [u8], at: usize, before: CCDataWriter) -> OnWriter
-    ensures { λ r. ⌜ Runs (flushesWriter before) (now (out .entry)) at (r .ran) (r .laid) (r .writer) (now (out .exit)) ⌝ }
-{
-    told_writer(out, at, before.flush())
 }
 
 // A frame written to a lent output, which is told whole.
@@ -216,7 +202,7 @@ fn on_writer_pushing(
 {
     let n = args.len();
     if asks(op, b'q', n == 0) {
-        return push_packet(out, at, w, p);
+        return told_writer(out, at, w.push_packet(p));
     }
     if asks(op, b'1', n == 2) {
         return push_field1(out, at, w, args);
@@ -246,7 +232,7 @@ pub fn on_writer(
         return switch(out, at, w, args);
     }
     if asks(op, b'x', n == 0) {
-        return flush_writer(out, at, w);
+        return told_writer(out, at, w.flush());
     }
     if asks(op, b'Q', n == 4) {
         return set_writer(out, at, w, args);
