@@ -8,10 +8,9 @@ ghost use Rattle.service.specs.Service.{blockOf};
 ghost use Rattle.packet.specs.Packet.{validDTVCC, packetOf};
 ghost use Rattle.program_records.specs.Laid.{Laid};
 ghost use Rattle.program_lines.specs.Lines.{blockText};
-ghost use Rattle.script_answers.specs.Script.{answerLine};
 ghost use Rattle.script_answers.specs.Steps.{Runs, Lends, tells, chosen};
 ghost use Rattle.script_answers.specs.Rows.{byte, sought, Asked};
-ghost use Rattle.script_packets.specs.Lines.{packetMeasures, blocksText, blocksIn, heldText, heldLine, readPacketLine};
+ghost use Rattle.script_packets.specs.Lines.{blocksText, blocksIn, heldText, heldLine, readPacketLine};
 ghost use Rattle.script_packets.specs.Packets.{renewsPacket, pushesRun, pushesSingle, measuresPacket, writesPacket, packetRead};
 ghost use Rattle.script_packets.specs.Packets.{setsPacket, tellingRows, pushingRows, packetRows};
 use basics::MOST_BLOCKS;
@@ -31,17 +30,6 @@ pub struct OnPacket {
     pub ran: bool,
     pub laid: usize,
     pub packet: DTVCCPacket,
-}
-
-// The measures of a packet: sequence number, length, room, blocks.
-fn put_packet_measures(out: &mut [u8], at: usize, packet: DTVCCPacket) -> usize
-    ensures { λ r. ⌜ Laid (answerLine (packetMeasures packet)) (now (out .entry)) at r (now (out .exit)) ⌝ }
-{
-    let sequence = packet.sequence_no();
-    let length = packet.len();
-    let room = packet.free_space();
-    let blocks = packet.service_count();
-    script_answers::put_four_line(out, at, sequence, length, room, blocks)
 }
 
 // A block of a packet, as `number:payload`.
@@ -203,11 +191,15 @@ fn set_packet(out: &mut [u8], at: usize, before: DTVCCPacket, args: &[u8]) -> On
     }
 }
 
-// The packet measured.
+// The packet measured: sequence number, length, room, blocks.
 fn measure_packet(out: &mut [u8], at: usize, packet: DTVCCPacket) -> OnPacket
     ensures { λ r. ⌜ Runs (measuresPacket packet) (now (out .entry)) at (r .ran) (r .laid) (r .packet) (now (out .exit)) ⌝ }
 {
-    let laid = put_packet_measures(out, at, packet);
+    let sequence = packet.sequence_no();
+    let length = packet.len();
+    let room = packet.free_space();
+    let blocks = packet.service_count();
+    let laid = script_answers::put_four_line(out, at, sequence, length, room, blocks);
     OnPacket {
         ran: true,
         laid,

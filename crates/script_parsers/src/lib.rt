@@ -8,7 +8,7 @@ ghost use Rattle.program_records.specs.Laid.{Laid};
 ghost use Rattle.program_records.specs.Text.{word};
 ghost use Rattle.program_lines.specs.Lines.{pairText};
 ghost use Rattle.script_answers.specs.Steps.{Runs, tells};
-ghost use Rattle.script_answers.specs.Rows.{byte, sought, Asked};
+ghost use Rattle.script_answers.specs.Rows.{sought, Asked};
 ghost use Rattle.script_packets.specs.Lines.{heldText};
 ghost use Rattle.script_parsers.specs.Lines.{itemLine};
 ghost use Rattle.script_parsers.specs.Parsers.{renewsParser, draws, setsParser, streamingRows, parserRows};
@@ -104,7 +104,7 @@ fn new_parser(out: &mut [u8], at: usize) -> OnParser
 
 // The three counts of the demultiplexer set, whatever they break.
 fn set_parser(out: &mut [u8], at: usize, before: CCDataParser, args: &[u8]) -> OnParser
-    ensures { λ r. ⌜ Runs (setsParser (byte (now (args .entry)) 0) (byte (now (args .entry)) 1) (byte (now (args .entry)) 2) before) (now (out .entry)) at (r .ran) (r .laid) (r .parser) (now (out .exit)) ⌝ }
+    ensures { λ r. ⌜ Runs (setsParser (now (args .entry)) before) (now (out .entry)) at (r .ran) (r .laid) (r .parser) (now (out .exit)) ⌝ }
 {
     let mut parser = before;
     parser.pair_count = byte_at(args, 0) as usize;
