@@ -5,10 +5,9 @@ ghost use Rattle.model.specs.Block.{writtenBlock};
 ghost use Rattle.caption.specs.Answers.{saidAnswer, saidCounted, saidTruth};
 ghost use Rattle.service.specs.Service.{validService, blockOf};
 ghost use Rattle.program_text.specs.Laid.{Laid};
-ghost use Rattle.script_answers.specs.Script.{answerLine};
 ghost use Rattle.script_answers.specs.Steps.{Runs, Lends, chosen};
 ghost use Rattle.script_answers.specs.Rows.{byte, sought, Asked};
-ghost use Rattle.script_blocks.specs.Lines.{blockMeasures, blockLine, readBlockLine};
+ghost use Rattle.script_blocks.specs.Lines.{blockLine, readBlockLine};
 ghost use Rattle.script_blocks.specs.Blocks.{renewsBlock, pushesToBlock, measuresBlock, writesBlock, readsBlock, tellsPart, setsBlock, tellingRows, blockRows};
 use caption::Answer;
 use caption::Counted;
@@ -39,17 +38,6 @@ fn truth_count(truth: Truth) -> Counted
         }
         Truth::Refused(why) => Counted::Refused(why),
     }
-}
-
-// The measures of a block: number, length, room, 1 if it is empty.
-fn put_block_measures(out: &mut [u8], at: usize, service: Service) -> usize
-    ensures { λ r. ⌜ Laid (answerLine (blockMeasures service)) (now (out .entry)) at r (now (out .exit)) ⌝ }
-{
-    let number = service.number();
-    let length = service.len();
-    let room = service.free_space();
-    let empty = truth_count(service.is_empty());
-    script_answers::put_four_line(out, at, number, length, room, empty)
 }
 
 // A block that was read: its number and its payload.
@@ -158,11 +146,15 @@ fn set_block(out: &mut [u8], at: usize, before: Service, args: &[u8]) -> OnBlock
     }
 }
 
-// The block measured.
+// The block measured: number, length, room, 1 if it is empty.
 fn measure_block(out: &mut [u8], at: usize, service: Service) -> OnBlock
     ensures { λ r. ⌜ Runs (measuresBlock service) (now (out .entry)) at (r .ran) (r .laid) (r .service) (now (out .exit)) ⌝ }
 {
-    let laid = put_block_measures(out, at, service);
+    let number = service.number();
+    let length = service.len();
+    let room = service.free_space();
+    let empty = truth_count(service.is_empty());
+    let laid = script_answers::put_four_line(out, at, number, length, room, empty);
     OnBlock {
         ran: true,
         laid,

@@ -8,12 +8,11 @@ ghost use Rattle.service.specs.Service.{blockOf};
 ghost use Rattle.packet.specs.Packet.{validDTVCC, packetOf};
 ghost use Rattle.program_text.specs.Laid.{Laid};
 ghost use Rattle.program_lines.specs.Lines.{blockText};
-ghost use Rattle.script_answers.specs.Script.{answerLine};
 ghost use Rattle.script_answers.specs.Steps.{Runs, Lends, tells, chosen};
 ghost use Rattle.script_answers.specs.Rows.{byte, sought, Asked};
-ghost use Rattle.script_packets.specs.Lines.{packetMeasures, blocksText, blocksIn, heldText, heldLine, readPacketLine};
-ghost use Rattle.script_packets.specs.Packets.{renewsPacket, pushesBlock, pushesRun, pushesSingle, measuresPacket, writesPacket, packetRead};
-ghost use Rattle.script_packets.specs.Packets.{readsPlainly, readsTidily, setsPacket, tellingRows, pushingRows, packetRows};
+ghost use Rattle.script_packets.specs.Lines.{blocksText, blocksIn, heldText, heldLine, readPacketLine};
+ghost use Rattle.script_packets.specs.Packets.{renewsPacket, pushesRun, pushesSingle, measuresPacket, writesPacket, packetRead};
+ghost use Rattle.script_packets.specs.Packets.{setsPacket, tellingRows, pushingRows, packetRows};
 use basics::MOST_BLOCKS;
 use caption::Answer;
 use packet::DTVCCPacket;
@@ -31,17 +30,6 @@ pub struct OnPacket {
     pub ran: bool,
     pub laid: usize,
     pub packet: DTVCCPacket,
-}
-
-// The measures of a packet: sequence number, length, room, blocks.
-fn put_packet_measures(out: &mut [u8], at: usize, packet: DTVCCPacket) -> usize
-    ensures { λ r. ⌜ Laid (answerLine (packetMeasures packet)) (now (out .entry)) at r (now (out .exit)) ⌝ }
-{
-    let sequence = packet.sequence_no();
-    let length = packet.len();
-    let room = packet.free_space();
-    let blocks = packet.service_count();
-    script_answers::put_four_line(out, at, sequence, length, room, blocks)
 }
 
 // A block of a packet, as `number:payload`.
@@ -145,13 +133,6 @@ fn packet_pushed(out: &mut [u8], at: usize, pushed: PacketAnswer) -> OnPacket
     }
 }
 
-// A block pushed to the packet.
-fn push_block(out: &mut [u8], at: usize, before: DTVCCPacket, service: Service) -> OnPacket
-    ensures { λ r. ⌜ Runs (pushesBlock service before) (now (out .entry)) at (r .ran) (r .laid) (r .packet) (now (out .exit)) ⌝ }
-{
-    packet_pushed(out, at, before.push_service(service))
-}
-
 // A run pushed to the packet.
 fn push_run(out: &mut [u8], at: usize, before: DTVCCPacket, args: &[u8]) -> OnPacket
     ensures { λ r. ⌜ Runs (pushesRun (byte (now (args .entry)) 0) (drop 1 (now (args .entry))) before) (now (out .entry)) at (r .ran) (r .laid) (r .packet) (now (out .exit)) ⌝ }
@@ -187,20 +168,6 @@ fn packet_read(out: &mut [u8], at: usize, before: DTVCCPacket, read: PacketAnswe
     }
 }
 
-// A packet read plainly out of bytes, where the call accepts.
-fn read_plain(out: &mut [u8], at: usize, before: DTVCCPacket, bytes: &[u8]) -> OnPacket
-    ensures { λ r. ⌜ Runs (readsPlainly (now (bytes .entry)) before) (now (out .entry)) at (r .ran) (r .laid) (r .packet) (now (out .exit)) ⌝ }
-{
-    packet_read(out, at, before, DTVCCPacket::parse(bytes))
-}
-
-// A packet read tidily out of bytes, where the call accepts.
-fn read_tidily(out: &mut [u8], at: usize, before: DTVCCPacket, bytes: &[u8]) -> OnPacket
-    ensures { λ r. ⌜ Runs (readsTidily (now (bytes .entry)) before) (now (out .entry)) at (r .ran) (r .laid) (r .packet) (now (out .exit)) ⌝ }
-{
-    packet_read(out, at, before, DTVCCPacket::parse_tidy(bytes))
-}
-
 // The packet written to a lent output, which is told whole.
 fn tell_packet(out: &mut [u8], at: usize, held: DTVCCPacket, lent: &mut [u8]) -> usize
     ensures { λ r. ⌜ Lends (validDTVCC held) (writtenPacket (packetOf held)) (now (lent .entry)) (now (lent .exit)) (now (out .entry)) at r (now (out .exit)) ⌝ }
@@ -224,11 +191,15 @@ fn set_packet(out: &mut [u8], at: usize, before: DTVCCPacket, args: &[u8]) -> On
     }
 }
 
-// The packet measured.
+// The packet measured: sequence number, length, room, blocks.
 fn measure_packet(out: &mut [u8], at: usize, packet: DTVCCPacket) -> OnPacket
     ensures { λ r. ⌜ Runs (measuresPacket packet) (now (out .entry)) at (r .ran) (r .laid) (r .packet) (now (out .exit)) ⌝ }
 {
-    let laid = put_packet_measures(out, at, packet);
+    let sequence = packet.sequence_no();
+    let length = packet.len();
+    let room = packet.free_space();
+    let blocks = packet.service_count();
+    let laid = script_answers::put_four_line(out, at, sequence, length, room, blocks);
     OnPacket {
         ran: true,
         laid,
@@ -281,7 +252,7 @@ fn on_packet_pushing(
 {
     let n = args.len();
     if asks(op, b'v', n == 0) {
-        return push_block(out, at, p, s);
+        return packet_pushed(out, at, p.push_service(s));
     }
     if asks(op, b'a', 1 <= n) {
         return push_run(out, at, p, args);
@@ -308,10 +279,10 @@ pub fn on_packet(
         return new_packet(out, at, p, args);
     }
     if asks(op, b'p', true) {
-        return read_plain(out, at, p, args);
+        return packet_read(out, at, p, DTVCCPacket::parse(args));
     }
     if asks(op, b't', true) {
-        return read_tidily(out, at, p, args);
+        return packet_read(out, at, p, DTVCCPacket::parse_tidy(args));
     }
     if asks(op, b'K', n == 2) {
         return set_packet(out, at, p, args);

@@ -44,18 +44,18 @@ draws r =
 abbrev pub flushesParser : CCDataParser → Effect CCDataParser
 flushesParser r = calls (λ _. fresh) r (quiet (flushDemux (means r)))
 
--- its three counts, whatever they break
-abbrev pub setsParser : ℕ → ℕ → ℕ → CCDataParser → Effect CCDataParser
-setsParser pairs pending waiting r =
+-- its three counts, a byte each, whatever they break
+abbrev pub setsParser : List ℕ → CCDataParser → Effect CCDataParser
+setsParser a r =
     becomes
     (record {
       «cea608_on» = r .«cea608_on»;
-      «pair_count» = pairs;
+      «pair_count» = byte a 0;
       pairs = r .pairs;
-      «pending_len» = pending;
+      «pending_len» = byte a 1;
       pending = r .pending;
       «waiting_first» = r .«waiting_first»;
-      «waiting_count» = waiting;
+      «waiting_count» = byte a 2;
       waiting = r .waiting;
     })
 
@@ -72,5 +72,5 @@ parserRows r =
     row "R" (exactly 0) (λ a. renewsParser)
     ∷ row "H" (exactly 0) (λ a. turnsOn r)
     ∷ row "F" (exactly 0) (λ a. flushesParser r)
-    ∷ row "D" (exactly 3) (λ a. setsParser (byte a 0) (byte a 1) (byte a 2) r)
+    ∷ row "D" (exactly 3) (λ a. setsParser a r)
     ∷ streamingRows r

@@ -8,10 +8,10 @@ ghost use Rattle.program_text.specs.Laid.{Laid};
 ghost use Rattle.program_text.specs.Text.{word};
 ghost use Rattle.program_lines.specs.Lines.{pairText};
 ghost use Rattle.script_answers.specs.Steps.{Runs, tells};
-ghost use Rattle.script_answers.specs.Rows.{byte, sought, Asked};
+ghost use Rattle.script_answers.specs.Rows.{sought, Asked};
 ghost use Rattle.script_packets.specs.Lines.{heldText};
 ghost use Rattle.script_parsers.specs.Lines.{itemLine};
-ghost use Rattle.script_parsers.specs.Parsers.{renewsParser, turnsOn, pushesFrame, draws, flushesParser, setsParser, streamingRows, parserRows};
+ghost use Rattle.script_parsers.specs.Parsers.{renewsParser, draws, setsParser, streamingRows, parserRows};
 use caption::Cea608;
 use packet::DTVCCPacket;
 use parser::CCDataParser;
@@ -73,27 +73,6 @@ fn told_parser(out: &mut [u8], at: usize, done: ParserAnswer) -> OnParser
     }
 }
 
-// A frame pushed.
-fn push_frame(out: &mut [u8], at: usize, before: CCDataParser, frame: &[u8]) -> OnParser
-    ensures { λ r. ⌜ Runs (pushesFrame (now (frame .entry)) before) (now (out .entry)) at (r .ran) (r .laid) (r .parser) (now (out .exit)) ⌝ }
-{
-    told_parser(out, at, before.push(frame))
-}
-
-// 608 turned on.
-fn turn_on(out: &mut [u8], at: usize, before: CCDataParser) -> OnParser
-    ensures { λ r. ⌜ Runs (turnsOn before) (now (out .entry)) at (r .ran) (r .laid) (r .parser) (now (out .exit)) ⌝ }
-{
-    told_parser(out, at, before.handle_cea608())
-}
-
-// The demultiplexer flushed.
-fn flush_parser(out: &mut [u8], at: usize, before: CCDataParser) -> OnParser
-    ensures { λ r. ⌜ Runs (flushesParser before) (now (out .entry)) at (r .ran) (r .laid) (r .parser) (now (out .exit)) ⌝ }
-{
-    told_parser(out, at, before.flush())
-}
-
 // One item drawn.
 fn draw(out: &mut [u8], at: usize, before: CCDataParser) -> OnParser
     ensures { λ r. ⌜ Runs (draws before) (now (out .entry)) at (r .ran) (r .laid) (r .parser) (now (out .exit)) ⌝ }
@@ -125,7 +104,7 @@ fn new_parser(out: &mut [u8], at: usize) -> OnParser
 
 // The three counts of the demultiplexer set, whatever they break.
 fn set_parser(out: &mut [u8], at: usize, before: CCDataParser, args: &[u8]) -> OnParser
-    ensures { λ r. ⌜ Runs (setsParser (byte (now (args .entry)) 0) (byte (now (args .entry)) 1) (byte (now (args .entry)) 2) before) (now (out .entry)) at (r .ran) (r .laid) (r .parser) (now (out .exit)) ⌝ }
+    ensures { λ r. ⌜ Runs (setsParser (now (args .entry)) before) (now (out .entry)) at (r .ran) (r .laid) (r .parser) (now (out .exit)) ⌝ }
 {
     let mut parser = before;
     parser.pair_count = byte_at(args, 0) as usize;
@@ -145,7 +124,7 @@ fn on_parser_streaming(out: &mut [u8], at: usize, r: CCDataParser, op: u8, args:
 {
     let n = args.len();
     if asks(op, b'f', true) {
-        return push_frame(out, at, r, args);
+        return told_parser(out, at, r.push(args));
     }
     if asks(op, b'n', n == 0) {
         return draw(out, at, r);
@@ -166,10 +145,10 @@ pub fn on_parser(out: &mut [u8], at: usize, r: CCDataParser, op: u8, args: &[u8]
         return new_parser(out, at);
     }
     if asks(op, b'H', n == 0) {
-        return turn_on(out, at, r);
+        return told_parser(out, at, r.handle_cea608());
     }
     if asks(op, b'F', n == 0) {
-        return flush_parser(out, at, r);
+        return told_parser(out, at, r.flush());
     }
     if asks(op, b'D', n == 3) {
         return set_parser(out, at, r, args);

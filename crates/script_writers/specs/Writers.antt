@@ -1,5 +1,5 @@
 -- The operations of a script on its multiplexer, to which its packet can be pushed: what each does, and their rows. Assumes nothing.
-use mathlib.Core.Bool.{Bool, _&&_}
+use mathlib.Core.Bool.{_&&_}
 use mathlib.Core.List.{List, [], _∷_}
 use Prim.Native.Nat.{ℕ, _/_, _%_}
 use lib.Dec.{eqb}
@@ -26,9 +26,10 @@ use Rattle.script_answers.specs.Rows.{Row, row, exactly, byte}
 abbrev pub renewsWriter : Effect CCDataWriter
 renewsWriter = becomes fresh
 
--- its two switches: the 608 padding, and the output padding
-abbrev pub switches : Bool → Bool → CCDataWriter → Effect CCDataWriter
-switches pairs output w = lays stored w (checked (validWriter w) (gave (withPads pairs output (means w))))
+-- its two switches: the 608 padding by bit 0, and the output padding by bit 1
+abbrev pub switches : List ℕ → CCDataWriter → Effect CCDataWriter
+switches a w =
+    lays stored w (checked (validWriter w) (gave (withPads (eqb (byte a 0 % 2) 1) (eqb (byte a 0 / 2 % 2) 1) (means w))))
 
 -- a packet pushed
 abbrev pub pushesPacket : DTVCCPacket → CCDataWriter → Effect CCDataWriter
@@ -63,19 +64,19 @@ tellsDurations w = stays w (answerLine (durations w))
 abbrev pub flushesWriter : CCDataWriter → Effect CCDataWriter
 flushesWriter w = lays emptied w (checked (validWriter w) (gave (flushMux (means w))))
 
--- its three counts, and how many bytes of the packet being sent have left, whatever they break
-abbrev pub setsWriter : ℕ → ℕ → ℕ → ℕ → CCDataWriter → Effect CCDataWriter
-setsWriter packets sent count1 count2 w =
+-- its three counts and, behind the first of them, how many bytes of the packet being sent have left, whatever they break
+abbrev pub setsWriter : List ℕ → CCDataWriter → Effect CCDataWriter
+setsWriter a w =
     becomes
     (record {
       «output_cea608_padding» = w .«output_cea608_padding»;
       «output_padding» = w .«output_padding»;
-      «packet_count» = packets;
+      «packet_count» = byte a 0;
       packets = w .packets;
       sending = w .sending;
-      sent = sent;
-      field1 = record { bytes = w .field1 .bytes; count = count1 };
-      field2 = record { bytes = w .field2 .bytes; count = count2 };
+      sent = byte a 1;
+      field1 = record { bytes = w .field1 .bytes; count = byte a 2 };
+      field2 = record { bytes = w .field2 .bytes; count = byte a 3 };
       «field2_next» = w .«field2_next»;
     })
 
@@ -98,7 +99,7 @@ pushingRows p w =
 unfoldable pub writerRows : DTVCCPacket → CCDataWriter → List (Row CCDataWriter)
 writerRows p w =
     row "W" (exactly 0) (λ a. renewsWriter)
-    ∷ row "S" (exactly 1) (λ a. switches (eqb (byte a 0 % 2) 1) (eqb (byte a 0 / 2 % 2) 1) w)
+    ∷ row "S" (exactly 1) (λ a. switches a w)
     ∷ row "x" (exactly 0) (λ a. flushesWriter w)
-    ∷ row "Q" (exactly 4) (λ a. setsWriter (byte a 0) (byte a 1) (byte a 2) (byte a 3) w)
+    ∷ row "Q" (exactly 4) (λ a. setsWriter a w)
     ∷ pushingRows p w

@@ -1,18 +1,14 @@
 // The operations of a script, by their letters, on its multiplexer: each makes one call, lays the line that tells of it into a lent buffer from a
 // place on, and answers the place behind the line beside what the call leaves.
 ghost use mathlib.Core.Path.{_≡_};
-ghost use Prim.Native.Nat.{_/_, _%_};
-ghost use lib.Dec.{eqb};
 ghost use Rattle.model.specs.Said.{mapped, after};
 ghost use Rattle.caption.specs.declared.Cea608.the-variants.{Field1, Field2};
 ghost use Rattle.caption.specs.Answers.{saidAnswer, saidCounted};
 ghost use Rattle.writer.specs.Calls.{written, saidMicros};
-ghost use Rattle.program_text.specs.Laid.{Laid};
-ghost use Rattle.script_answers.specs.Script.{answerLine};
 ghost use Rattle.script_answers.specs.Steps.{Runs, tells};
 ghost use Rattle.script_answers.specs.Rows.{byte, sought, Asked};
-ghost use Rattle.script_writers.specs.Writers.{durations, renewsWriter, switches, pushesPacket, pushesPair, wrote, writesFrame, tellsDurations};
-ghost use Rattle.script_writers.specs.Writers.{flushesWriter, setsWriter, tellingRows, pushingRows, writerRows};
+ghost use Rattle.script_writers.specs.Writers.{renewsWriter, switches, pushesPair, wrote, writesFrame, tellsDurations};
+ghost use Rattle.script_writers.specs.Writers.{setsWriter, tellingRows, pushingRows, writerRows};
 use caption::Cea608;
 use caption::Counted;
 use caption::Framerate;
@@ -40,16 +36,6 @@ fn micros_count(micros: Micros) -> Counted
     }
 }
 
-// The durations of a multiplexer: field 1, field 2, packets.
-fn put_durations(out: &mut [u8], at: usize, writer: CCDataWriter) -> usize
-    ensures { λ r. ⌜ Laid (answerLine (durations writer)) (now (out .entry)) at r (now (out .exit)) ⌝ }
-{
-    let field1 = micros_count(writer.buffered_cea608_field1_duration());
-    let field2 = micros_count(writer.buffered_cea608_field2_duration());
-    let packets = micros_count(writer.buffered_packet_duration());
-    script_answers::put_three_line(out, at, field1, field2, packets)
-}
-
 // What a call leaves of a multiplexer.
 fn told_writer(out: &mut [u8], at: usize, done: WriterAnswer) -> OnWriter
     ensures { λ r. ⌜ Runs (tells (saidAnswer (done .answer)) (done .writer)) (now (out .entry)) at (r .ran) (r .laid) (r .writer) (now (out .exit)) ⌝ }
@@ -66,19 +52,12 @@ fn told_writer(out: &mut [u8], at: usize, done: WriterAnswer) -> OnWriter
 
 // The two switches set, by two bits.
 fn switch(out: &mut [u8], at: usize, before: CCDataWriter, args: &[u8]) -> OnWriter
-    ensures { λ r. ⌜ Runs (switches (eqb (byte (now (args .entry)) 0 % 2) 1) (eqb (byte (now (args .entry)) 0 / 2 % 2) 1) before) (now (out .entry)) at (r .ran) (r .laid) (r .writer) (now (out .exit)) ⌝ }
+    ensures { λ r. ⌜ Runs (switches (now (args .entry)) before) (now (out .entry)) at (r .ran) (r .laid) (r .writer) (now (out .exit)) ⌝ }
 {
     let bits = byte_at(args, 0);
     let first = before.set_output_cea608_padding(bits % 2 == 1);
     let writer = first.writer;
     told_writer(out, at, writer.set_output_padding(bits / 2 % 2 == 1))
-}
-
-// A packet pushed.
-fn push_packet(out: &mut [u8], at: usize, before: CCDataWriter, packet: DTVCCPacket) -> OnWriter
-    ensures { λ r. ⌜ Runs (pushesPacket packet before) (now (out .entry)) at (r .ran) (r .laid) (r .writer) (now (out .exit)) ⌝ }
-{
-    told_writer(out, at, before.push_packet(packet))
 }
 
 // A pair of field 1 pushed.
@@ -95,13 +74,6 @@ fn push_field2(out: &mut [u8], at: usize, before: CCDataWriter, args: &[u8]) -> 
 {
     let pair = Cea608::Field2(byte_at(args, 0), byte_at(args, 1));
     told_writer(out, at, before.push_cea608(pair))
-}
-
-// The multiplexer flushed.
-fn flush_writer(out: &mut [u8], at: usize, before: CCDataWriter) -> OnWriter
-    ensures { λ r. ⌜ Runs (flushesWriter before) (now (out .entry)) at (r .ran) (r .laid) (r .writer) (now (out .exit)) ⌝ }
-{
-    told_writer(out, at, before.flush())
 }
 
 // A frame written to a lent output, which is told whole.
@@ -141,7 +113,7 @@ fn new_writer(out: &mut [u8], at: usize) -> OnWriter
 
 // The three counts of the multiplexer set, and how many bytes of the packet being sent have left, whatever they break.
 fn set_writer(out: &mut [u8], at: usize, before: CCDataWriter, args: &[u8]) -> OnWriter
-    ensures { λ r. ⌜ Runs (setsWriter (byte (now (args .entry)) 0) (byte (now (args .entry)) 1) (byte (now (args .entry)) 2) (byte (now (args .entry)) 3) before) (now (out .entry)) at (r .ran) (r .laid) (r .writer) (now (out .exit)) ⌝ }
+    ensures { λ r. ⌜ Runs (setsWriter (now (args .entry)) before) (now (out .entry)) at (r .ran) (r .laid) (r .writer) (now (out .exit)) ⌝ }
 {
     let mut field1 = before.field1;
     field1.count = byte_at(args, 2) as usize;
@@ -173,11 +145,14 @@ fn write_frame(out: &mut [u8], at: usize, w: CCDataWriter, args: &[u8]) -> OnWri
     tell_frame(out, at, w, rate, &mut lent[0..end])
 }
 
-// The durations told.
+// The durations of the multiplexer: field 1, field 2, packets.
 fn tell_durations(out: &mut [u8], at: usize, writer: CCDataWriter) -> OnWriter
     ensures { λ r. ⌜ Runs (tellsDurations writer) (now (out .entry)) at (r .ran) (r .laid) (r .writer) (now (out .exit)) ⌝ }
 {
-    let laid = put_durations(out, at, writer);
+    let field1 = micros_count(writer.buffered_cea608_field1_duration());
+    let field2 = micros_count(writer.buffered_cea608_field2_duration());
+    let packets = micros_count(writer.buffered_packet_duration());
+    let laid = script_answers::put_three_line(out, at, field1, field2, packets);
     OnWriter {
         ran: true,
         laid,
@@ -216,7 +191,7 @@ fn on_writer_pushing(
 {
     let n = args.len();
     if asks(op, b'q', n == 0) {
-        return push_packet(out, at, w, p);
+        return told_writer(out, at, w.push_packet(p));
     }
     if asks(op, b'1', n == 2) {
         return push_field1(out, at, w, args);
@@ -246,7 +221,7 @@ pub fn on_writer(
         return switch(out, at, w, args);
     }
     if asks(op, b'x', n == 0) {
-        return flush_writer(out, at, w);
+        return told_writer(out, at, w.flush());
     }
     if asks(op, b'Q', n == 4) {
         return set_writer(out, at, w, args);

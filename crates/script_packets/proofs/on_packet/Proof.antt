@@ -1,5 +1,6 @@
 -- Down the rows, to the one that is asked for or to those behind them. Assumes nothing.
 use Rattle.script_answers.proofs.Rows.{passes, finds}
+use Rattle.script_packets.proofs.Lines.{read-as}
 use Rattle.script_packets.specs.Packets.{packetRows}
 use borrow.Author.Needs.{needs}
 use Rattle.script_packets.proofs.on_packet.Statement.{statement}
@@ -21,28 +22,34 @@ returns c = search (needs, passes, finds)
 asks-requires-2 : tie.Need-asks-requires-2
 asks-requires-2 c κs = search needs
 
-read-plain-requires : tie.Need-read-plain-requires
-read-plain-requires c κs = search needs
+parse-requires : tie.Need-parse-requires
+parse-requires c κs = search needs
+
+packet-read-requires : tie.Need-packet-read-requires
+packet-read-requires c κs = search needs
 
 same-length-2 : tie.Need-same-length-2
 same-length-2 c = search needs
 
 returns-2 : tie.Need-returns-2
 unfolding packetRows
-returns-2 c = search (needs, passes, finds)
+returns-2 c = search (needs, passes, finds, read-as) depth 9
 
 asks-requires-3 : tie.Need-asks-requires-3
 asks-requires-3 c κs = search needs
 
-read-tidily-requires : tie.Need-read-tidily-requires
-read-tidily-requires c κs = search needs
+parse-tidy-requires : tie.Need-parse-tidy-requires
+parse-tidy-requires c κs = search needs
+
+packet-read-requires-2 : tie.Need-packet-read-requires-2
+packet-read-requires-2 c κs = search needs
 
 same-length-3 : tie.Need-same-length-3
 same-length-3 c = search needs
 
 returns-3 : tie.Need-returns-3
 unfolding packetRows
-returns-3 c = search (needs, passes, finds)
+returns-3 c = search (needs, passes, finds, read-as) depth 9
 
 asks-requires-4 : tie.Need-asks-requires-4
 asks-requires-4 c κs = search needs
@@ -76,11 +83,13 @@ on-packet-spec =
     same-length
     returns
     asks-requires-2
-    read-plain-requires
+    parse-requires
+    packet-read-requires
     same-length-2
     returns-2
     asks-requires-3
-    read-tidily-requires
+    parse-tidy-requires
+    packet-read-requires-2
     same-length-3
     returns-3
     asks-requires-4

@@ -1,5 +1,6 @@
 -- Down the rows, to the one that is asked for or to those behind them. Assumes nothing.
 use Rattle.script_answers.proofs.Rows.{passes, finds}
+use Rattle.script_answers.proofs.Steps.{did-as}
 use Rattle.script_packets.specs.Packets.{pushingRows}
 use borrow.Author.Needs.{needs}
 use Rattle.script_packets.proofs.on_packet_pushing.Statement.{statement}
@@ -8,15 +9,18 @@ use Rattle.script_packets.proofs.on_packet_pushing.Tie as tie
 asks-requires : tie.Need-asks-requires
 asks-requires c κs = search needs
 
-push-block-requires : tie.Need-push-block-requires
-push-block-requires c κs = search needs
+push-service-requires : tie.Need-push-service-requires
+push-service-requires c κs = search needs
+
+packet-pushed-requires : tie.Need-packet-pushed-requires
+packet-pushed-requires c κs = search needs
 
 same-length : tie.Need-same-length
 same-length c = search needs
 
 returns : tie.Need-returns
 unfolding pushingRows
-returns c = search (needs, passes, finds)
+returns c = search (needs, passes, finds, did-as) depth 9
 
 asks-requires-2 : tie.Need-asks-requires-2
 asks-requires-2 c κs = search needs
@@ -59,7 +63,8 @@ on-packet-pushing-spec =
     tie.close
     (tie.spec
     asks-requires
-    push-block-requires
+    push-service-requires
+    packet-pushed-requires
     same-length
     returns
     asks-requires-2

@@ -1,5 +1,6 @@
 -- Down the rows, to the one that is asked for or to those behind them. Assumes nothing.
 use Rattle.script_answers.proofs.Rows.{passes, finds}
+use Rattle.script_answers.proofs.Steps.{did-as}
 use Rattle.script_parsers.specs.Parsers.{parserRows}
 use borrow.Author.Needs.{needs}
 use Rattle.script_parsers.proofs.on_parser.Statement.{statement}
@@ -21,28 +22,34 @@ returns c = search (needs, passes, finds)
 asks-requires-2 : tie.Need-asks-requires-2
 asks-requires-2 c κs = search needs
 
-turn-on-requires : tie.Need-turn-on-requires
-turn-on-requires c κs = search needs
+handle-cea608-requires : tie.Need-handle-cea608-requires
+handle-cea608-requires c κs = search needs
+
+told-parser-requires : tie.Need-told-parser-requires
+told-parser-requires c κs = search needs
 
 same-length-2 : tie.Need-same-length-2
 same-length-2 c = search needs
 
 returns-2 : tie.Need-returns-2
 unfolding parserRows
-returns-2 c = search (needs, passes, finds)
+returns-2 c = search (needs, passes, finds, did-as) depth 9
 
 asks-requires-3 : tie.Need-asks-requires-3
 asks-requires-3 c κs = search needs
 
-flush-parser-requires : tie.Need-flush-parser-requires
-flush-parser-requires c κs = search needs
+flush-requires : tie.Need-flush-requires
+flush-requires c κs = search needs
+
+told-parser-requires-2 : tie.Need-told-parser-requires-2
+told-parser-requires-2 c κs = search needs
 
 same-length-3 : tie.Need-same-length-3
 same-length-3 c = search needs
 
 returns-3 : tie.Need-returns-3
 unfolding parserRows
-returns-3 c = search (needs, passes, finds)
+returns-3 c = search (needs, passes, finds, did-as) depth 9
 
 asks-requires-4 : tie.Need-asks-requires-4
 asks-requires-4 c κs = search needs
@@ -76,11 +83,13 @@ on-parser-spec =
     same-length
     returns
     asks-requires-2
-    turn-on-requires
+    handle-cea608-requires
+    told-parser-requires
     same-length-2
     returns-2
     asks-requires-3
-    flush-parser-requires
+    flush-requires
+    told-parser-requires-2
     same-length-3
     returns-3
     asks-requires-4

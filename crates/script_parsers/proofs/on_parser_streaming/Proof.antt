@@ -1,5 +1,6 @@
 -- Down the rows, to the one that is asked for or to the end. Assumes nothing.
 use Rattle.script_answers.proofs.Rows.{passes, finds, ends}
+use Rattle.script_answers.proofs.Steps.{did-as}
 use Rattle.script_parsers.specs.Parsers.{streamingRows}
 use borrow.Author.Needs.{needs}
 use Rattle.script_parsers.proofs.on_parser_streaming.Statement.{statement}
@@ -8,15 +9,18 @@ use Rattle.script_parsers.proofs.on_parser_streaming.Tie as tie
 asks-requires : tie.Need-asks-requires
 asks-requires c κs = search needs
 
-push-frame-requires : tie.Need-push-frame-requires
-push-frame-requires c κs = search needs
+push-requires : tie.Need-push-requires
+push-requires c κs = search needs
+
+told-parser-requires : tie.Need-told-parser-requires
+told-parser-requires c κs = search needs
 
 same-length : tie.Need-same-length
 same-length c = search needs
 
 returns : tie.Need-returns
 unfolding streamingRows
-returns c = search (needs, passes, finds)
+returns c = search (needs, passes, finds, did-as) depth 9
 
 asks-requires-2 : tie.Need-asks-requires-2
 asks-requires-2 c κs = search needs
@@ -40,7 +44,8 @@ on-parser-streaming-spec =
     tie.close
     (tie.spec
     asks-requires
-    push-frame-requires
+    push-requires
+    told-parser-requires
     same-length
     returns
     asks-requires-2

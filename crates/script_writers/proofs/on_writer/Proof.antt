@@ -1,5 +1,6 @@
 -- Down the rows, to the one that is asked for or to those behind them. Assumes nothing.
 use Rattle.script_answers.proofs.Rows.{passes, finds}
+use Rattle.script_answers.proofs.Steps.{did-as}
 use Rattle.script_writers.specs.Writers.{writerRows}
 use borrow.Author.Needs.{needs}
 use Rattle.script_writers.proofs.on_writer.Statement.{statement}
@@ -34,15 +35,18 @@ returns-2 c = search (needs, passes, finds)
 asks-requires-3 : tie.Need-asks-requires-3
 asks-requires-3 c κs = search needs
 
-flush-writer-requires : tie.Need-flush-writer-requires
-flush-writer-requires c κs = search needs
+flush-requires : tie.Need-flush-requires
+flush-requires c κs = search needs
+
+told-writer-requires : tie.Need-told-writer-requires
+told-writer-requires c κs = search needs
 
 same-length-3 : tie.Need-same-length-3
 same-length-3 c = search needs
 
 returns-3 : tie.Need-returns-3
 unfolding writerRows
-returns-3 c = search (needs, passes, finds)
+returns-3 c = search (needs, passes, finds, did-as) depth 9
 
 asks-requires-4 : tie.Need-asks-requires-4
 asks-requires-4 c κs = search needs
@@ -80,7 +84,8 @@ on-writer-spec =
     same-length-2
     returns-2
     asks-requires-3
-    flush-writer-requires
+    flush-requires
+    told-writer-requires
     same-length-3
     returns-3
     asks-requires-4

@@ -1,5 +1,6 @@
 -- Down the rows, to the one that is asked for or to those behind them. Assumes nothing.
 use Rattle.script_answers.proofs.Rows.{passes, finds}
+use Rattle.script_answers.proofs.Steps.{did-as}
 use Rattle.script_writers.specs.Writers.{pushingRows}
 use borrow.Author.Needs.{needs}
 use Rattle.script_writers.proofs.on_writer_pushing.Statement.{statement}
@@ -11,12 +12,15 @@ asks-requires c κs = search needs
 push-packet-requires : tie.Need-push-packet-requires
 push-packet-requires c κs = search needs
 
+told-writer-requires : tie.Need-told-writer-requires
+told-writer-requires c κs = search needs
+
 same-length : tie.Need-same-length
 same-length c = search needs
 
 returns : tie.Need-returns
 unfolding pushingRows
-returns c = search (needs, passes, finds)
+returns c = search (needs, passes, finds, did-as) depth 9
 
 asks-requires-2 : tie.Need-asks-requires-2
 asks-requires-2 c κs = search needs
@@ -60,6 +64,7 @@ on-writer-pushing-spec =
     (tie.spec
     asks-requires
     push-packet-requires
+    told-writer-requires
     same-length
     returns
     asks-requires-2

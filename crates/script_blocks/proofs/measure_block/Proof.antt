@@ -1,8 +1,8 @@
 -- The four measures are refused together, since each asks the same of the block. Assumes nothing.
 use Rattle.script_blocks.proofs.Lines.{block-measured}
 use borrow.Author.Needs.{needs}
-use Rattle.script_blocks.proofs.put_block_measures.Statement.{statement}
-use Rattle.script_blocks.proofs.put_block_measures.Tie as tie
+use Rattle.script_blocks.proofs.measure_block.Statement.{statement}
+use Rattle.script_blocks.proofs.measure_block.Tie as tie
 
 number-requires : tie.Need-number-requires
 number-requires c κs = search needs
@@ -28,8 +28,8 @@ same-length c = search needs
 returns : tie.Need-returns
 returns c = search (needs, block-measured)
 
-pub put-block-measures-spec : {M : Type 1} → statement M
-put-block-measures-spec =
+pub measure-block-spec : {M : Type 1} → statement M
+measure-block-spec =
     tie.close
     (tie.spec
     number-requires

@@ -1,8 +1,8 @@
 -- The three times are refused together, since each asks the same of the multiplexer. Assumes nothing.
 use Rattle.script_writers.proofs.Written.{times-measured}
 use borrow.Author.Needs.{needs}
-use Rattle.script_writers.proofs.put_durations.Statement.{statement}
-use Rattle.script_writers.proofs.put_durations.Tie as tie
+use Rattle.script_writers.proofs.tell_durations.Statement.{statement}
+use Rattle.script_writers.proofs.tell_durations.Tie as tie
 
 buffered-cea608-field1-duration-requires : tie.Need-buffered-cea608-field1-duration-requires
 buffered-cea608-field1-duration-requires c κs = search needs
@@ -31,8 +31,8 @@ same-length c = search needs
 returns : tie.Need-returns
 returns c = search (needs, times-measured)
 
-pub put-durations-spec : {M : Type 1} → statement M
-put-durations-spec =
+pub tell-durations-spec : {M : Type 1} → statement M
+tell-durations-spec =
     tie.close
     (tie.spec
     buffered-cea608-field1-duration-requires

@@ -1,8 +1,8 @@
 -- The four measures are refused together, since each asks the same of the packet. Assumes nothing.
 use Rattle.script_packets.proofs.Lines.{packet-measured}
 use borrow.Author.Needs.{needs}
-use Rattle.script_packets.proofs.put_packet_measures.Statement.{statement}
-use Rattle.script_packets.proofs.put_packet_measures.Tie as tie
+use Rattle.script_packets.proofs.measure_packet.Statement.{statement}
+use Rattle.script_packets.proofs.measure_packet.Tie as tie
 
 sequence-no-requires : tie.Need-sequence-no-requires
 sequence-no-requires c κs = search needs
@@ -25,8 +25,8 @@ same-length c = search needs
 returns : tie.Need-returns
 returns c = search (needs, packet-measured)
 
-pub put-packet-measures-spec : {M : Type 1} → statement M
-put-packet-measures-spec =
+pub measure-packet-spec : {M : Type 1} → statement M
+measure-packet-spec =
     tie.close
     (tie.spec
     sequence-no-requires
