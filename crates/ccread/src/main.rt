@@ -2,9 +2,9 @@
 ghost use mathlib.Core.Path.{_≡_};
 ghost use mathlib.Core.Bool.{true, false};
 ghost use Prim.Native.Nat.{_+_, _≤_, _<_};
-ghost use lib.ListN.{length, take, drop};
+ghost use lib.ListN.{length, take};
 ghost use Rattle.program_text.specs.Laid.{Whole};
-ghost use Rattle.program_streams.specs.Walk.{before, told, silent, done, Kept, Follow};
+ghost use Rattle.program_streams.specs.Walk.{before, told, silent, doneAt, Kept, Follow};
 ghost use Rattle.ccread.specs.Walk.{mark, tell, toTell, stillToTell, Steps, Ran, freshState};
 ghost use Rattle.ccread_report.specs.Report.{frameLines, settled};
 use ccread_report::Told;
@@ -18,11 +18,10 @@ use program_streams::Held;
 // The lines of a frame have at most 32768 bytes, and the last line has fewer.
 const ROOM: usize = 32768;
 
-// Where the program stands in a buffer: what is ahead there, and the demultiplexer; how many bytes are laid since it stood elsewhere.
+// Where the program stands in a buffer: what is ahead there, how many bytes are laid since it stood elsewhere, and the demultiplexer.
 struct Stand {
     ahead: Ahead,
     parser: CCDataParser,
-    laid: usize,
 }
 
 // What is held from one read to the next, and the demultiplexer.
@@ -43,33 +42,30 @@ fn put_record(out: &mut [u8], at: usize, number: u64, frame: &[u8], parser: CCDa
 // Lays the lines of the records that are whole in the buffer, as long as there is room for those of one more, and the last line.
 fn drain(buf: &[u8], ended: bool, out: &mut [u8], from: Stand) -> Stand
     requires { ⌜ 32768 ≤ length (now out) ⌝ }
-    ensures { λ r. ⌜ toTell ended (now (buf .entry)) from ≡ before (take (r .laid) (now (out .exit))) (stillToTell ended (now (buf .entry)) r) ⌝ }
+    ensures { λ r. ⌜ toTell ended (now (buf .entry)) from ≡ before (take (r .ahead .place .laid) (now (out .exit))) (stillToTell ended (now (buf .entry)) r) ⌝ }
     ensures { λ r. ⌜ (r .ahead .full ≡ true → (from .ahead .place .at < r .ahead .place .at) × (r .ahead .place .at ≤ length (now (buf .entry)))) ⌝ }
 {
     let most = out.len() - ROOM;
-    let mut place = from.ahead.place;
+    let mut place = program_streams::onward(from.ahead, 0);
     let mut parser = from.parser;
-    let mut laid: usize = 0;
     loop {
-        let ahead = program_streams::look(buf, place, ended, 0xDA, laid <= most);
-        if !ahead.whole {
-            let end = program_streams::put_last(out, laid, ahead);
-            return Stand {
-                ahead,
+        let ahead = program_streams::look(buf, place, ended, 0xDA, most);
+        if ahead.whole {
+            let told = put_record(
+                out,
+                place.laid,
+                place.records,
+                program_streams::body_at(buf, place.at),
                 parser,
-                laid: end,
+            );
+            parser = told.parser;
+            place = program_streams::onward(ahead, told.laid);
+        } else {
+            return Stand {
+                ahead: program_streams::put_last(out, ahead),
+                parser,
             };
         }
-        let told = put_record(
-            out,
-            laid,
-            place.records,
-            program_streams::body_at(buf, place.at),
-            parser,
-        );
-        laid = told.laid;
-        parser = told.parser;
-        place = ahead.place;
     }
 }
 
@@ -83,18 +79,17 @@ fn send(text: &[u8], buf: &[u8], ended: bool, from: Stand, to: Stand)
 // Every record that is whole in the buffer, in as many pieces as the room makes of what they tell.
 fn tell_all(buf: &[u8], ended: bool, out: &mut [u8], s: State) -> Stand
     requires { ⌜ 32768 ≤ length (now out) ⌝ }
-    ensures { λ r. ⌜ silent (told mark tell ended (now (buf .entry)) (s .held .passed) (s .held .records) (s .parser)) ≡ done (drop (r .ahead .place .at) (now (buf .entry))) (r .ahead .place .passed) (r .ahead .place .records) (r .parser) (r .ahead .left) ⌝ }
+    ensures { λ r. ⌜ silent (told mark tell ended (now (buf .entry)) (s .held .passed) (s .held .records) (s .parser)) ≡ doneAt (now (buf .entry)) (r .ahead) (r .parser) ⌝ }
 {
     let parser = s.parser;
     let mut to = Stand {
         ahead: program_streams::front(s.held),
         parser,
-        laid: 0,
     };
     while to.ahead.full {
         let from = to;
         to = drain(buf, ended, out, from);
-        send(part(out, 0, to.laid), buf, ended, from, to);
+        send(part(out, 0, to.ahead.place.laid), buf, ended, from, to);
     }
     to
 }

@@ -5,8 +5,8 @@ ghost use mathlib.Core.Path.{_≡_};
 ghost use mathlib.Core.Bool.{true, false};
 ghost use mathlib.Core.List.{_++_};
 ghost use Prim.Native.Nat.{_+_, _≤_, _<_};
-ghost use lib.ListN.{length, take, drop};
-ghost use Rattle.program_streams.specs.Walk.{before, told, silent, done, Kept, Follow};
+ghost use lib.ListN.{length, take};
+ghost use Rattle.program_streams.specs.Walk.{before, told, silent, doneAt, Kept, Follow};
 ghost use Rattle.script_operations.specs.Ran.{ran};
 ghost use Rattle.ccscript.specs.Walk.{mark, lineOf, tell, toTell, stillToTell, Steps, Ran, freshState};
 use libc::STDIN_FILENO;
@@ -21,11 +21,11 @@ use script_operations::Stepped;
 // not be told.
 const ROOM: usize = 600;
 
-// Where the program stands in a buffer: what is ahead there, and what the operations left; how many bytes are laid since it stood elsewhere.
+// Where the program stands in a buffer: what is ahead there, how many bytes are laid since it stood elsewhere, and what the
+// operations left.
 struct Stand {
     ahead: Ahead,
     machine: Machine,
-    laid: usize,
 }
 
 // What is held from one read to the next, and what the operations left.
@@ -54,27 +54,29 @@ fn put_record(out: &mut [u8], at: usize, record: &[u8], machine: Machine) -> Ste
 // Lays the lines of the records that are whole in the buffer, as long as there is room for one more, and the last line.
 fn drain(buf: &[u8], ended: bool, out: &mut [u8], from: Stand) -> Stand
     requires { ⌜ 600 ≤ length (now out) ⌝ }
-    ensures { λ r. ⌜ toTell ended (now (buf .entry)) from ≡ before (take (r .laid) (now (out .exit))) (stillToTell ended (now (buf .entry)) r) ⌝ }
+    ensures { λ r. ⌜ toTell ended (now (buf .entry)) from ≡ before (take (r .ahead .place .laid) (now (out .exit))) (stillToTell ended (now (buf .entry)) r) ⌝ }
     ensures { λ r. ⌜ (r .ahead .full ≡ true → (from .ahead .place .at < r .ahead .place .at) × (r .ahead .place .at ≤ length (now (buf .entry)))) ⌝ }
 {
     let most = out.len() - ROOM;
-    let mut place = from.ahead.place;
+    let mut place = program_streams::onward(from.ahead, 0);
     let mut machine = from.machine;
-    let mut laid: usize = 0;
     loop {
-        let ahead = program_streams::look(buf, place, ended, 0x5C, laid <= most);
-        if !ahead.whole {
-            let end = program_streams::put_last(out, laid, ahead);
-            return Stand {
-                ahead,
+        let ahead = program_streams::look(buf, place, ended, 0x5C, most);
+        if ahead.whole {
+            let told = put_record(
+                out,
+                place.laid,
+                program_streams::body_at(buf, place.at),
                 machine,
-                laid: end,
+            );
+            machine = told.machine;
+            place = program_streams::onward(ahead, told.laid);
+        } else {
+            return Stand {
+                ahead: program_streams::put_last(out, ahead),
+                machine,
             };
         }
-        let told = put_record(out, laid, program_streams::body_at(buf, place.at), machine);
-        laid = told.laid;
-        machine = told.machine;
-        place = ahead.place;
     }
 }
 
@@ -88,18 +90,17 @@ fn send(text: &[u8], buf: &[u8], ended: bool, from: Stand, to: Stand)
 // Every record that is whole in the buffer, in as many pieces as the room makes of what they tell.
 fn tell_all(buf: &[u8], ended: bool, out: &mut [u8], s: State) -> Stand
     requires { ⌜ 600 ≤ length (now out) ⌝ }
-    ensures { λ r. ⌜ silent (told mark tell ended (now (buf .entry)) (s .held .passed) (s .held .records) (s .machine)) ≡ done (drop (r .ahead .place .at) (now (buf .entry))) (r .ahead .place .passed) (r .ahead .place .records) (r .machine) (r .ahead .left) ⌝ }
+    ensures { λ r. ⌜ silent (told mark tell ended (now (buf .entry)) (s .held .passed) (s .held .records) (s .machine)) ≡ doneAt (now (buf .entry)) (r .ahead) (r .machine) ⌝ }
 {
     let machine = s.machine;
     let mut to = Stand {
         ahead: program_streams::front(s.held),
         machine,
-        laid: 0,
     };
     while to.ahead.full {
         let from = to;
         to = drain(buf, ended, out, from);
-        send(part(out, 0, to.laid), buf, ended, from, to);
+        send(part(out, 0, to.ahead.place.laid), buf, ended, from, to);
     }
     to
 }

@@ -1,12 +1,14 @@
 -- What is ahead of a place, by what is found there. Assumes nothing.
 use mathlib.Core.Path.{_≡_, refl, sym, ap, _∙_}
-use mathlib.Core.Bool.{Bool, true, false, false≢true}
+use mathlib.Core.Bool.{Bool, true, false, cond, false≢true}
 use mathlib.Core.List.{List, [], _∷_}
 use mathlib.Core.Logic.{_⊎_, inl, inr}
-use Prim.Native.Nat.{ℕ}
+use Prim.Native.Nat.{ℕ, _≤_, _<_}
 use native.Mathlib.Omega.{arith}
+use lib.Dec.{leb}
 use lib.ListN.{length, take, drop, getD, length-drop}
 use lib.Seq.{take-all}
+use borrow.Author.Tests.{leb-true, leb-false, le-leb, lt-leb}
 use types.Run.{hit, miss}
 use Rattle.program_records.specs.Reading.{foundIn}
 use Rattle.program_records.specs.declared.Found.{Found}
@@ -14,6 +16,7 @@ use Rattle.program_records.specs.declared.Found.the-variants as found
 use Rattle.program_streams.specs.Ahead.{behind, standing, waiting, byFound, aheadOf}
 use Rattle.program_streams.specs.Ends.{leftAt}
 use Rattle.program_streams.specs.Walk.{body}
+use Rattle.program_streams.specs.declared.Ahead.{Ahead}
 use Rattle.program_streams.specs.declared.Left.{Left}
 use Rattle.program_streams.specs.declared.Left.the-variants.{More}
 use Rattle.program_streams.specs.declared.Place.{Place}
@@ -48,24 +51,24 @@ module _ (p : Place) where
 
 module _ (mark : List ℕ) (ended : Bool) (buf : List ℕ) (p : Place) where
   -- where there is no room
-  pub room-wanting : {room : Bool} → room ≡ false → waiting p ≡ aheadOf mark ended room buf p
+  pub room-wanting : {most : ℕ} → most < p .laid → waiting p ≡ aheadOf mark ended most buf p
   unfolding aheadOf
-  room-wanting e = rw e
+  room-wanting {most} h = rw (lt-leb (p .laid) most h)
 
   -- where there is room, by what is found
-  module _ {room : Bool} {f : Found} (r : room ≡ true) (h : f ≡ foundIn mark ended (p .at) (drop (p .at) buf)) where
-    pub none-ahead : {left : Left} → NoRecord f → left ≡ leftAt f → record { whole = false; full = false; left = left; place = p } ≡ aheadOf mark ended room buf p
+  module _ {most : ℕ} {f : Found} (r : p .laid ≤ most) (h : f ≡ foundIn mark ended (p .at) (drop (p .at) buf)) where
+    pub none-ahead : {left : Left} → NoRecord f → left ≡ leftAt f → record { whole = false; full = false; left = left; place = p } ≡ aheadOf mark ended most buf p
     unfolding aheadOf
-    none-ahead none e = rw (r, ← h, stands-there p f none, e)
+    none-ahead none e = rw (le-leb (p .laid) most r, ← h, stands-there p f none, e)
 
     pub one-ahead : {start len next : ℕ} {q : Place} → f ≡ found.Record start len next → q ≡ behind p len next
-        → record { whole = true; full = false; left = More; place = q } ≡ aheadOf mark ended room buf p
+        → record { whole = true; full = false; left = More; place = q } ≡ aheadOf mark ended most buf p
     unfolding aheadOf byFound
-    one-ahead e g = rw (r, ← h, e, g)
+    one-ahead e g = rw (le-leb (p .laid) most r, ← h, e, g)
 
   -- a record that is to be told is found, and there is room for what it tells
-  pub record Passed (room : Bool) (q : Place) : Type 0 where
-    pub roomy : room ≡ true
+  pub record Passed (most : ℕ) (q : Place) : Type 0 where
+    pub roomy : p .laid ≤ most
     pub start : ℕ
     pub len : ℕ
     pub next : ℕ
@@ -73,21 +76,32 @@ module _ (mark : List ℕ) (ended : Bool) (buf : List ℕ) (p : Place) where
     pub reached : q ≡ behind p len next
 
   -- nothing is told: for want of room, or where no whole record is found
-  pub at-rest : (room : Bool) → aheadOf mark ended room buf p .whole ≡ false
-      → ((room ≡ false) × (aheadOf mark ended room buf p ≡ waiting p))
-      ⊎ ((room ≡ true) × NoRecord (foundIn mark ended (p .at) (drop (p .at) buf)) × (aheadOf mark ended room buf p ≡ standing p (foundIn mark ended (p .at) (drop (p .at) buf))))
-  unfolding aheadOf
-  at-rest false e = inl (refl, refl)
-  at-rest true e = let none = no-whole p (foundIn mark ended (p .at) (drop (p .at) buf)) e in inr (refl, none, stands-there p _ none)
+  abbrev pub AtRest : ℕ → Ahead → Type 0
+  AtRest most a =
+      ((most < p .laid) × (a ≡ waiting p))
+      ⊎ ((p .laid ≤ most) × NoRecord (foundIn mark ended (p .at) (drop (p .at) buf)) × (a ≡ standing p (foundIn mark ended (p .at) (drop (p .at) buf))))
 
-  pub is-passed : (room : Bool) → aheadOf mark ended room buf p .whole ≡ true → Passed room (aheadOf mark ended room buf p .place)
-  unfolding aheadOf byFound
-  is-passed false e = absurd (false≢true e)
-  is-passed true e = by-what (one-whole p (foundIn mark ended (p .at) (drop (p .at) buf)) e)
+  pub at-rest : (most : ℕ) → aheadOf mark ended most buf p .whole ≡ false → AtRest most (aheadOf mark ended most buf p)
+  unfolding aheadOf
+  at-rest most = by-room (leb (p .laid) most) refl
     where
-      by-what : (start : ℕ) × (len : ℕ) × (next : ℕ) × (foundIn mark ended (p .at) (drop (p .at) buf) ≡ found.Record start len next)
-          → Passed true (byFound p (foundIn mark ended (p .at) (drop (p .at) buf)) .place)
-      by-what w = record { roomy = refl; start = w .0; len = w .1; next = w .2; there = w .3; reached = ap (λ (f : Found). byFound p f .place) (w .3) }
+      by-room : (room : Bool) → leb (p .laid) most ≡ room → cond room (byFound p (foundIn mark ended (p .at) (drop (p .at) buf))) (waiting p) .whole ≡ false
+          → AtRest most (cond room (byFound p (foundIn mark ended (p .at) (drop (p .at) buf))) (waiting p))
+      by-room false r e = inl (leb-false _ _ r, refl)
+      by-room true r e = let none = no-whole p (foundIn mark ended (p .at) (drop (p .at) buf)) e in inr (leb-true _ _ r, none, stands-there p _ none)
+
+  pub is-passed : (most : ℕ) → aheadOf mark ended most buf p .whole ≡ true → Passed most (aheadOf mark ended most buf p .place)
+  unfolding aheadOf byFound
+  is-passed most = by-room (leb (p .laid) most) refl
+    where
+      by-what : p .laid ≤ most → (start : ℕ) × (len : ℕ) × (next : ℕ) × (foundIn mark ended (p .at) (drop (p .at) buf) ≡ found.Record start len next)
+          → Passed most (byFound p (foundIn mark ended (p .at) (drop (p .at) buf)) .place)
+      by-what r w = record { roomy = r; start = w .0; len = w .1; next = w .2; there = w .3; reached = ap (λ (f : Found). byFound p f .place) (w .3) }
+
+      by-room : (room : Bool) → leb (p .laid) most ≡ room → cond room (byFound p (foundIn mark ended (p .at) (drop (p .at) buf))) (waiting p) .whole ≡ true
+          → Passed most (cond room (byFound p (foundIn mark ended (p .at) (drop (p .at) buf))) (waiting p) .place)
+      by-room false r e = absurd (false≢true e)
+      by-room true r e = by-what (leb-true _ _ r) (one-whole p (foundIn mark ended (p .at) (drop (p .at) buf)) e)
 
 -- the bytes of a record, behind the head at the front of what is behind its place
 pub record-taken : (buf : List ℕ) (at : ℕ) {rest bytes : List ℕ} {len : ℕ} → rest ≡ take (length buf) (drop at buf) → len ≡ getD rest 2 0 → bytes ≡ take len (drop 3 rest)

@@ -9,7 +9,7 @@ use lib.Seq.{take-at}
 use Rattle.program_records.specs.Moved.{Moved, between}
 use Rattle.program_streams.specs.Ahead.{heldAt}
 use Rattle.program_streams.specs.Ends.{goesOn}
-use Rattle.program_streams.specs.Walk.{Walked, silent, done, Kept}
+use Rattle.program_streams.specs.Walk.{Walked, silent, doneAt, Kept}
 use Rattle.program_streams.specs.declared.Ahead.{Ahead}
 use Rattle.program_streams.specs.declared.Held.{Held}
 use Rattle.program_streams.proofs.Stands.{rest-between}
@@ -30,7 +30,7 @@ module _ {S : Type 0} {w : Walked S} (full : Bool) (more none : Walked S) (inv :
 
 -- what is kept is what is behind the last whole record
 pub moved-kept : {S : Type 0} {w : Walked S} (buf : List ℕ) (more : ℕ) {exit : List ℕ} {h : Held} {x : S} (a : Ahead)
-    → silent w ≡ done (drop (a .place .at) (take more buf)) (a .place .passed) (a .place .records) x (a .left)
+    → silent w ≡ doneAt (take more buf) a x
     → Moved (between (a .place .at) more buf) buf (h .have) exit → h ≡ heldAt (h .have) a → Kept w exit h x
 moved-kept {S} {w} buf more {exit} {h} a e m g =
     let l = between (a .place .at) more buf in

@@ -17,12 +17,12 @@ use Rattle.program_records.specs.Reading.{recordLength, foundIn}
 use Rattle.program_records.specs.declared.Found.{Found}
 use Rattle.program_records.specs.declared.Found.the-variants as found
 use Rattle.program_streams.specs.Ends.{leftAt, lastLine}
-use Rattle.program_streams.specs.Ahead.{aheadOf}
+use Rattle.program_streams.specs.Ahead.{aheadOf, reached, withLaid}
 use Rattle.program_streams.specs.Walk.{Told, Walked, body, before, toldFrom, leftToTell}
 use Rattle.program_streams.specs.declared.Ahead.{Ahead}
 use Rattle.program_streams.specs.declared.Place.{Place}
 use Rattle.program_streams.proofs.Walks.{told-stops, told-on}
-use Rattle.program_streams.proofs.Aheads.{Passed, is-passed, at-rest}
+use Rattle.program_streams.proofs.Aheads.{Passed, is-passed, AtRest, at-rest}
 use Rattle.program_streams.proofs.Ends.{last-taken}
 
 module _ {S : Type 0} where
@@ -54,87 +54,96 @@ none-laid {out} {after} {laid} {end} w =
     take-all end out e ∙ sym (take-all laid out (omega arith))))
 
 -- what a program has told of a buffer since it stood at the place p₀ and had x₀: it has laid it at the front of another one, and stands at p now
-pub record Stands {S : Type 0} (mark : List ℕ) (tell : ℕ → S → List ℕ → Told S) (ended : Bool) (buf : List ℕ) (p₀ : Place) (x₀ : S) (out : List ℕ) (laid : ℕ) (p : Place) (x : S) : Type 0 where
+pub record Stands {S : Type 0} (mark : List ℕ) (tell : ℕ → S → List ℕ → Told S) (ended : Bool) (buf : List ℕ) (p₀ : Place) (x₀ : S) (out : List ℕ) (p : Place) (x : S) : Type 0 where
   pub few : p .passed < 2 ^ 64
   pub fewer : p .records < 2 ^ 64
-  pub told-so-far : toldFrom mark tell ended buf p₀ x₀ ≡ before (take laid out) (toldFrom mark tell ended buf p x)
+  pub told-so-far : toldFrom mark tell ended buf p₀ x₀ ≡ before (take (p .laid) out) (toldFrom mark tell ended buf p x)
   pub further : p₀ .at ≤ p .at
-  pub within : 0 < laid → (p₀ .at < p .at) × (p .at ≤ length buf)
+  pub within : 0 < p .laid → (p₀ .at < p .at) × (p .at ≤ length buf)
 
 module _ {S : Type 0} (mark : List ℕ) (tell : ℕ → S → List ℕ → Told S) (ended : Bool) (buf : List ℕ) where
   -- it has told nothing yet
-  pub stands-first : (out : List ℕ) (p : Place) (x : S) → p .passed < 2 ^ 64 → p .records < 2 ^ 64 → Stands mark tell ended buf p x out 0 p x
-  stands-first out p x h k = record { few = h; fewer = k; told-so-far = refl; further = omega arith; within = λ z. absurd (omega arith) }
+  pub stands-first : (out : List ℕ) (a : Ahead) (x : S) → a .place .passed < 2 ^ 64 → a .place .records < 2 ^ 64 → Stands mark tell ended buf (reached a 0) x out (reached a 0) x
+  stands-first out a x h k = record { few = h; fewer = k; told-so-far = refl; further = omega arith; within = λ z. absurd (omega arith) }
 
-  module _ {p₀ p : Place} {x₀ x : S} {out : List ℕ} {laid : ℕ} (s : Stands mark tell ended buf p₀ x₀ out laid p x) (most : ℕ) {a : Ahead}
-      (e : a ≡ aheadOf mark ended (leb laid most) buf p) where
+  module _ {p₀ p : Place} {x₀ x : S} {out : List ℕ} (s : Stands mark tell ended buf p₀ x₀ out p x) (most : ℕ) {a : Ahead}
+      (e : a ≡ aheadOf mark ended most buf p) where
     -- a record is told
     module _ (w : a .whole ≡ true) where
-      passed : Passed mark ended buf p (leb laid most) (a .place)
-      passed = rw e (is-passed mark ended buf p (leb laid most) (rw e at w))
+      passed : Passed mark ended buf p most (a .place)
+      passed = rw e (is-passed mark ended buf p most (rw e at w))
 
       -- there was room for it
-      pub has-room : laid ≤ most
-      has-room = leb-true laid most (passed .roomy)
+      pub has-room : p .laid ≤ most
+      has-room = passed .roomy
 
       -- what is left of the buffer falls
-      pub less-left : length buf - a .place .at < length buf - p .at
-      less-left =
+      pub less-left : {q : Place} {end : ℕ} → q ≡ reached a end → length buf - q .at < length buf - p .at
+      less-left g =
           let d = passed in
           let r = record-within mark ended buf (p .at) refl (d .there) in
-          rw (d .reached) (omega (arith, r))
+          rw (g, d .reached) (omega (arith, r))
 
-      pub stands-behind : {bytes after : List ℕ} {end : ℕ} {y : S} → bytes ≡ body (drop (p .at) buf) → take end after ≡ take laid out ++ tell (p .records) x bytes .text
-          → y ≡ tell (p .records) x bytes .next → Stands mark tell ended buf p₀ x₀ after end (a .place) y
-      stands-behind {bytes} {after} {end} {y} h q k =
+      pub stands-behind : {bytes after : List ℕ} {end : ℕ} {q : Place} {y : S} → bytes ≡ body (drop (p .at) buf)
+          → take end after ≡ take (p .laid) out ++ tell (p .records) x bytes .text → y ≡ tell (p .records) x bytes .next → q ≡ reached a end
+          → Stands mark tell ended buf p₀ x₀ after q y
+      stands-behind {bytes} {after} {end} {q} {y} h t k g =
           let d = passed in
           let r = record-within mark ended buf (p .at) refl (d .there) in
           let l = whole mark ended (p .at) (drop (p .at) buf) (d .there) in
           let i : d .next ≡ p .at + recordLength (drop (p .at) buf) = omega (arith, l .begins, l .ends, l .says) in
-          rw (d .reached)
+          rw (g, d .reached)
           (record {
             few = below _;
             fewer = below _;
-            told-so-far = s .told-so-far ∙ ap (before (take laid out)) (told-on mark tell ended (p .at) (drop (p .at) buf) _ _ x refl (d .there))
-                ∙ rw (← h, drop-drop (recordLength (drop (p .at) buf)) (p .at) buf, ← i, ← l .says, before-before, ← q, ← k);
+            told-so-far = s .told-so-far ∙ ap (before (take (p .laid) out)) (told-on mark tell ended (p .at) (drop (p .at) buf) _ _ x refl (d .there))
+                ∙ rw (← h, drop-drop (recordLength (drop (p .at) buf)) (p .at) buf, ← i, ← l .says, before-before, ← t, ← k);
             further = omega (arith, s .further, r);
             within = λ z. (omega (arith, s .further, r), omega (arith, r));
           })
 
     -- nothing more is told but the last line, if the input ends here
     module _ (w : a .whole ≡ false) where
+      rests : AtRest mark ended buf p most a
+      rests = rw e (at-rest mark ended buf p most (rw e at w))
+
+      stays : a .place ≡ p
+      stays = elim rests [ inl h ↦ rw (h .1) | inr h ↦ rw (h .2) ]
+
       rest-told : toldFrom mark tell ended buf p x ≡ before (lastLine (a .left) (a .place .passed) (a .place .records)) (leftToTell mark tell ended buf a x)
       rest-told =
-          elim (at-rest mark ended buf p (leb laid most) (rw e at w)) [
-            | inl h ↦ rw (e, h .1)
-            | inr h ↦ rw (e, h .2) (told-stops mark tell ended (p .at) (drop (p .at) buf) _ _ x refl (h .1) ∙ rw (append-nil (lastLine (leftAt (foundIn mark ended (p .at) (drop (p .at) buf))) (p .passed) (p .records))))
+          elim rests [
+            | inl h ↦ rw (h .1)
+            | inr h ↦ rw (h .2)
+                (told-stops mark tell ended (p .at) (drop (p .at) buf) _ _ x refl (h .1)
+                ∙ rw (append-nil (lastLine (leftAt (foundIn mark ended (p .at) (drop (p .at) buf))) (p .passed) (p .records))))
           ]
 
-      last-laid : {after : List ℕ} {end : ℕ} → most + 64 ≤ length out
-          → Laid (lastLine (a .left) (a .place .passed) (a .place .records)) out laid end after
-          → take end after ≡ take laid out ++ lastLine (a .left) (a .place .passed) (a .place .records)
-      last-laid r l =
-          elim (at-rest mark ended buf p (leb laid most) (rw e at w)) [
-            | inl g ↦ rw (e, g .1) (none-laid (rw (e, g .1) at l))
-            | inr g ↦ (let same : a .place ≡ p = rw (e, g .2) in last-taken (a .left) (a .place .passed) (a .place .records) (rw same (s .few)) (rw same (s .fewer)) (let k : laid ≤ most = leb-true laid most (g .0) in omega arith) l)
-          ]
+      module _ {after : List ℕ} {b : Ahead} (room : most + 64 ≤ length out)
+          (l : Laid (lastLine (a .left) (a .place .passed) (a .place .records)) out (a .place .laid) (b .place .laid) after) (g : b ≡ withLaid a (b .place .laid)) where
+        last-laid : take (b .place .laid) after ≡ take (p .laid) out ++ lastLine (a .left) (a .place .passed) (a .place .records)
+        last-laid =
+            elim rests [
+              | inl h ↦ rw (h .1) (none-laid (rw (h .1) at l))
+              | inr h ↦ last-taken (a .left) (a .place .passed) (a .place .records) (rw stays (s .few)) (rw stays (s .fewer)) (let k = h .0 in omega arith)
+                  (rw (ap (λ (q : Place). q .laid) stays) at l)
+            ]
 
-      pub stands-at-end : {after : List ℕ} {end : ℕ} → most + 64 ≤ length out
-          → Laid (lastLine (a .left) (a .place .passed) (a .place .records)) out laid end after
-          → toldFrom mark tell ended buf p₀ x₀ ≡ before (take end after) (leftToTell mark tell ended buf a x)
-      stands-at-end r l =
-          let left = leftToTell mark tell ended buf a x in
-          s .told-so-far ∙ ap (before (take laid out)) rest-told
-          ∙ before-before (take laid out) (lastLine (a .left) (a .place .passed) (a .place .records)) left
-          ∙ ap (λ (u : List ℕ). before u left) (sym (last-laid r l))
+        pub stands-at-end : toldFrom mark tell ended buf p₀ x₀ ≡ before (take (b .place .laid) after) (leftToTell mark tell ended buf b x)
+        stands-at-end =
+            let left = leftToTell mark tell ended buf a x in
+            let same : leftToTell mark tell ended buf b x ≡ left = ap (λ (v : Ahead). leftToTell mark tell ended buf v x) g in
+            s .told-so-far ∙ ap (before (take (p .laid) out)) rest-told
+            ∙ before-before (take (p .laid) out) (lastLine (a .left) (a .place .passed) (a .place .records)) left
+            ∙ ap (λ (u : List ℕ). before u left) (sym last-laid) ∙ ap (before (take (b .place .laid) after)) (sym same)
 
-      -- it is for want of room only behind a record
-      pub stands-full : a .full ≡ true → (p₀ .at < a .place .at) × (a .place .at ≤ length buf)
-      stands-full f =
-          elim (at-rest mark ended buf p (leb laid most) (rw e at w)) [
-            | inl g ↦ rw (e, g .1) (s .within (let k : most < laid = leb-false laid most (g .0) in omega arith))
-            | inr g ↦ absurd (false≢true (rw (e, g .2) at f))
-          ]
+        -- it is for want of room only behind a record
+        pub stands-full : b .full ≡ true → (p₀ .at < b .place .at) × (b .place .at ≤ length buf)
+        stands-full f =
+            elim rests [
+              | inl h ↦ rw (ap (λ (v : Ahead). v .place .at) g, h .1) (s .within (let k = h .0 in omega arith))
+              | inr h ↦ absurd (false≢true (sym (ap (λ (v : Ahead). v .full) g ∙ ap (λ (v : Ahead). v .full) (h .2)) ∙ f))
+            ]
 
 -- what is behind a place of the first bytes of a buffer lies between the two places
 pub rest-between : (at more : ℕ) (l : List ℕ) → drop at (take more l) ≡ between at more l

@@ -2,6 +2,7 @@
 use mathlib.Core.Bool.{Bool, true, false, cond}
 use mathlib.Core.List.{List}
 use Prim.Native.Nat.{ℕ, _+_, _%_, _^_}
+use lib.Dec.{leb}
 use lib.ListN.{drop}
 use Rattle.program_records.specs.Reading.{foundIn}
 use Rattle.program_records.specs.declared.Found.{Found}
@@ -14,7 +15,7 @@ use Rattle.program_streams.specs.declared.Held.{Held}
 
 -- the place behind a record; places and numbers are of 64 bits
 abbrev pub behind : Place → ℕ → ℕ → Place
-behind p len next = record { at = next; passed = (p .passed + (3 + len)) % 2 ^ 64; records = (p .records + 1) % 2 ^ 64 }
+behind p len next = record { at = next; passed = (p .passed + (3 + len)) % 2 ^ 64; records = (p .records + 1) % 2 ^ 64; laid = p .laid }
 
 -- a whole record is to be told
 abbrev pub passing : Place → ℕ → ℕ → Ahead
@@ -36,13 +37,21 @@ byFound p found.End = standing p found.End
 abbrev pub waiting : Place → Ahead
 waiting p = record { whole = false; full = true; left = More; place = p }
 
--- what is ahead of a place, where records have a mark
-unfoldable pub aheadOf : List ℕ → Bool → Bool → List ℕ → Place → Ahead
-aheadOf mark ended room buf p = cond room (byFound p (foundIn mark ended (p .at) (drop (p .at) buf))) (waiting p)
+-- what is ahead of a place, where records have a mark, and there is room where no more than `most` bytes are laid
+unfoldable pub aheadOf : List ℕ → Bool → ℕ → List ℕ → Place → Ahead
+aheadOf mark ended most buf p = cond (leb (p .laid) most) (byFound p (foundIn mark ended (p .at) (drop (p .at) buf))) (waiting p)
+
+-- the place ahead, where so many bytes are laid
+abbrev pub reached : Ahead → ℕ → Place
+reached a laid = record { at = a .place .at; passed = a .place .passed; records = a .place .records; laid = laid }
+
+-- the same that is ahead, where so many bytes are laid
+abbrev pub withLaid : Ahead → ℕ → Ahead
+withLaid a laid = record { whole = a .whole; full = a .full; left = a .left; place = reached a laid }
 
 -- the front of a buffer
 abbrev pub frontOf : Held → Place
-frontOf h = record { at = 0; passed = h .passed; records = h .records }
+frontOf h = record { at = 0; passed = h .passed; records = h .records; laid = 0 }
 
 -- what is held behind the last record, beside so many bytes
 abbrev pub heldAt : ℕ → Ahead → Held

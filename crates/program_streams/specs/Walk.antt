@@ -51,6 +51,10 @@ module _ {S : Type 0} where
   abbrev pub done : List ℕ → ℕ → ℕ → S → Left → Walked S
   done s place n x left = silent (stop s place n x left)
 
+  -- and where it is told of a buffer, behind which nothing is told
+  abbrev pub doneAt : List ℕ → Ahead → S → Walked S
+  doneAt buf a x = done (drop (a .place .at) buf) (a .place .passed) (a .place .records) x (a .left)
+
   -- a record, and then the bytes behind it; places and numbers are of 64 bits
   abbrev pub onward : (List ℕ → ℕ → ℕ → S → Walked S) → List ℕ → ℕ → ℕ → Told S → Walked S
   onward rest s place n t = before (t .text) (rest (drop (recordLength s) s) ((place + recordLength s) % 2 ^ 64) ((n + 1) % 2 ^ 64) (t .next))
@@ -82,7 +86,7 @@ module _ {S : Type 0} (mark : List ℕ) (tell : ℕ → S → List ℕ → Told 
 
   -- what is left to tell of a buffer where no record was told: nothing, unless it was room that was wanting
   abbrev pub leftToTell : List ℕ → Ahead → S → Walked S
-  leftToTell buf a x = cond (a .full) (toldFrom buf (a .place) x) (done (drop (a .place .at) buf) (a .place .passed) (a .place .records) x (a .left))
+  leftToTell buf a x = cond (a .full) (toldFrom buf (a .place) x) (doneAt buf a x)
 
   -- behind what some bytes tell, what is told once the bytes c follow: of those kept and of these, unless the input has ended
   abbrev pub resumed : List ℕ → Walked S → Left → Walked S

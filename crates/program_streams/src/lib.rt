@@ -7,7 +7,7 @@ ghost use lib.ListN.{drop};
 ghost use Rattle.program_records.specs.Moved.{Moved, between};
 ghost use Rattle.program_text.specs.Laid.{Laid};
 ghost use Rattle.program_streams.specs.Ends.{leftAt, goesOn, lastLine};
-ghost use Rattle.program_streams.specs.Ahead.{behind, waiting, aheadOf, frontOf, heldAt, nothingRead};
+ghost use Rattle.program_streams.specs.Ahead.{behind, waiting, aheadOf, reached, withLaid, frontOf, heldAt, nothingRead};
 ghost use Rattle.program_streams.specs.Walk.{body};
 use program_records::Found;
 use program_records::byte_at;
@@ -23,11 +23,13 @@ pub enum Left {
     Ended,
 }
 
-// Where a program stands: its place in the buffer, the bytes of input before it, and the number of the next record.
+// Where a program stands: its place in the buffer, the bytes of input before it, the number of the next record, and how many bytes it has laid of
+// what it tells.
 pub struct Place {
     pub at: usize,
     pub passed: u64,
     pub records: u64,
+    pub laid: usize,
 }
 
 // What is ahead of a place: whether a whole record is to be told, and the place behind it. If none is, whether that is for want of room, and
@@ -68,6 +70,7 @@ pub fn front(held: Held) -> Ahead
         at: 0,
         passed: held.passed,
         records: held.records,
+        laid: 0,
     };
     Ahead {
         whole: false,
@@ -103,15 +106,16 @@ fn place_behind(place: Place, len: usize, next: usize) -> Place
         at: next,
         passed: std::num::wrapping_add_u64(place.passed, (3 + len) as u64),
         records: std::num::wrapping_add_u64(place.records, 1),
+        laid: place.laid,
     }
 }
 
-// What is ahead of a place in a buffer, where a record's mark is CC and `second`; `ended` says that no more bytes follow those of the buffer, and
-// `room` that there is room for what a record tells.
-pub fn look(buf: &[u8], place: Place, ended: bool, second: u8, room: bool) -> Ahead
-    ensures { λ r. ⌜ r ≡ aheadOf (0xCC ∷ second ∷ []) ended room (now (buf .entry)) place ⌝ }
+// What is ahead of a place in a buffer, where a record's mark is CC and `second`; `ended` says that no more bytes follow those of the buffer. There is
+// room for what a record tells where no more than `most` bytes are laid.
+pub fn look(buf: &[u8], place: Place, ended: bool, second: u8, most: usize) -> Ahead
+    ensures { λ r. ⌜ r ≡ aheadOf (0xCC ∷ second ∷ []) ended most (now (buf .entry)) place ⌝ }
 {
-    if !room {
+    if most < place.laid {
         return Ahead {
             whole: false,
             full: true,
@@ -162,13 +166,34 @@ fn put_end(out: &mut [u8], at: usize, left: Left, start: u64, records: u64) -> u
     }
 }
 
-// Lays the last line, if the input ends at the place behind which nothing is told.
-pub fn put_last(out: &mut [u8], at: usize, ahead: Ahead) -> usize
-    ensures { λ r. ⌜ Laid (lastLine (ahead .left) (ahead .place .passed) (ahead .place .records)) (now (out .entry)) at r (now (out .exit)) ⌝ }
+// The place ahead, where what is laid ends at `end`.
+pub fn onward(ahead: Ahead, end: usize) -> Place
+    ensures { λ r. ⌜ r ≡ reached ahead end ⌝ }
+{
+    let place = ahead.place;
+    Place {
+        at: place.at,
+        passed: place.passed,
+        records: place.records,
+        laid: end,
+    }
+}
+
+// Lays the last line behind what is laid, if the input ends here.
+pub fn put_last(out: &mut [u8], ahead: Ahead) -> Ahead
+    ensures { λ r. ⌜ Laid (lastLine (ahead .left) (ahead .place .passed) (ahead .place .records)) (now (out .entry)) (ahead .place .laid) (r .place .laid) (now (out .exit)) ⌝ }
+    ensures { λ r. ⌜ r ≡ withLaid ahead (r .place .laid) ⌝ }
 {
     let left = ahead.left;
     let place = ahead.place;
-    put_end(out, at, left, place.passed, place.records)
+    let end = put_end(out, place.laid, left, place.passed, place.records);
+    let behind = onward(ahead, end);
+    Ahead {
+        whole: ahead.whole,
+        full: ahead.full,
+        left,
+        place: behind,
+    }
 }
 
 // Whether there is more to read.
