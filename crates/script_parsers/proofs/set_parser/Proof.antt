@@ -28,7 +28,10 @@ same-length : tie.Need-same-length
 same-length c = search needs
 
 returns : tie.Need-returns
-returns c = rw (← c .before .before .before .before .before .before .byte-at .ensures, ← c .before .before .before .before .before .byte-at2 .ensures, ← c .before .before .before .before .byte-at3 .ensures) (search needs)
+returns c =
+    let first = c .before .before .before .before .before .before .byte-at .ensures in
+    let second = c .before .before .before .before .before .byte-at2 .ensures in
+    rw (← first, ← second, ← c .before .before .before .before .byte-at3 .ensures) (search needs)
 
 pub set-parser-spec : {M : Type 1} → statement M
 set-parser-spec =

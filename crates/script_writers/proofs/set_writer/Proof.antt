@@ -34,7 +34,11 @@ same-length : tie.Need-same-length
 same-length c = search needs
 
 returns : tie.Need-returns
-returns c = rw (← c .before .before .before .before .before .before .before .before .byte-at .ensures, ← c .before .before .before .before .before .before .byte-at2 .ensures, ← c .before .before .before .before .before .byte-at3 .ensures, ← c .before .before .before .before .byte-at4 .ensures) (search needs)
+returns c =
+    let first = c .before .before .before .before .before .before .before .before .byte-at .ensures in
+    let second = c .before .before .before .before .before .before .byte-at2 .ensures in
+    let third = c .before .before .before .before .before .byte-at3 .ensures in
+    rw (← first, ← second, ← third, ← c .before .before .before .before .byte-at4 .ensures) (search needs)
 
 pub set-writer-spec : {M : Type 1} → statement M
 set-writer-spec =

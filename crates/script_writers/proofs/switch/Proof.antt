@@ -20,10 +20,12 @@ same-length : tie.Need-same-length
 same-length c = search needs
 
 returns : tie.Need-returns
-returns c = rw (← c .before .before .before .before .before .before .before .byte-at .ensures) (record {
-  did = did-switch _ _ (c .before .before .before .before .before .before .before .before .before .before .args .before) _ _ (c .before .before .before .before .before .before .set-output-cea608-padding .ensures) (c .before .before .before .set-output-padding .ensures) _ (c .before .before .told-writer .ensures .did);
-  says = search needs;
-})
+returns c =
+    let w = c .before .before .before .before .before .before .before .before .before .before .args .before in
+    let first = c .before .before .before .before .before .before .set-output-cea608-padding .ensures in
+    let then = c .before .before .before .set-output-padding .ensures in
+    rw (← c .before .before .before .before .before .before .before .byte-at .ensures)
+    (record { did = did-switch _ _ w _ _ first then _ (c .before .before .told-writer .ensures .did); says = search needs })
 
 pub switch-spec : {M : Type 1} → statement M
 switch-spec =
