@@ -18,7 +18,7 @@ use program_streams::Held;
 // The lines of a frame have at most 32768 bytes, and the last line has fewer.
 const ROOM: usize = 32768;
 
-// Where the program stands in a buffer: what is ahead there, how many bytes are laid since it stood elsewhere, and the demultiplexer.
+// Where the program stands in a buffer: what is ahead there, and the demultiplexer.
 struct Stand {
     ahead: Ahead,
     parser: CCDataParser,

@@ -21,8 +21,7 @@ use script_operations::Stepped;
 // not be told.
 const ROOM: usize = 600;
 
-// Where the program stands in a buffer: what is ahead there, how many bytes are laid since it stood elsewhere, and what the
-// operations left.
+// Where the program stands in a buffer: what is ahead there, and what the operations left.
 struct Stand {
     ahead: Ahead,
     machine: Machine,

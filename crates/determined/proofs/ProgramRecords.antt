@@ -1,4 +1,4 @@
--- The functions that find records. Assumes nothing.
+-- The functions that find records, and hand on parts, bytes and numbers of a buffer. Assumes nothing.
 use mathlib.Core.Path.{sym, _∙_}
 use mathlib.Core.List.{List}
 use Prim.Native.Nat.{ℕ}

@@ -1,12 +1,10 @@
 // What is to be done with a frame, by its header and its triples: whether there is a late 608 triple, and whether a valid 708 triple.
 ghost use mathlib.Core.Path.{_≡_};
-ghost use mathlib.Core.List.{_∷_, List};
 ghost use Prim.Native.Nat.{_+_, _*_, _%_, _≤_, _<_};
 ghost use lib.ListN.{length};
-ghost use Rattle.model.specs.Frame.{Seen, seen, tri};
 ghost use Rattle.parser_triples.specs.Walk.{foldFrom, seenFrom};
 ghost use Rattle.parser_triples.specs.Scan.{found, scanTurn, scanned};
-ghost use mathlib.Core.Bool.{false, _&&_};
+ghost use mathlib.Core.Bool.{false};
 ghost use Rattle.parser_triples.specs.Plan.{headOf, planWalked, planOf};
 use caption::Answer;
 use caption::Refusal;

@@ -1,6 +1,5 @@
 // The lines that the programs print and their pieces, laid into a lent buffer from a place on and as far as there is room; each function
 // answers the place behind what it laid.
-ghost use mathlib.Core.Path.{_≡_};
 ghost use mathlib.Core.List.{[], _∷_, _++_};
 ghost use Rattle.caption.specs.Answers.{saidRefusal, saidAnswer, saidCounted};
 ghost use Rattle.caption.specs.Pairs.{cea608Of};

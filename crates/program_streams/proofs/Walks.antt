@@ -16,7 +16,7 @@ use Rattle.program_records.specs.Reading.{canBe, recordLength, missing, foundIn
 use Rattle.program_records.specs.declared.Found.{Found}
 use Rattle.program_records.specs.declared.Found.the-variants as found
 use Rattle.program_streams.specs.Ends.{leftAt}
-use Rattle.program_streams.specs.Walk.{Told, Walked, body, before, stop, onward, ifRecord, walked, told}
+use Rattle.program_streams.specs.Walk.{Told, Walked, body, before, stop, andOn, ifRecord, walked, told}
 
 -- what is found is no whole record: it is one of the four other cases of `Found`
 abbrev pub NoRecord : Found → Type 0
@@ -76,7 +76,7 @@ module _ {S : Type 0} (mark : List ℕ) (tell : ℕ → S → List ℕ → Told 
 
   -- by what is found at the front
   pub by-front : (s : List ℕ) (b n : ℕ) (x : S) → told mark tell ended s b n x
-      ≡ ifRecord (foundIn mark ended 0 s) (onward (told mark tell ended) s b n (tell n x (body s))) (stop s b n x (leftAt (foundIn mark ended 0 s)))
+      ≡ ifRecord (foundIn mark ended 0 s) (andOn (told mark tell ended) s b n (tell n x (body s))) (stop s b n x (leftAt (foundIn mark ended 0 s)))
   unfolding told walked
   by-front s b n x =
       enough (length s) (suc (length s)) s b n x (omega arith) (omega arith)
@@ -91,7 +91,7 @@ module _ {S : Type 0} (mark : List ℕ) (tell : ℕ → S → List ℕ → Told 
         let e : foundIn mark ended 0 s ≡ f = none-shifts (eqb (length s) 0) (canBe mark s) (ltb (length s) (recordLength s)) ended _ _ _ _ _ _ (rw h at none) ∙ sym h in
         by-front s b n x ∙ rw e (no-record f _ _ none)
 
-    pub told-on : {start len next : ℕ} → f ≡ found.Record start len next → told mark tell ended s b n x ≡ onward (told mark tell ended) s b n (tell n x (body s))
+    pub told-on : {start len next : ℕ} → f ≡ found.Record start len next → told mark tell ended s b n x ≡ andOn (told mark tell ended) s b n (tell n x (body s))
     unfolding ifRecord
     told-on e =
         let w = whole mark ended at s (sym h ∙ e) in

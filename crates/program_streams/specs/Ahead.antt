@@ -33,7 +33,7 @@ byFound p found.WrongMark = standing p found.WrongMark
 byFound p found.Short = standing p found.Short
 byFound p found.End = standing p found.End
 
--- there is no room for what a record tells
+-- there may be more to tell, once what is laid has been handed out: there is no room for what a record tells, or nothing is looked at yet
 abbrev pub waiting : Place → Ahead
 waiting p = record { whole = false; full = true; left = More; place = p }
 

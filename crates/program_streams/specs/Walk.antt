@@ -56,8 +56,8 @@ module _ {S : Type 0} where
   doneAt buf a x = done (drop (a .place .at) buf) (a .place .passed) (a .place .records) x (a .left)
 
   -- a record, and then the bytes behind it; places and numbers are of 64 bits
-  abbrev pub onward : (List ℕ → ℕ → ℕ → S → Walked S) → List ℕ → ℕ → ℕ → Told S → Walked S
-  onward rest s place n t = before (t .text) (rest (drop (recordLength s) s) ((place + recordLength s) % 2 ^ 64) ((n + 1) % 2 ^ 64) (t .next))
+  abbrev pub andOn : (List ℕ → ℕ → ℕ → S → Walked S) → List ℕ → ℕ → ℕ → Told S → Walked S
+  andOn rest s place n t = before (t .text) (rest (drop (recordLength s) s) ((place + recordLength s) % 2 ^ 64) ((n + 1) % 2 ^ 64) (t .next))
 
   -- by whether a whole record is found
   unfoldable pub ifRecord : Found → Walked S → Walked S → Walked S
@@ -73,7 +73,7 @@ module _ {S : Type 0} (mark : List ℕ) (tell : ℕ → S → List ℕ → Told 
   unfoldable pub walked : ℕ → List ℕ → ℕ → ℕ → S → Walked S
   walked zero s place n x = stop s place n x (leftAt (foundIn mark ended 0 s))
   walked (suc k) s place n x =
-      ifRecord (foundIn mark ended 0 s) (onward (walked k) s place n (tell n x (body s)))
+      ifRecord (foundIn mark ended 0 s) (andOn (walked k) s place n (tell n x (body s)))
       (stop s place n x (leftAt (foundIn mark ended 0 s)))
 
   -- all that some bytes tell: they hold no more records than bytes

@@ -32,8 +32,8 @@ pub struct Place {
     pub laid: usize,
 }
 
-// What is ahead of a place: whether a whole record is to be told, and the place behind it. If none is, whether that is for want of room, and
-// else where the records end, and the place itself.
+// What is ahead of a place: whether a whole record is to be told, and the place behind it. If none is, the place itself, and whether there may be
+// more to tell once what is laid has been handed out; else where the records end.
 pub struct Ahead {
     pub whole: bool,
     pub full: bool,

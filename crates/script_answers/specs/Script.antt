@@ -1,4 +1,4 @@
--- The lines of a script that all of its parts share. Assumes nothing.
+-- The lines of answers to a script's operations. Assumes nothing.
 use mathlib.Core.Bool.{Bool}
 use mathlib.Core.List.{List, [], _∷_, _++_}
 use Prim.Native.Nat.{ℕ}

@@ -1,5 +1,5 @@
-// The lines that all parts of a script share, laid into a lent buffer from a place on and as far as there is room; each function answers the place
-// behind what it laid.
+// The lines of answers to a script's operations, laid into a lent buffer from a place on and as far as there is room; each function answers the
+// place behind what it laid. What a row of the table of operations is, stands in `specs/Rows.antt`.
 ghost use mathlib.Core.Path.{_≡_};
 ghost use mathlib.Core.Bool.{_&&_};
 ghost use mathlib.Core.List.{[], _∷_, _++_};

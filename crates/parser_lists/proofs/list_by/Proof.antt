@@ -1,4 +1,4 @@
--- `parser_lists::list_by` meets its contract: one law of `Plans` for each way out, in the order of the tests. Assumes nothing.
+-- `parser_lists::list_by` meets its contract: one law of `Asked` for each way out, in the order of the tests. Assumes nothing.
 use Rattle.parser_lists.proofs.Asked.{list-asked, list-long, list-off, list-not}
 use borrow.Author.Needs.{needs}
 use Rattle.parser_lists.proofs.list_by.Statement.{statement}
