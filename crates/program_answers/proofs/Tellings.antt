@@ -12,11 +12,11 @@ use Rattle.caption.specs.declared.Answer.{Answer}
 use Rattle.caption.specs.declared.Answer.the-variants as answer
 use Rattle.caption.specs.declared.Counted.{Counted}
 use Rattle.caption.specs.declared.Counted.the-variants as counted
-use Rattle.program_answers.specs.declared.Told.{Told}
+use Rattle.program_answers.specs.declared.Numbers.{Numbers}
 use Rattle.program_answers.specs.Telling.{toldBy, saidBy}
 
 -- an answer that is known says what its row of the table says
-pub told-as : {A : Type 0} (said : A → Said) (t : Told) (x row : A) → x ≡ row → t ≡ toldBy (said row) → t ≡ toldBy (said x)
+pub told-as : {A : Type 0} (said : A → Said) (t : Numbers) (x row : A) → x ≡ row → t ≡ toldBy (said row) → t ≡ toldBy (said x)
 told-as said t x row e s = s ∙ sym (ap (λ (y : _). toldBy (said y)) e)
 
 -- at most two values are told whole

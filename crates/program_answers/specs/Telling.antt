@@ -2,12 +2,12 @@
 use mathlib.Core.List.{[], _∷_}
 use lib.ListN.{length, take, getD}
 use Rattle.model.specs.Said.{Said}
-use Rattle.program_answers.specs.declared.Told.{Told}
+use Rattle.program_answers.specs.declared.Numbers.{Numbers}
 
 -- the number, how many values there are, and the first two; 0 where there is none
-abbrev pub toldBy : Said → Told
+abbrev pub toldBy : Said → Numbers
 toldBy s = record { number = s .number; count = length (s .values); first = getD (s .values) 0 0; second = getD (s .values) 1 0 }
 
 -- what numbers say: the number, and as many of the two values as there are
-abbrev pub saidBy : Told → Said
+abbrev pub saidBy : Numbers → Said
 saidBy t = record { number = t .number; values = take (t .count) (t .first ∷ t .second ∷ []) }

@@ -8,7 +8,7 @@ use caption::Counted;
 use caption::Refusal;
 
 // What an answer says: its number, and the first `count` of two values; the others are 0.
-pub struct Told {
+pub struct Numbers {
     pub number: u64,
     pub count: usize,
     pub first: usize,
@@ -16,10 +16,10 @@ pub struct Told {
 }
 
 // These four, together.
-fn telling(number: u64, count: usize, first: usize, second: usize) -> Told
+fn telling(number: u64, count: usize, first: usize, second: usize) -> Numbers
     ensures { λ r. ⌜ r ≡ record { number = number; count = count; first = first; second = second } ⌝ }
 {
-    Told {
+    Numbers {
         number,
         count,
         first,
@@ -28,21 +28,21 @@ fn telling(number: u64, count: usize, first: usize, second: usize) -> Told
 }
 
 // An answer without values.
-fn bare(number: u64) -> Told
+fn bare(number: u64) -> Numbers
     ensures { λ r. ⌜ r ≡ toldBy (record { number = number; values = [] }) ⌝ }
 {
     telling(number, 0, 0, 0)
 }
 
 // An answer with one value.
-fn with_value(number: u64, value: usize) -> Told
+fn with_value(number: u64, value: usize) -> Numbers
     ensures { λ r. ⌜ r ≡ toldBy (record { number = number; values = value ∷ [] }) ⌝ }
 {
     telling(number, 1, value, 0)
 }
 
 // What a refusal says.
-pub fn tell_refusal(why: Refusal) -> Told
+pub fn tell_refusal(why: Refusal) -> Numbers
     ensures { λ r. ⌜ r ≡ toldBy (saidRefusal why) ⌝ }
 {
     match why {
@@ -61,7 +61,7 @@ pub fn tell_refusal(why: Refusal) -> Told
 }
 
 // What an answer says that only accepts or refuses.
-pub fn tell_answer(answer: Answer) -> Told
+pub fn tell_answer(answer: Answer) -> Numbers
     ensures { λ r. ⌜ r ≡ toldBy (saidAnswer answer) ⌝ }
 {
     match answer {
@@ -71,7 +71,7 @@ pub fn tell_answer(answer: Answer) -> Told
 }
 
 // What an answer says that gives a number.
-pub fn tell_counted(counted: Counted) -> Told
+pub fn tell_counted(counted: Counted) -> Numbers
     ensures { λ r. ⌜ r ≡ toldBy (saidCounted counted) ⌝ }
 {
     match counted {

@@ -7,7 +7,7 @@ use lib.ListN.{length}
 use lib.Seq.{take-all}
 use borrow.Author.Tests.{eq-eqb, ne-eqb}
 use Rattle.model.specs.Said.{Said}
-use Rattle.program_answers.specs.declared.Told.{Told}
+use Rattle.program_answers.specs.declared.Numbers.{Numbers}
 use Rattle.program_answers.specs.Telling.{saidBy, toldBy}
 use Rattle.program_answers.proofs.Tellings.{told-back}
 use Rattle.program_text.specs.Laid.{Laid}
@@ -25,7 +25,7 @@ unfolding valuesText
 values-two v w = rw append-nil
 
 -- the values, by how many there are
-module _ (t : Told) {out after : List ℕ} {at r : ℕ} where
+module _ (t : Numbers) {out after : List ℕ} {at r : ℕ} where
   pub no-values : t .count ≡ 0 → Laid [] out at r after → Laid (valuesText (saidBy t .values)) out at r after
   unfolding valuesText
   no-values z w = rw z w
@@ -39,7 +39,7 @@ module _ (t : Told) {out after : List ℕ} {at r : ℕ} where
       let two : 2 ≤ t .count = omega arith in rw (take-all (t .count) (t .first ∷ t .second ∷ []) two, values-two) (laid-append f s)
 
 -- an answer: accepted, and refused
-module _ (t : Told) {out mid after : List ℕ} {at p r : ℕ} where
+module _ (t : Numbers) {out mid after : List ℕ} {at p r : ℕ} where
   pub told-ok : t .number ≡ 0 → Laid (word "ok") out at p mid → Laid (valuesText (saidBy t .values)) mid p r after
       → Laid (answerText (saidBy t)) out at r after
   unfolding answerText
@@ -51,16 +51,16 @@ module _ (t : Told) {out mid after : List ℕ} {at p r : ℕ} where
   told-refused e f v = rw (ne-eqb _ _ e) (laid-append f v)
 
 -- what is told of an answer is the answer's
-pub laid-told : {out after : List ℕ} {at r : ℕ} (t : Told) (s : Said) → t ≡ toldBy s → length (s .values) ≤ 2 → Laid (answerText (saidBy t)) out at r after
+pub laid-told : {out after : List ℕ} {at r : ℕ} (t : Numbers) (s : Said) → t ≡ toldBy s → length (s .values) ≤ 2 → Laid (answerText (saidBy t)) out at r after
     → Laid (answerText s) out at r after
 laid-told t s e few w = rw (ap saidBy e ∙ told-back s few) at w
 
 -- the number that is told
-same : (t : Told) (s : Said) → t ≡ toldBy s → t .number ≡ s .number
-same t s e = ap (λ (x : Told). x .number) e
+same : (t : Numbers) (s : Said) → t ≡ toldBy s → t .number ≡ s .number
+same t s e = ap (λ (x : Numbers). x .number) e
 
 -- the line of a frame
-module _ (t : Told) (s : Said) (e : t ≡ toldBy s) (n : ℕ) {out mid after : List ℕ} {at p r : ℕ} where
+module _ (t : Numbers) (s : Said) (e : t ≡ toldBy s) (n : ℕ) {out mid after : List ℕ} {at p r : ℕ} where
   pub frame-ok : t .number ≡ 0 → Laid (word "frame " ++ decimal n) out at p mid → Laid (word " ok\n") mid p r after → Laid (frameLine n s) out at r after
   unfolding frameLine
   frame-ok z f k = rw (← same t s e, eq-eqb _ _ z) (laid-append f k)

@@ -11,7 +11,7 @@ use caption::Answer;
 use caption::Cea608;
 use caption::Counted;
 use caption::Refusal;
-use program_answers::Told;
+use program_answers::Numbers;
 use program_answers::tell_answer;
 use program_answers::tell_counted;
 use program_answers::tell_refusal;
@@ -66,7 +66,7 @@ fn put_numbered(out: &mut [u8], at: usize, word: &[u8], n: u64) -> usize
 }
 
 // The values of an answer.
-fn put_values(out: &mut [u8], at: usize, told: Told) -> usize
+fn put_values(out: &mut [u8], at: usize, told: Numbers) -> usize
     ensures { λ r. ⌜ Laid (valuesText (saidBy told .values)) (now (out .entry)) at r (now (out .exit)) ⌝ }
 {
     if told.count == 0 {
@@ -80,7 +80,7 @@ fn put_values(out: &mut [u8], at: usize, told: Told) -> usize
 }
 
 // An answer: `ok` or its number as a refusal, and its values.
-fn put_told(out: &mut [u8], at: usize, told: Told) -> usize
+fn put_told(out: &mut [u8], at: usize, told: Numbers) -> usize
     ensures { λ r. ⌜ Laid (answerText (saidBy told)) (now (out .entry)) at r (now (out .exit)) ⌝ }
 {
     if told.number == 0 {

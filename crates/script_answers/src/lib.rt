@@ -102,7 +102,7 @@ fn put_three(out: &mut [u8], at: usize, a: Counted, b: Counted, c: Counted) -> u
 }
 
 // The last number of a line.
-fn put_last(out: &mut [u8], at: usize, n: u64) -> usize
+fn put_last_value(out: &mut [u8], at: usize, n: u64) -> usize
     ensures { λ r. ⌜ Laid (valueText n ++ word "\n") (now (out .entry)) at r (now (out .exit)) ⌝ }
 {
     let p = program_lines::put_value(out, at, n);
@@ -116,7 +116,7 @@ pub fn put_three_line(out: &mut [u8], at: usize, a: Counted, b: Counted, c: Coun
     match c {
         Counted::Count(n) => {
             let p = put_two(out, at, a, b);
-            put_last(out, p, n as u64)
+            put_last_value(out, p, n as u64)
         }
         Counted::Refused(why) => put_refusal_line(out, at, why),
     }
@@ -136,7 +136,7 @@ pub fn put_four_line(
     match d {
         Counted::Count(n) => {
             let p = put_three(out, at, a, b, c);
-            put_last(out, p, n as u64)
+            put_last_value(out, p, n as u64)
         }
         Counted::Refused(why) => put_refusal_line(out, at, why),
     }

@@ -41,7 +41,7 @@ fn truth_count(truth: Truth) -> Counted
 }
 
 // A block that was read: its number and its payload.
-fn put_read_block(out: &mut [u8], at: usize, service: Service) -> usize
+fn put_block_line(out: &mut [u8], at: usize, service: Service) -> usize
     ensures { λ r. ⌜ Laid (blockLine service) (now (out .entry)) at r (now (out .exit)) ⌝ }
 {
     let len = service.len;
@@ -52,12 +52,12 @@ fn put_read_block(out: &mut [u8], at: usize, service: Service) -> usize
     put_newline(out, s)
 }
 
-// The same, where the call accepts.
-fn put_block_line(out: &mut [u8], at: usize, answer: Answer, service: Service) -> usize
+// The same where the call accepts, and else its refusal.
+fn put_read_block(out: &mut [u8], at: usize, answer: Answer, service: Service) -> usize
     ensures { λ r. ⌜ Laid (readBlockLine (saidAnswer answer) service) (now (out .entry)) at r (now (out .exit)) ⌝ }
 {
     match answer {
-        Answer::Accepted => put_read_block(out, at, service),
+        Answer::Accepted => put_block_line(out, at, service),
         Answer::Refused(why) => script_answers::put_refusal_line(out, at, why),
     }
 }
@@ -109,7 +109,7 @@ fn read_block(out: &mut [u8], at: usize, before: Service, bytes: &[u8]) -> OnBlo
     let read = Service::parse(bytes);
     let answer = read.answer;
     let made = read.service;
-    let laid = put_block_line(out, at, answer, made);
+    let laid = put_read_block(out, at, answer, made);
     let service = block_kept(answer, made, before);
     OnBlock {
         ran: true,

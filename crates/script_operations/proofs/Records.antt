@@ -31,7 +31,7 @@ use Rattle.script_operations.specs.Ran.{within, bad, withBlock, withPack
 
 -- no operation is 0, which stands for the letter of an empty record
 ran-by : (m : Machine) (l : List ℕ) → ran m l ≡ operated m (getD l 0 0) (drop 1 l)
-unfolding ran operated onMachines sought blockRows block.tellingRows packetRows packet.pushingRows packet.tellingRows parserRows parser.streamingRows writerRows writer.pushingRows writer.tellingRows
+unfolding ran operated onMachines sought blockRows block.tellingRows packetRows packet.pushingRows packet.tellingRows parserRows parser.streamingRows writerRows writer.pushingRows writer.leavingRows
 ran-by m [] = refl
 ran-by m (x ∷ l) = refl
 

@@ -84,7 +84,7 @@ fn put_held_line(out: &mut [u8], at: usize, packet: DTVCCPacket) -> usize
     put_newline(out, q)
 }
 
-// The same, where the call accepts.
+// The same where the call accepts, and else its refusal.
 fn put_packet_line(out: &mut [u8], at: usize, answer: Answer, packet: DTVCCPacket) -> usize
     ensures { λ r. ⌜ Laid (readPacketLine (saidAnswer answer) packet) (now (out .entry)) at r (now (out .exit)) ⌝ }
 {
@@ -153,7 +153,7 @@ fn push_single(out: &mut [u8], at: usize, before: DTVCCPacket, args: &[u8]) -> O
     )
 }
 
-// A packet that was read, where it was.
+// What a reading tells, and the packet that it leaves: the one that was read, or the one that was there.
 fn packet_read(out: &mut [u8], at: usize, before: DTVCCPacket, read: PacketAnswer) -> OnPacket
     ensures { λ r. ⌜ Runs (packetRead before (saidAnswer (read .answer)) (read .packet)) (now (out .entry)) at (r .ran) (r .laid) (r .packet) (now (out .exit)) ⌝ }
 {

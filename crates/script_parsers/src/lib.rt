@@ -39,7 +39,7 @@ fn put_pair_line(out: &mut [u8], at: usize, pair: Cea608) -> usize
 }
 
 // A packet that was drawn.
-fn put_packet_line(out: &mut [u8], at: usize, packet: DTVCCPacket) -> usize
+fn put_drawn_packet(out: &mut [u8], at: usize, packet: DTVCCPacket) -> usize
     ensures { λ r. ⌜ Laid (word "ok packet" ++ heldText packet ++ word "\n") (now (out .entry)) at r (now (out .exit)) ⌝ }
 {
     let p = put_word(out, at, b"ok packet");
@@ -53,7 +53,7 @@ fn put_item_line(out: &mut [u8], at: usize, item: Item, packet: DTVCCPacket) -> 
 {
     match item {
         Item::Pair(pair) => put_pair_line(out, at, pair),
-        Item::Packet => put_packet_line(out, at, packet),
+        Item::Packet => put_drawn_packet(out, at, packet),
         Item::Nothing => put_word(out, at, b"ok none\n"),
         Item::Refused(why) => script_answers::put_refusal_line(out, at, why),
     }

@@ -81,8 +81,8 @@ setsWriter a w =
     })
 
 -- those that frames and durations come out by
-unfoldable pub tellingRows : CCDataWriter → List (Row CCDataWriter)
-tellingRows w =
+unfoldable pub leavingRows : CCDataWriter → List (Row CCDataWriter)
+leavingRows w =
     row "w" (exactly 9) (λ a. writesFrame a w)
     ∷ row "u" (exactly 0) (λ a. tellsDurations w)
     ∷ []
@@ -93,7 +93,7 @@ pushingRows p w =
     row "q" (exactly 0) (λ a. pushesPacket p w)
     ∷ row "1" (exactly 2) (λ a. pushesPair (Field1 (byte a 0) (byte a 1)) w)
     ∷ row "2" (exactly 2) (λ a. pushesPair (Field2 (byte a 0) (byte a 1)) w)
-    ∷ tellingRows w
+    ∷ leavingRows w
 
 -- all, and before those the ones that set it
 unfoldable pub writerRows : DTVCCPacket → CCDataWriter → List (Row CCDataWriter)

@@ -8,7 +8,7 @@ ghost use Rattle.writer.specs.Calls.{written, saidMicros};
 ghost use Rattle.script_answers.specs.Steps.{Runs, tells};
 ghost use Rattle.script_answers.specs.Rows.{byte, sought, Asked};
 ghost use Rattle.script_writers.specs.Writers.{renewsWriter, switches, pushesPair, wrote, writesFrame, tellsDurations};
-ghost use Rattle.script_writers.specs.Writers.{setsWriter, tellingRows, pushingRows, writerRows};
+ghost use Rattle.script_writers.specs.Writers.{setsWriter, leavingRows, pushingRows, writerRows};
 use caption::Cea608;
 use caption::Counted;
 use caption::Framerate;
@@ -161,8 +161,8 @@ fn tell_durations(out: &mut [u8], at: usize, writer: CCDataWriter) -> OnWriter
 }
 
 // The operations that frames and durations come out by.
-fn on_writer_telling(out: &mut [u8], at: usize, w: CCDataWriter, op: u8, args: &[u8]) -> OnWriter
-    ensures { λ x. ⌜ Asked (sought (tellingRows w) op (now (args .entry))) w (now (out .entry)) at (x .ran) (x .laid) (x .writer) (now (out .exit)) ⌝ }
+fn on_writer_leaving(out: &mut [u8], at: usize, w: CCDataWriter, op: u8, args: &[u8]) -> OnWriter
+    ensures { λ x. ⌜ Asked (sought (leavingRows w) op (now (args .entry))) w (now (out .entry)) at (x .ran) (x .laid) (x .writer) (now (out .exit)) ⌝ }
 {
     let n = args.len();
     if asks(op, b'w', n == 9) {
@@ -199,7 +199,7 @@ fn on_writer_pushing(
     if asks(op, b'2', n == 2) {
         return push_field2(out, at, w, args);
     }
-    on_writer_telling(out, at, w, op, args)
+    on_writer_leaving(out, at, w, op, args)
 }
 
 // The operations on the multiplexer: those that set it, and behind them the ones above.

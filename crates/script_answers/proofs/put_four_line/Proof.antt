@@ -10,8 +10,8 @@ enum-known-d c = search needs
 put-three-requires : tie.Need-put-three-requires
 put-three-requires c κs = search needs
 
-put-last-requires : tie.Need-put-last-requires
-put-last-requires c κs = search needs
+put-last-value-requires : tie.Need-put-last-value-requires
+put-last-value-requires c κs = search needs
 
 enum-known-d-2 : tie.Need-enum-known-d-2
 enum-known-d-2 c = search needs
@@ -37,7 +37,7 @@ put-four-line-spec =
     (tie.spec
     enum-known-d
     put-three-requires
-    put-last-requires
+    put-last-value-requires
     enum-known-d-2
     put-refusal-line-requires
     same-length

@@ -10,8 +10,8 @@ enum-known-c c = search needs
 put-two-requires : tie.Need-put-two-requires
 put-two-requires c κs = search needs
 
-put-last-requires : tie.Need-put-last-requires
-put-last-requires c κs = search needs
+put-last-value-requires : tie.Need-put-last-value-requires
+put-last-value-requires c κs = search needs
 
 enum-known-c-2 : tie.Need-enum-known-c-2
 enum-known-c-2 c = search needs
@@ -37,7 +37,7 @@ put-three-line-spec =
     (tie.spec
     enum-known-c
     put-two-requires
-    put-last-requires
+    put-last-value-requires
     enum-known-c-2
     put-refusal-line-requires
     same-length

@@ -7,8 +7,8 @@ use Rattle.script_blocks.proofs.read_block.Tie as tie
 parse-requires : tie.Need-parse-requires
 parse-requires c κs = search needs
 
-put-block-line-requires : tie.Need-put-block-line-requires
-put-block-line-requires c κs = search needs
+put-read-block-requires : tie.Need-put-read-block-requires
+put-read-block-requires c κs = search needs
 
 block-kept-requires : tie.Need-block-kept-requires
 block-kept-requires c κs = search needs
@@ -22,4 +22,4 @@ returns c = search (needs, did-read)
 pub read-block-spec : {M : Type 1} → statement M
 read-block-spec =
     tie.close
-    (tie.spec parse-requires put-block-line-requires block-kept-requires same-length returns)
+    (tie.spec parse-requires put-read-block-requires block-kept-requires same-length returns)

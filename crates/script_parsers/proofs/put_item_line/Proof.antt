@@ -13,8 +13,8 @@ put-pair-line-requires c κs = search needs
 enum-told : tie.Need-enum-told
 enum-told c = search needs
 
-put-packet-line-requires : tie.Need-put-packet-line-requires
-put-packet-line-requires c κs = search needs
+put-drawn-packet-requires : tie.Need-put-drawn-packet-requires
+put-drawn-packet-requires c κs = search needs
 
 enum-told-2 : tie.Need-enum-told-2
 enum-told-2 c = search needs
@@ -62,7 +62,7 @@ put-item-line-spec =
     enum-known-item
     put-pair-line-requires
     enum-told
-    put-packet-line-requires
+    put-drawn-packet-requires
     enum-told-2
     slice-aggregate-put-word
     put-word-requires

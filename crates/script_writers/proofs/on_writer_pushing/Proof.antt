@@ -48,8 +48,8 @@ returns-3 : tie.Need-returns-3
 unfolding pushingRows
 returns-3 c = search (needs, passes, finds)
 
-on-writer-telling-requires : tie.Need-on-writer-telling-requires
-on-writer-telling-requires c κs = search needs
+on-writer-leaving-requires : tie.Need-on-writer-leaving-requires
+on-writer-leaving-requires c κs = search needs
 
 same-length-4 : tie.Need-same-length-4
 same-length-4 c = search needs
@@ -75,6 +75,6 @@ on-writer-pushing-spec =
     push-field2-requires
     same-length-3
     returns-3
-    on-writer-telling-requires
+    on-writer-leaving-requires
     same-length-4
     returns-4)

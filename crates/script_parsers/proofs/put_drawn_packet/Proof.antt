@@ -1,8 +1,8 @@
 -- Each part stands behind the one before it. Assumes nothing.
 use Rattle.script_parsers.proofs.Lines.{three-parts}
 use borrow.Author.Needs.{needs}
-use Rattle.script_parsers.proofs.put_packet_line.Statement.{statement}
-use Rattle.script_parsers.proofs.put_packet_line.Tie as tie
+use Rattle.script_parsers.proofs.put_drawn_packet.Statement.{statement}
+use Rattle.script_parsers.proofs.put_drawn_packet.Tie as tie
 
 slice-aggregate-put-word : tie.Need-slice-aggregate-put-word
 slice-aggregate-put-word c = search needs
@@ -22,8 +22,8 @@ same-length c = search needs
 returns : tie.Need-returns
 returns c = search (needs, three-parts)
 
-pub put-packet-line-spec : {M : Type 1} → statement M
-put-packet-line-spec =
+pub put-drawn-packet-spec : {M : Type 1} → statement M
+put-drawn-packet-spec =
     tie.close
     (tie.spec
     slice-aggregate-put-word
