@@ -13,7 +13,7 @@ use types.Run.{hit, miss}
 use Rattle.program_records.specs.Reading.{foundIn}
 use Rattle.program_records.specs.declared.Found.{Found}
 use Rattle.program_records.specs.declared.Found.the-variants as found
-use Rattle.program_streams.specs.Ahead.{behind, standing, waiting, byFound, aheadOf}
+use Rattle.program_streams.specs.Ahead.{pastRecord, standing, waiting, byFound, aheadOf}
 use Rattle.program_streams.specs.Ends.{leftAt}
 use Rattle.program_streams.specs.Walk.{body}
 use Rattle.program_streams.specs.declared.Ahead.{Ahead}
@@ -61,7 +61,7 @@ module _ (mark : List ℕ) (ended : Bool) (buf : List ℕ) (p : Place) where
     unfolding aheadOf
     none-ahead none e = rw (le-leb (p .laid) most r, ← h, stands-there p f none, e)
 
-    pub one-ahead : {start len next : ℕ} {q : Place} → f ≡ found.Record start len next → q ≡ behind p len next
+    pub one-ahead : {start len next : ℕ} {q : Place} → f ≡ found.Record start len next → q ≡ pastRecord p len next
         → record { whole = true; full = false; left = More; place = q } ≡ aheadOf mark ended most buf p
     unfolding aheadOf byFound
     one-ahead e g = rw (le-leb (p .laid) most r, ← h, e, g)
@@ -73,7 +73,7 @@ module _ (mark : List ℕ) (ended : Bool) (buf : List ℕ) (p : Place) where
     pub len : ℕ
     pub next : ℕ
     pub there : foundIn mark ended (p .at) (drop (p .at) buf) ≡ found.Record start len next
-    pub reached : q ≡ behind p len next
+    pub reached : q ≡ pastRecord p len next
 
   -- nothing is told: for want of room, or where no whole record is found
   abbrev pub AtRest : ℕ → Ahead → Type 0

@@ -14,12 +14,12 @@ use Rattle.program_streams.specs.declared.Ahead.{Ahead}
 use Rattle.program_streams.specs.declared.Held.{Held}
 
 -- the place behind a record; places and numbers are of 64 bits
-abbrev pub behind : Place → ℕ → ℕ → Place
-behind p len next = record { at = next; passed = (p .passed + (3 + len)) % 2 ^ 64; records = (p .records + 1) % 2 ^ 64; laid = p .laid }
+abbrev pub pastRecord : Place → ℕ → ℕ → Place
+pastRecord p len next = record { at = next; passed = (p .passed + (3 + len)) % 2 ^ 64; records = (p .records + 1) % 2 ^ 64; laid = p .laid }
 
 -- a whole record is to be told
 abbrev pub passing : Place → ℕ → ℕ → Ahead
-passing p len next = record { whole = true; full = false; left = More; place = behind p len next }
+passing p len next = record { whole = true; full = false; left = More; place = pastRecord p len next }
 
 -- no whole record is found
 abbrev pub standing : Place → Found → Ahead

@@ -7,7 +7,7 @@ ghost use lib.ListN.{drop};
 ghost use Rattle.program_records.specs.Moved.{Moved, between};
 ghost use Rattle.program_text.specs.Laid.{Laid};
 ghost use Rattle.program_streams.specs.Ends.{leftAt, goesOn, lastLine};
-ghost use Rattle.program_streams.specs.Ahead.{behind, waiting, aheadOf, reached, withLaid, frontOf, heldAt, nothingRead};
+ghost use Rattle.program_streams.specs.Ahead.{pastRecord, waiting, aheadOf, reached, withLaid, frontOf, heldAt, nothingRead};
 ghost use Rattle.program_streams.specs.Walk.{body};
 use program_records::Found;
 use program_records::byte_at;
@@ -100,7 +100,7 @@ fn left_at(found: Found) -> Left
 // The place behind a record of `len` bytes, which begins at `next` in the buffer.
 fn place_behind(place: Place, len: usize, next: usize) -> Place
     requires { ⌜ 3 + len < 2 ^ 64 ⌝ }
-    ensures { λ r. ⌜ r ≡ behind place len next ⌝ }
+    ensures { λ r. ⌜ r ≡ pastRecord place len next ⌝ }
 {
     Place {
         at: next,
@@ -187,12 +187,12 @@ pub fn put_last(out: &mut [u8], ahead: Ahead) -> Ahead
     let left = ahead.left;
     let place = ahead.place;
     let end = put_end(out, place.laid, left, place.passed, place.records);
-    let behind = onward(ahead, end);
+    let after = onward(ahead, end);
     Ahead {
         whole: ahead.whole,
         full: ahead.full,
         left,
-        place: behind,
+        place: after,
     }
 }
 

@@ -29,6 +29,6 @@ unfolding sought
 ends old before a op at = record { says = refl; place = refl; left = refl; same = refl }
 
 -- the bytes behind the first
-pub behind : (l : List ℕ) → take (length l) (drop 1 l) ≡ drop 1 l
-behind [] = refl
-behind (x ∷ l) = take-all (length (x ∷ l)) l (omega arith)
+pub all-but-first : (l : List ℕ) → take (length l) (drop 1 l) ≡ drop 1 l
+all-but-first [] = refl
+all-but-first (x ∷ l) = take-all (length (x ∷ l)) l (omega arith)

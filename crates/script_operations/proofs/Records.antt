@@ -12,7 +12,7 @@ use Rattle.program_text.specs.Laid.{Laid}
 use Rattle.program_text.specs.Text.{word}
 use Rattle.script_answers.specs.Steps.{Effect, Did}
 use Rattle.script_answers.specs.Rows.{Sought, sought, Asked}
-use Rattle.script_answers.proofs.Rows.{behind}
+use Rattle.script_answers.proofs.Rows.{all-but-first}
 use Rattle.script_blocks.specs.declared.OnBlock.{OnBlock}
 use Rattle.script_packets.specs.declared.OnPacket.{OnPacket}
 use Rattle.script_blocks.specs.Blocks.{blockRows}
@@ -37,7 +37,7 @@ ran-by m (x ∷ l) = refl
 
 pub ran-operated : (m : Machine) (l a : List ℕ) (op : ℕ) → op ≡ getD l 0 0 → a ≡ take (length l) (drop 1 l) → operated m op a ≡ ran m l
 ran-operated m l a op e f =
-    let h : a ≡ drop 1 l = f ∙ behind l in
+    let h : a ≡ drop 1 l = f ∙ all-but-first l in
     rw (e, h) (sym (ran-by m l))
 
 -- Behind the parts that were asked so far and have no such row, all that is done is what those behind them do, and nothing is laid.

@@ -2,14 +2,14 @@
 use mathlib.Core.Path.{_≡_}
 use Prim.Native.Nat.{ℕ, _+_, _%_, _^_}
 use borrow.Author.Needs.{needs}
-use Rattle.program_streams.specs.Ahead.{behind}
+use Rattle.program_streams.specs.Ahead.{pastRecord}
 use Rattle.program_streams.specs.declared.Place.{Place}
 use Rattle.program_streams.proofs.place_behind.Statement.{statement}
 use Rattle.program_streams.proofs.place_behind.Tie as tie
 
 -- a place, by its two sums
 both-sums : (p : Place) (len next : ℕ) {passed records : ℕ} → passed ≡ (p .passed + (3 + len)) % 2 ^ 64 → records ≡ (p .records + 1) % 2 ^ 64
-    → record { at = next; passed = passed; records = records; laid = p .laid } ≡ behind p len next
+    → record { at = next; passed = passed; records = records; laid = p .laid } ≡ pastRecord p len next
 both-sums p len next e f = rw (e, f)
 
 add-wrapping-add-u64 : tie.Need-add-wrapping-add-u64
