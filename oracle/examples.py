@@ -1,4 +1,5 @@
-"""Operations with the lines that the rule book (docs/RULES.md) asks for: its examples, and raw fields set by `B`, `K`, `D` and `Q`.
+"""Operations with the lines that the rule book (docs/RULES.md) asks for: its examples, the carrying mode, and raw fields set by `B`,
+`K`, `D`, `Q` and `C`.
 
 What follows a raw field is derived from the rules and not from the crate, whose fields are private: a value within the
 limits is what its fields say, and every call on another is refused with 11 before anything else.
@@ -82,6 +83,172 @@ TABLE = [
     (("q",), "ok"),
     (("q",), "ok"),
     (("u",), "ok 0 0 5005"),
+]
+
+def padded(pairs, triples, field=1):
+    """The answer of a write with both paddings on and nothing queued, whose first turn is this field's, to an output of 95 bytes."""
+    turns = "".join(["F8 80 80", "F9 80 80"][(field - 1 + turn) % 2] for turn in range(pairs))
+    return out(f"{0xC0 + triples:02X} FF" + turns + "FA 00 00" * (triples - pairs), 95)
+
+
+# Beside a rate stands what is due in each frame, and so what its frames get.
+CARRYING = [
+    # 24/1: 2.5 pairs, so two and three in turn; 25 triples
+    (("W",), "ok"),
+    (("S", 1, 1, 1), "ok"),
+    (("w", 24, 1, 95), padded(2, 25)),
+    (("w", 24, 1, 95), padded(3, 25)),
+    (("w", 24, 1, 95), padded(2, 25, 2)),
+    (("w", 24, 1, 95), padded(3, 25, 2)),
+    # without the mode the 2.5 are 3 each time
+    (("S", 1, 1), "ok"),
+    (("w", 24, 1, 95), padded(3, 25)),
+    (("w", 24, 1, 95), padded(3, 25, 2)),
+    # turned on when it is on, the sum goes on; turned off and on, it starts afresh
+    (("S", 1, 1, 1), "ok"),
+    (("w", 24, 1, 95), padded(2, 25)),
+    (("S", 1, 1, 1), "ok"),
+    (("w", 24, 1, 95), padded(3, 25)),
+    (("w", 24, 1, 95), padded(2, 25, 2)),
+    (("S", 1, 1, 0), "ok"),
+    (("S", 1, 1, 0), "ok"),
+    (("S", 1, 1, 1), "ok"),
+    (("w", 24, 1, 95), padded(2, 25, 2)),
+    # a flush starts it afresh, and leaves the mode
+    (("x",), "ok"),
+    (("w", 24, 1, 95), padded(2, 25, 2)),
+    (("w", 24, 1, 95), padded(3, 25, 2)),
+    # so does another rate: 25/1 has 2.4 pairs and 24 triples; 48/2 is another than 24/1
+    (("W",), "ok"),
+    (("S", 1, 1, 1), "ok"),
+    (("w", 24, 1, 95), padded(2, 25)),
+    (("w", 25, 1, 95), padded(2, 24)),
+    (("w", 24, 1, 95), padded(2, 25)),
+    (("w", 48, 2, 95), padded(2, 25)),
+    (("w", 48, 2, 95), padded(3, 25)),
+    (("w", 48, 2, 95), padded(2, 25, 2)),
+    (("w", 24, 1, 95), padded(2, 25, 2)),
+    # the same numer is not enough: 100/1 has 0.6 pairs and 6 triples, 100/4 has 2.4 and 24
+    (("w", 100, 1, 95), padded(0, 6)),
+    (("w", 100, 4, 95), padded(2, 24, 2)),
+    (("w", 100, 1, 95), padded(0, 6)),
+    # at 25/1 the pairs of five frames are 12: 2, 4, 7, 9, 12
+    (("W",), "ok"),
+    (("S", 1, 1, 1), "ok"),
+    (("w", 25, 1, 95), padded(2, 24)),
+    (("w", 25, 1, 95), padded(2, 24)),
+    (("w", 25, 1, 95), padded(3, 24)),
+    (("w", 25, 1, 95), padded(2, 24, 2)),
+    (("w", 25, 1, 95), padded(3, 24, 2)),
+    # a refused write changes nothing, whatever its rate
+    (("W",), "ok"),
+    (("S", 1, 1, 1), "ok"),
+    (("w", 24, 1, 95), padded(2, 25)),
+    (("w", 24, 1, 3), "refused 9 77 A5A5A5"),
+    (("w", 25, 1, 0), "refused 9 74 -"),
+    (("w", 401, 21, 1), "refused 8 A5"),
+    (("w", 0, 1, 1), "refused 8 A5"),
+    (("w", 24, 1, 95), padded(3, 25)),
+    # pushes leave the sum
+    (("W",), "ok"),
+    (("S", 0, 0, 1), "ok"),
+    (("w", 24, 1, 2), out("C0 FF", 2)),
+    (("k", 2), "ok"),
+    (("a", 1, [0x41]), "ok"),
+    (("q",), "ok"),
+    (("1", 0x94, 0x2C), "ok"),
+    (("1", 0x94, 0x2C), "ok"),
+    (("1", 0x94, 0x2C), "ok"),
+    (("w", 24, 1, 14), out("C5 FF FC 94 2C FC 94 2C FF 82 21 FE 41 00", 14)),
+    # 24000/1001: 25.025 triples, so 25 in 39 frames and 26 in the fortieth
+    (("W",), "ok"),
+    (("S", 0, 1, 1), "ok"),
+    *[(("w", 24000, 1001, 95), padded(0, 25))] * 39,
+    (("w", 24000, 1001, 95), padded(0, 26)),
+    (("w", 24000, 1001, 95), padded(0, 25)),
+    # 120/1: half a pair, so none and one in turn; 5 triples
+    (("W",), "ok"),
+    (("S", 1, 1, 1), "ok"),
+    (("w", 120, 1, 95), padded(0, 5)),
+    (("w", 120, 1, 95), padded(1, 5)),
+    (("w", 120, 1, 95), padded(0, 5)),
+    (("w", 120, 1, 95), padded(1, 5, 2)),
+    (("S", 0, 0, 1), "ok"),
+    (("1", 0x94, 0x2C), "ok"),
+    (("w", 120, 1, 2), out("C0 FF", 2)),
+    (("w", 120, 1, 5), out("C1 FF FC 94 2C", 5)),
+    # refusal 8: more than 31 triples are due, though rounded they are 31
+    (("W",), "ok"),
+    (("w", 401, 21, 2), out("C0 FF", 2)),
+    (("w", 599, 31, 2), out("C0 FF", 2)),
+    (("S", 0, 0, 1), "ok"),
+    (("w", 401, 21, 2), "refused 8 A5A5"),
+    (("w", 599, 31, 2), "refused 8 A5A5"),
+    (("w", 600, 31, 2), out("C0 FF", 2)),
+    (("w", 400, 21, 2), "refused 8 A5A5"),
+    (("w", 121, 1, 2), "refused 8 A5A5"),
+    (("w", 0, 1, 2), "refused 8 A5A5"),
+    (("w", 24, 0, 2), "refused 8 A5A5"),
+    (("S", 0, 1, 1), "ok"),
+    (("w", 600, 31, 95), padded(0, 31)),
+    (("w", 600, 31, 95), padded(0, 31)),
+    # carried parts: (12 + 60) / 24 pairs and (23 + 600) / 24 triples, then (0 + 60) / 24 and (23 + 600) / 24
+    (("W",), "ok"),
+    (("S", 1, 1, 1), "ok"),
+    (("C", 24, 1, 12, 23), "ok"),
+    (("w", 24, 1, 95), padded(3, 25)),
+    (("w", 24, 1, 95), padded(2, 25, 2)),
+    (("C", 24, 1, 12, 0), "ok"),
+    (("w", 48, 2, 95), padded(2, 25, 2)),
+    # at 24000/1001 each frame adds 600 to the rest of the triples: 23400 and 600 are a whole triple
+    (("C", 24000, 1001, 0, 23400), "ok"),
+    (("w", 24000, 1001, 95), padded(2, 26, 2)),
+    (("C", 24000, 1001, 0, 23399), "ok"),
+    (("w", 24000, 1001, 95), padded(2, 25, 2)),
+    (("w", 24000, 1001, 95), padded(3, 26, 2)),
+    # another number of argument bytes
+    (("raw", [0x43] + [0] * 15), "bad"),
+    (("raw", [0x43] + [0] * 17), "bad"),
+    (("raw", [0x43]), "bad"),
+    (("w", 24000, 1001, 95), padded(2, 25)),
+    # a rest that is not below numer: every call is refused with 11, and changes nothing
+    (("C", 24, 1, 24, 0), "ok"),
+    (("u",), "refused 11"),
+    (("S", 0, 0, 0), "refused 11"),
+    (("S", 1, 1, 1), "refused 11"),
+    (("1", 0x80, 0x80), "refused 11"),
+    (("2", 1, 2), "refused 11"),
+    (("q",), "refused 11"),
+    (("w", 24, 1, 2), "refused 11 A5A5"),
+    (("w", 0, 1, 2), "refused 11 A5A5"),
+    (("x",), "refused 11"),
+    (("C", 24, 1, 23, 23), "ok"),
+    (("u",), "ok 0 0 0"),
+    (("C", 24, 1, 0, 24), "ok"),
+    (("u",), "refused 11"),
+    (("C", 0, 0, 0, 0), "ok"),
+    (("u",), "ok 0 0 0"),
+    (("C", 0, 0, 0, 1), "ok"),
+    (("u",), "refused 11"),
+    (("C", 0, 1, 0, 0), "ok"),
+    (("u",), "refused 11"),
+    (("C", 24, 0, 0, 0), "ok"),
+    (("u",), "ok 0 0 0"),
+    (("w", 24, 1, 95), padded(2, 25)),
+    (("w", 24, 1, 95), padded(3, 25)),
+    # the same with the mode off, where parts within the limits make no difference
+    (("W",), "ok"),
+    (("C", 24, 1, 24, 0), "ok"),
+    (("w", 24, 1, 2), "refused 11 A5A5"),
+    (("S", 0, 0), "refused 11"),
+    (("x",), "refused 11"),
+    (("C", 24, 1, 23, 23), "ok"),
+    (("S", 1, 1), "ok"),
+    (("w", 24, 1, 95), padded(3, 25)),
+    (("C", 24, 1, 23, 23), "ok"),
+    (("w", 24, 1, 95), padded(3, 25, 2)),
+    (("S", 1, 1, 1), "ok"),
+    (("w", 24, 1, 95), padded(2, 25)),
 ]
 
 RAW = [

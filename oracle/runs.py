@@ -1,6 +1,6 @@
-"""Runs of `ccscript` over the crate and of the port's."""
+"""Runs of `ccscript` over the crate and of the port's, and the reckoning beside them."""
 import os, subprocess
-import scripts
+import reckoning, scripts
 
 HERE = os.path.dirname(os.path.abspath(__file__))
 ROOT = os.path.dirname(HERE)
@@ -15,6 +15,12 @@ def lines(program, script):
     """What a program prints for a script, and how it ends; one that breaks off differs from one that ends."""
     run = subprocess.run(program, input=b"".join(map(scripts.encode, script)), capture_output=True)
     return run.stdout.decode().split("\n")[:-1] + [f"exit {run.returncode}"]
+
+
+def reckoned(script):
+    """What the reckoning says that a script prints, and that it ends."""
+    records = [scripts.encode(op)[3:] for op in script]
+    return [*reckoning.answers(records), f"end {len(records)}", "exit 0"]
 
 
 def written(several):

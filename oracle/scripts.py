@@ -1,7 +1,8 @@
 """Scripts for `ccscript`, by kind: all short ones, every limit from both sides, damaged copies of good bytes, any order of calls.
 
 An operation is a tuple of its letter and its arguments, or of "raw" and a record's bytes; a script is a list of operations.
-`generate(seed, written)` gives each kind with its scripts.
+`generate(seed, written)` gives each kind with its scripts, and `generate_carrying(seed)` those of the carrying mode, which the
+crate does not have.
 """
 import random, itertools
 R = random.Random()
@@ -367,6 +368,103 @@ def raw_fields(count):
         s += [("S", 1, 1), ("1", 1, 1), ("2", 0x80, 0x80)]
         yield s + [("q",), ("w", 30, 1, 95), ("w", 0, 0, 0), ("x",), ("k", 0), ("q",), ("W",), ("u",), ("1", 1, 1), ("w", 30, 1, 95)]
 
+TOP = 2**32 - 1
+# Rates that the carrying mode takes, the last ones at its limits; and others.
+CARRIED = [
+    (24, 1), (48, 2), (24000, 1001), (25, 1), (30000, 1001), (30, 1), (50, 1), (60000, 1001), (60, 1), (119, 1), (100, 1), (100, 4),
+    (2400000000, 100000000), (2400000000, 100100000), (3000000007, 51234567), (TOP, 214748364),
+    (120, 1), (600, 31), (601, 31), (TOP, 35791395), (TOP, 221906643),
+]
+NOT_CARRIED = [
+    (599, 31), (401, 21), (400, 21), (121, 1), (TOP, 221906644), (TOP, 35791394), (TOP, TOP), (TOP, 1), (1, TOP), (1, 1), (0, 1), (24, 0), (0, 0),
+]
+def bit(chance=.5): return int(R.random() < chance)
+
+def queue_blocks(s):
+    """A packet made of blocks and runs, or the last one once more, pushed into the multiplexer."""
+    if R.random() < .8:
+        s.append(("k", R.randrange(4)))
+        for _ in range(R.choice([0, 1, 1, 2, 3, 5])):
+            number, run = R.choice([1, 2, 6, 7, 8, 63]), some(R.choice([1, 2, 3, 4, 10, 24, 31]))
+            s += [("a", number, run)] if R.random() < .7 else [("b", number), ("c", run), ("v",)]
+    s.append(("q",))
+
+def carrying_rates(count):
+    """Rates of every kind and around every limit, four times written, with the mode on and off."""
+    asked = CARRIED + NOT_CARRIED + RATES + [(n, 1) for n in range(15, 125)]
+    for d in (1, 2, 3, 7, 20, 21, 22, 31, 1001, 1000000, 35791394, 214748364, TOP):
+        for base in (120 * d, 600 * d // 31, 400 * d // 21, 24 * d, 40 * d):
+            asked += [(base + e, d) for e in (-1, 0, 1) if 0 <= base + e <= TOP]
+    for _ in range(count):
+        d = R.choice([R.randrange(1, 100), R.randrange(1, 2000), R.randrange(1, 2**25)])
+        asked.append((int(d * R.uniform(18, 125)), d))
+    return batch([[("W",), ("S", 1, 1, mode)] + [("w", *rate, 95)] * 4 for rate in asked for mode in (1, 0)], 15)
+
+def carrying_runs(writes):
+    """So many writes at one rate, in every setting of the paddings, with pushes and refused writes between them."""
+    for rate in CARRIED:
+        for pads in range(4):
+            s, busy = [("S", pads & 1, pads >> 1, 1)], R.choice([.1, .5, .9])
+            for _ in range(writes):
+                if R.random() < busy: s.append(("1", byte(), byte()))
+                if R.random() < busy / 2: s.append(("2", byte(), byte()))
+                if R.random() < busy / 3: queue_blocks(s)
+                if R.random() < .03: s.append(R.choice([("w", *R.choice(NOT_CARRIED), 95), ("w", *rate, R.randrange(5)), ("u",)]))
+                s.append(("w", *rate, 95))
+            yield s + [("u",)]
+
+def beside(n, d):
+    """A rate that shares something with this one: numer, denom or their ratio."""
+    n, d = R.choice([(2 * n, 2 * d), (n, 2 * d), (n, d + 1), (n, max(d - 1, 1)), (2 * n, d), (n + 1, d)])
+    return min(n, TOP), d
+
+def carried_parts(n, d):
+    """Parts carried at a rate, within the limits and at them."""
+    return n, d, *(R.choice([0, 1, n // 2, n - 1, R.randrange(n)]) % n for _ in range(2))
+
+def carrying_step(s, rate):
+    """What may come between two writes at a rate."""
+    r = R.random()
+    if r < .3: s.append((R.choice("12"), byte(), byte()))
+    elif r < .45: queue_blocks(s)
+    elif r < .6: s.append(("S", bit(), bit(), bit(.7)))
+    elif r < .68: s.append(("w", *R.choice(NOT_CARRIED), R.choice([95, 2])))
+    elif r < .76: s.append(("w", *R.choice([rate, R.choice(CARRIED)]), R.choice([0, 1, 2, 5, 14, 60])))
+    elif r < .84: s.append(("w", *R.choice([R.choice(CARRIED), beside(*rate)]), 95))
+    elif r < .9: s.append(("C", *carried_parts(*R.choice([rate, rate, R.choice(CARRIED)]))))
+    else: s.append(R.choice([("u",), ("u",), ("x",), ("C", 0, 0, 0, 0), ("W",)]))
+
+def carrying(count):
+    """Writes with the mode on and off, and anything between them."""
+    for _ in range(count):
+        s, rate, often = [("S", bit(), bit(), bit(.8))], R.choice(CARRIED), R.choice([.2, .5, .8])
+        for _ in range(R.choice([10, 30, 60])):
+            if R.random() < .05: rate = R.choice(CARRIED)
+            if R.random() < often: carrying_step(s, rate)
+            else: s.append(("w", *rate, 95))
+        yield s + [("u",)] + [("w", *rate, 95)] * 4 + [("u",)]
+
+def carrying_raw():
+    """Parts set to what breaks a limit, or does not, and each call on them, with the mode on and off."""
+    several = [(0, 0, 0, 0), (0, 1, 0, 0), (0, 0, 1, 0), (0, 0, 0, 1), (0, 1, 1, 1), (24, 0, 0, 0), (24, 0, 23, 23), (24, 0, 24, 0), (0, TOP, TOP, TOP)]
+    for n, d in [(24, 1), (24000, 1001), (120, 1), (600, 31), (TOP, 214748364), (TOP, 221906643), (401, 21), (121, 1), (1, 1), (TOP, TOP)]:
+        rests = [(0, 0), (n - 1, n - 1), (n - 1, 0), (0, n - 1), (n // 2, n // 3), (n, 0), (0, n), (n, n - 1), (min(n + 1, TOP), TOP)]
+        several += [(n, d, *both) for both in rests]
+    for parts in several:
+        write = ("w", *parts[:2], 95)
+        calls = [write, ("w", 24, 1, 95), ("w", *parts[:2], 2), ("w", 0, 0, 2), ("S", 1, 1, 1), ("S", 1, 1, 0), ("S", 0, 0, 1), ("x",), ("u",)]
+        calls += [("1", 0x94, 0x2C), ("1", 0x80, 0x80), ("2", 0x15, 0x2C), ("q",), ("W",)]
+        for mode in (1, 0):
+            s = [("k", 2), ("a", 1, [0x41])]
+            for call in calls: s += [("C", 0, 0, 0, 0), ("S", bit(.8), bit(.8), mode), ("C", *parts), call, ("u",), write, write]
+            yield s
+
+def carrying_records():
+    """The operations of the mode with other numbers of argument bytes, between two writes."""
+    for letter in b"CS":
+        for n in [*range(21), 253, 254]:
+            yield [("S", 1, 1, 1), ("w", 24, 1, 95), ("raw", [letter] + [R.choice([0, 7])] * n), ("u",), ("w", 24, 1, 95)]
+
 def not_there():
     """Every operation byte with every number of argument bytes up to 12, and a record of no bytes."""
     yield [("raw", [])]
@@ -386,7 +484,8 @@ def encode(op):
     if k == "raw": return bytes([0xCC, 0x5C, len(args[0]), *args[0]])
     if k in "cdyptf": body = list(args[0])
     elif k in "ai": body = [args[0], *args[1]]
-    elif k == "S": body = [args[0] | args[1] << 1]
+    elif k == "S": body = [sum(bit << place for place, bit in enumerate(args))]
+    elif k == "C": body = [b for number in args for b in number.to_bytes(4, "big")]
     elif k == "w": body = [*args[0].to_bytes(4, "big"), *args[1].to_bytes(4, "big"), args[2]]
     else: body = list(args)
     return bytes([0xCC, 0x5C, len(body) + 1, ord(k), *body])
@@ -419,3 +518,13 @@ def generate(seed, written, scale=1.0):
     yield "raw fields", raw_fields(c(300))
     yield "anything", anything(c(1000))
     yield "operations that are not there", not_there()
+
+def generate_carrying(seed, scale=1.0):
+    """The kinds for the carrying mode, of operations that the reckoning knows."""
+    R.seed(seed)
+    c = lambda n: max(1, int(n * scale))
+    yield "carrying mode, rates", carrying_rates(c(300))
+    yield "carrying mode, many writes at one rate", carrying_runs(c(300))
+    yield "carrying mode, any order of calls", carrying(c(600))
+    yield "carrying mode, raw parts", carrying_raw()
+    yield "carrying mode, records of other lengths", carrying_records()

@@ -1,7 +1,9 @@
-// What every part shares: the sizes of the rule book, the lesser of two counts, a byte as a number, and bytes laid into a buffer.
+// What every part shares: the sizes of the rule book, the lesser of two counts, a sum cut into steps, a byte as a number, and bytes laid into a
+// buffer.
 ghost use mathlib.Core.Path.{_≡_};
 ghost use Prim.Native.Nat.{_≤_, min};
 ghost use lib.Seq.{sets};
+ghost use Rattle.basics.specs.Cut.{cutOf};
 
 // The most bytes of a packet.
 pub const MOST_PACKET: usize = 128;
@@ -38,6 +40,28 @@ pub fn lesser(a: usize, b: usize) -> usize
         return a;
     }
     b
+}
+
+// A sum in steps: how many whole ones there are, and what is left over.
+pub struct Steps {
+    pub count: usize,
+    pub rest: usize,
+}
+
+// Cuts a sum into steps, 31 of them at the most, without a division.
+pub fn cut(sum: usize, step: usize) -> Steps
+    ensures { λ r. ⌜ r ≡ cutOf sum step ⌝ }
+{
+    let mut rest = sum;
+    let mut count = 0;
+    while count < MOST_TRIPLES {
+        if rest < step {
+            return Steps { count, rest };
+        }
+        rest -= step;
+        count += 1;
+    }
+    Steps { count, rest }
 }
 
 // A byte as a number.

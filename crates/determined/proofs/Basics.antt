@@ -3,6 +3,7 @@ use mathlib.Core.Path.{sym, _∙_}
 use contract.Lifetimes.{Lfts}
 use denote.Ref.{now}
 use Rattle.basics.proofs.lesser.Reads as Lesser
+use Rattle.basics.proofs.cut.Reads as Cut
 use Rattle.basics.proofs.wide.Reads as Wide
 use Rattle.basics.proofs.put_bytes.Reads as put_bytes
 use Rattle.determined.specs.Determines.{Determines, DeterminesLent}
@@ -11,6 +12,10 @@ use Rattle.determined.proofs.Ways.{equal, filled}
 -- `lesser(a, b)`
 pub lesser : Determines (Lesser.Post (tt {0}))
 lesser = equal
+
+-- `cut(sum, step)`
+pub cut : Determines (Cut.Post (tt {0}))
+cut = equal
 
 -- `wide(b)`
 pub wide : Determines (Wide.Post (tt {0}))

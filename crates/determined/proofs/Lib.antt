@@ -19,6 +19,7 @@ pub mod ParserGather
 pub mod Parser
 pub mod WriterFrames
 pub mod WriterQueues
+pub mod WriterShares
 pub mod WriterTurns
 pub mod WriterSending
 pub mod WriterStoring

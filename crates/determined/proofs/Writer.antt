@@ -21,6 +21,8 @@ use Rattle.writer.proofs.CCDataWriter.set_output_cea608_padding.Reads as set_ou
 use Rattle.writer.proofs.CCDataWriter.output_cea608_padding.Reads as output_cea608_padding
 use Rattle.writer.proofs.CCDataWriter.set_output_padding.Reads as set_output_padding
 use Rattle.writer.proofs.CCDataWriter.output_padding.Reads as output_padding
+use Rattle.writer.proofs.CCDataWriter.set_carrying.Reads as set_carrying
+use Rattle.writer.proofs.CCDataWriter.carrying.Reads as carrying
 use Rattle.writer.proofs.CCDataWriter.push_packet.Reads as push_packet
 use Rattle.writer.proofs.CCDataWriter.push_cea608.Reads as push_cea608
 use Rattle.writer.proofs.CCDataWriter.flush.Reads as flush
@@ -73,6 +75,14 @@ CCDataWriter-set-output-padding = answers
 -- `writer.output_padding()`
 pub CCDataWriter-output-padding : Determines (output_padding.Post (tt {0}))
 CCDataWriter-output-padding = said saidTruth-injective
+
+-- `writer.set_carrying(on)`
+pub CCDataWriter-set-carrying : Determines (set_carrying.Post (tt {0}))
+CCDataWriter-set-carrying = answers
+
+-- `writer.carrying()`
+pub CCDataWriter-carrying : Determines (carrying.Post (tt {0}))
+CCDataWriter-carrying = said saidTruth-injective
 
 -- `writer.push_packet(packet)`
 pub CCDataWriter-push-packet : Determines (push_packet.Post (tt {0}))

@@ -3,6 +3,6 @@ use Rattle.writer_building.proofs.Source.make.Reads as make
 use Rattle.determined.specs.Determines.{Determines}
 use Rattle.determined.proofs.Ways.{equal}
 
--- `source.make(packets, valid, rate, room)`
+-- `source.make(packets, valid, share, room)`
 pub Source-make : Determines (make.Post (tt {0}))
 Source-make = equal

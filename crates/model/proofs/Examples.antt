@@ -8,8 +8,8 @@ use Rattle.model.specs.Block.{headerLength, numberIn, needed, isShort, b
 use Rattle.model.specs.Packet.{Packet, sequenceIn, packetSize, plainMove, tidyMove, blocksFrom, readBy, readPacket, reads, readTidy, blocksLength, packetLength, writtenBlocks, packetHeader, fill, writtenPacket}
 use Rattle.model.specs.Frame.{pair, Cea608, field1, field2, seen, seenAll, flat, triplesIn, flagged, frameBytes}
 use Rattle.model.specs.Demux.{turn608On, freshDemux, pairsIn, lateAfter, lateFrom, carries708, closed, packetsOf, kept, wants, gather, ended, gathered, takeGathered, takeTriples, unread, takeFrame}
-use Rattle.model.specs.Rate.{rounded, budgets}
-use Rattle.model.specs.Mux.{freshMux, queued, pushPacket, isNull, pushPair, pushCea608, turnsDue, turn1, turn2, turned, continued, started, packetTriples, triplesQueued, countDue, send, padding, framed, writeFrame}
+use Rattle.model.specs.Rate.{rounded, budgets, shareBy}
+use Rattle.model.specs.Mux.{freshMux, queued, pushPacket, isNull, pushPair, pushCea608, turnsDue, turn1, turn2, turned, continued, started, packetTriples, triplesQueued, countDue, send, padding, framed, writeFrame, shareAt, writeShare}
 use Rattle.model.specs.Run.{Call, pushes, pushes608, call, run, readFrames}
 
 -- what a row asks
@@ -45,7 +45,7 @@ told f (refused why) = refusal why
 abbrev unpadded : ℕ → ℕ → List Call → Outcome (List ℕ)
 unpadded numer denom calls =
     let s = run calls freshMux .last in
-    mapped (λ b. frameBytes (writeFrame b s .frame)) (budgets numer denom)
+    mapped (λ h. frameBytes (writeShare h s .frame)) (shareAt numer denom s)
 
 -- what the definitions compute
 abbrev answer : Input → Result
@@ -101,6 +101,6 @@ unfolding table
     packetSize plainMove tidyMove blocksFrom readBy readPacket reads readTidy blocksLength packetLength writtenBlocks packetHeader fill writtenPacket
     seen seenAll flat triplesIn flagged frameBytes
     pairsIn lateAfter lateFrom carries708 closed packetsOf kept wants gather ended gathered takeGathered takeTriples unread takeFrame
-    rounded budgets queued pushPacket isNull pushPair pushCea608 turnsDue turn1 turn2 turned continued started packetTriples triplesQueued countDue send padding framed writeFrame
+    rounded budgets shareBy queued pushPacket isNull pushPair pushCea608 turnsDue turn1 turn2 turned continued started packetTriples triplesQueued countDue send padding framed writeFrame
     call run readFrames
 examples = refl

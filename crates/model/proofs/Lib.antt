@@ -6,6 +6,7 @@ pub mod Walk
 pub mod Packets
 pub mod Limits
 pub mod Rates
+pub mod Carrying
 pub mod Durations
 pub mod Frames
 pub mod Sends

@@ -1,6 +1,6 @@
 -- Every call leaves a multiplexer within its limits, if it was. Assumes nothing.
 use mathlib.Core.Path.{_≡_, refl}
-use mathlib.Core.Bool.{Bool, true, false}
+use mathlib.Core.Bool.{Bool, true, false, _&&_}
 use mathlib.Core.List.{List, [], _∷_}
 use Prim.Native.Nat.{ℕ, zero, suc, _-_, _*_, _≤_}
 use native.Mathlib.Omega.{arith}
@@ -10,8 +10,8 @@ use borrow.Author.Tests.{le-leb, leb-true, leb-false, eqb-false}
 use Rattle.model.specs.Lists.{every}
 use Rattle.model.specs.Packet.{Packet, validPacket}
 use Rattle.model.specs.Frame.{Triple, Pair, pair, Cea608, field1, field2, frameBytes, mostFrame}
-use Rattle.model.specs.Rate.{Budgets}
-use Rattle.model.specs.Mux.{Mux, freshMux, withPads, flushMux, storable, validMux, queued, pushPacket, isNull, pushPair, pushCea608, Turned, turnsDue, turn1, turn2, turned, packetTriples, countDue, Sent, send, padding, framed, writeFrame}
+use Rattle.model.specs.Rate.{Budgets, Carry, noCarry, validCarry}
+use Rattle.model.specs.Mux.{Mux, freshMux, withPads, withCarry, withMode, flushMux, storable, validMux, queued, pushPacket, isNull, pushPair, pushCea608, Turned, turnsDue, turn1, turn2, turned, packetTriples, countDue, Sent, send, padding, framed, writeFrame}
 use Rattle.model.specs.Run.{Accepted}
 use Rattle.model.proofs.Cases.{by-test, by-cond, both, and-both, Gives, gives-mapped}
 use Rattle.model.proofs.Lists.{every-append}
@@ -26,6 +26,7 @@ pub record MuxLimits (s : Mux) : Type 0 where
   pub sending : 2 * length (s .sending) ≤ 128
   pub queue1 : length (s .queue1) ≤ 64
   pub queue2 : length (s .queue2) ≤ 64
+  pub carry : validCarry (s .carry) ≡ true
 
 -- what passes the test is within the limits,
 pub mux-facts : (s : Mux) → validMux s ≡ true → MuxLimits s
@@ -35,34 +36,52 @@ mux-facts s e =
     let v = both _ _ (u .1) in
     let w = both _ _ (v .1) in
     let x = both _ _ (w .1) in
+    let y = both _ _ (x .1) in
     record {
       packets = leb-true (length (s .packets)) 16 (u .0);
       stored = v .0;
       sending = leb-true (2 * length (s .sending)) 128 (w .0);
       queue1 = leb-true (length (s .queue1)) 64 (x .0);
-      queue2 = leb-true (length (s .queue2)) 64 (x .1);
+      queue2 = leb-true (length (s .queue2)) 64 (y .0);
+      carry = y .1;
     }
 
 -- and what is within them passes it
 pub facts-mux : (s : Mux) → MuxLimits s → validMux s ≡ true
 unfolding validMux
-facts-mux s f = simp (le-leb _ _ (f .packets), f .stored, le-leb _ _ (f .sending), le-leb _ _ (f .queue1), le-leb _ _ (f .queue2))
+facts-mux s f = simp (le-leb _ _ (f .packets), f .stored, le-leb _ _ (f .sending), le-leb _ _ (f .queue1), le-leb _ _ (f .queue2), f .carry)
 
 -- a fresh multiplexer is within its limits
 pub fresh-mux : validMux freshMux ≡ true
-unfolding validMux every
+unfolding validMux validCarry every
 fresh-mux = refl
 
 -- the switches keep it there
 pub pads-valid : (a b : Bool) (s : Mux) → validMux s ≡ true → validMux (withPads a b s) ≡ true
 pads-valid a b s e =
     let f = mux-facts s e in
-    facts-mux (withPads a b s) (record { packets = f .packets; stored = f .stored; sending = f .sending; queue1 = f .queue1; queue2 = f .queue2 })
+    facts-mux (withPads a b s) (record { packets = f .packets; stored = f .stored; sending = f .sending; queue1 = f .queue1; queue2 = f .queue2; carry = f .carry })
 
--- and so does flush
+-- parts that are 0 are within their limits
+none-valid : validCarry noCarry ≡ true
+unfolding validCarry
+none-valid = refl
+
+-- other parts within their limits keep it there
+pub carry-valid : (on : Bool) (c : Carry) (s : Mux) → validMux s ≡ true → validCarry c ≡ true → validMux (withCarry on c s) ≡ true
+carry-valid on c s e v =
+    let f = mux-facts s e in
+    facts-mux (withCarry on c s) (record { packets = f .packets; stored = f .stored; sending = f .sending; queue1 = f .queue1; queue2 = f .queue2; carry = v })
+
+-- so does the mode
+pub mode-valid : (on : Bool) (s : Mux) → validMux s ≡ true → validMux (withMode on s) ≡ true
+mode-valid on s e = carry-valid on _ s e (by-cond (λ (c : Carry). validCarry c ≡ true) (on && s .carrying) (λ _. mux-facts s e .carry) (λ _. none-valid))
+
+-- and flush
 pub flush-mux : (s : Mux) → validMux (flushMux s) ≡ true
 unfolding every
-flush-mux s = facts-mux (flushMux s) (record { packets = omega arith; stored = refl; sending = omega arith; queue1 = omega arith; queue2 = omega arith })
+flush-mux s =
+    facts-mux (flushMux s) (record { packets = omega arith; stored = refl; sending = omega arith; queue1 = omega arith; queue2 = omega arith; carry = none-valid })
 
 -- a queue that takes one more has at most as many as it has places
 queued-few : {A : Type 0} (most : ℕ) (x : A) (q : List A) → Gives (λ (r : List A). length r ≤ most) (queued most x q)
@@ -82,11 +101,11 @@ unfolding pushCea608
 push608-valid (field1 x) s e =
     let f = mux-facts s e in
     gives-mapped (λ (r : Mux). validMux r ≡ true) (λ (r : List Pair). length r ≤ 64) (pushPair x (s .queue1)) _ (pair-few x (s .queue1) (f .queue1))
-    (λ q h. facts-mux _ (record { packets = f .packets; stored = f .stored; sending = f .sending; queue1 = h; queue2 = f .queue2 }))
+    (λ q h. facts-mux _ (record { packets = f .packets; stored = f .stored; sending = f .sending; queue1 = h; queue2 = f .queue2; carry = f .carry }))
 push608-valid (field2 x) s e =
     let f = mux-facts s e in
     gives-mapped (λ (r : Mux). validMux r ≡ true) (λ (r : List Pair). length r ≤ 64) (pushPair x (s .queue2)) _ (pair-few x (s .queue2) (f .queue2))
-    (λ q h. facts-mux _ (record { packets = f .packets; stored = f .stored; sending = f .sending; queue1 = f .queue1; queue2 = h }))
+    (λ q h. facts-mux _ (record { packets = f .packets; stored = f .stored; sending = f .sending; queue1 = f .queue1; queue2 = h; carry = f .carry }))
 
 -- the packets queued after one more
 record Queued (ps : List Packet) : Type 0 where
@@ -111,7 +130,7 @@ push-valid p s v e =
     by-cond (Gives (λ (r : Mux). validMux r ≡ true)) (eqb (length (p .blocks)) 0) (λ _. e)
     (λ z. let some : leb 1 (length (p .blocks)) ≡ true = le-leb 1 (length (p .blocks)) (omega (arith, eqb-false (length (p .blocks)) 0 z)) in
     gives-mapped (λ (r : Mux). validMux r ≡ true) Queued (queued 16 p (s .packets)) _ (queued-stored p (s .packets) (and-both _ _ v some) (f .stored))
-    (λ ps h. facts-mux _ (record { packets = h .few; stored = h .stored; sending = f .sending; queue1 = f .queue1; queue2 = f .queue2 })))
+    (λ ps h. facts-mux _ (record { packets = h .few; stored = h .stored; sending = f .sending; queue1 = f .queue1; queue2 = f .queue2; carry = f .carry })))
 
 -- turns send at most one triple each, and leave queues no longer than they were
 record Shorter (n : ℕ) (q1 q2 : List Pair) (t : Turned) : Type 0 where
@@ -204,6 +223,7 @@ module _ (b : Budgets) (s : Mux) (f : MuxLimits s) where
         sending = o .sending;
         queue1 = omega (arith, t .queue1, f .queue1);
         queue2 = omega (arith, t .queue2, f .queue2);
+        carry = f .carry;
       }
 
   -- and has at most as many triples as its rate allows

@@ -9,7 +9,6 @@ use lib.Dec.{eqb, leb, ltb}
 use borrow.Author.Tests.{eqb-false, ltb-false, leb-true, leb-false}
 use Rattle.model.specs.Said.{Outcome, gave}
 use Rattle.model.specs.Rate.{Rate, namedRates, Budgets, rounded, pairsAt, triplesAt, budgets}
-use Rattle.model.specs.Run.{Accepted}
 use Rattle.model.proofs.Cases.{by-test, by-cond, Gives, gives-at}
 
 -- x ≤ round(k · d / n) exactly if 2 n x ≤ 2 k d + n: all that is needed of the division
@@ -60,24 +59,28 @@ none-of true b c e = absurd (true≢false e)
 none-of false true c e = absurd (true≢false e)
 none-of false false true e = absurd (true≢false e)
 
+-- what an accepted rate is: it has frames, no more than 120 a second, and its budgets are such
+pub record Rated (numer denom : ℕ) (b : Budgets) : Type 0 where
+  pub some : 0 < numer
+  pub slow : numer ≤ 120 * denom
+  pub sane : Sane b
+
 -- whatever the budgets give
-budgets-sane : (numer denom : ℕ) → Gives Sane (budgets numer denom)
+pub budgets-rated : (numer denom : ℕ) → Gives (Rated numer denom) (budgets numer denom)
 unfolding budgets
-budgets-sane numer denom =
+budgets-rated numer denom =
     let a : Bool = eqb numer 0 in
     let b : Bool = eqb (pairsAt numer denom) 0 in
     let c : Bool = ltb 31 (triplesAt numer denom) in
-    by-cond (Gives Sane) (a || (b || c)) (λ _. tt)
+    by-cond (Gives (Rated numer denom)) (a || (b || c)) (λ _. tt)
     (λ e. let w = none-of a b c e in
-    sane numer denom (omega (arith, eqb-false numer 0 (w .0))) (eqb-false (pairsAt numer denom) 0 (w .1)) (ltb-false 31 (triplesAt numer denom) (w .2)))
+    let some : 0 < numer = omega (arith, eqb-false numer 0 (w .0)) in
+    let s = sane numer denom some (eqb-false (pairsAt numer denom) 0 (w .1)) (ltb-false 31 (triplesAt numer denom) (w .2)) in
+    record { some = some; slow = omega (arith, most 60 numer denom 1 some (s .some-pair)); sane = s })
 
 -- the budgets of an accepted rate
 pub accepted-sane : (numer denom : ℕ) {b : Budgets} → budgets numer denom ≡ gave b → Sane b
-accepted-sane numer denom e = gives-at Sane (budgets numer denom) e (budgets-sane numer denom)
-
--- as the sequences of calls ask it
-pub accepted-rate : (numer denom : ℕ) {b : Budgets} → budgets numer denom ≡ gave b → Accepted b
-accepted-rate numer denom e = let s = accepted-sane numer denom e in record { some-pair = s .some-pair; apart = s .apart; most = s .few-triples }
+accepted-sane numer denom e = gives-at (Rated numer denom) (budgets numer denom) e (budgets-rated numer denom) .sane
 
 -- so many pairs and triples are given
 abbrev given : ℕ → ℕ → Outcome Budgets

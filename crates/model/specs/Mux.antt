@@ -8,29 +8,74 @@ use Rattle.model.specs.Lists.{every}
 use Rattle.model.specs.Said.{Outcome, gave, refused, andThen, mapped, putInto, full}
 use Rattle.model.specs.Packet.{Packet, packetHeader, writtenBlocks, mostPacket, validPacket}
 use Rattle.model.specs.Frame.{Frame, Triple, tri, Pair, pair, Cea608, field1, field2, frameBytes}
-use Rattle.model.specs.Rate.{Budgets, budgets}
+use Rattle.model.specs.Rate.{Budgets, Carry, noCarry, validCarry, Share, shareBy}
 
--- the two switches, the packets queued, the triples left of the packet being sent, each field's queue, and whether field 1 has the next turn
+-- the two paddings, the carrying mode and the carried parts, the packets queued, the triples left of the packet being sent, each field's queue,
+-- and whether field 1 has the next turn
 pub record Mux : Type 0 where
   pub pad608 : Bool
   pub padOut : Bool
+  pub carrying : Bool
+  pub carry : Carry
   pub packets : List Packet
   pub sending : List Triple
   pub queue1 : List Pair
   pub queue2 : List Pair
   pub next1 : Bool
 
--- a fresh multiplexer: it holds nothing, the paddings are off [W12] and the first turn is field 1's [W4]
+-- a fresh multiplexer: it holds nothing, the switches are off [W12] [W15] and the first turn is field 1's [W4]
 abbrev pub freshMux : Mux
-freshMux = record { pad608 = false; padOut = false; packets = []; sending = []; queue1 = []; queue2 = []; next1 = true }
+freshMux =
+    record { pad608 = false; padOut = false; carrying = false; carry = noCarry; packets = []; sending = []; queue1 = []; queue2 = []; next1 = true }
 
 -- the multiplexer with its padding switches set [W12]
 abbrev pub withPads : Bool → Bool → Mux → Mux
-withPads a b s = record { pad608 = a; padOut = b; packets = s .packets; sending = s .sending; queue1 = s .queue1; queue2 = s .queue2; next1 = s .next1 }
+withPads a b s =
+    record {
+      pad608 = a;
+      padOut = b;
+      carrying = s .carrying;
+      carry = s .carry;
+      packets = s .packets;
+      sending = s .sending;
+      queue1 = s .queue1;
+      queue2 = s .queue2;
+      next1 = s .next1;
+    }
 
--- A flush drops what is queued and being sent; the switches and the next turn stay [W13].
+-- the multiplexer with its mode set and other parts carried
+abbrev pub withCarry : Bool → Carry → Mux → Mux
+withCarry on c s =
+    record {
+      pad608 = s .pad608;
+      padOut = s .padOut;
+      carrying = on;
+      carry = c;
+      packets = s .packets;
+      sending = s .sending;
+      queue1 = s .queue1;
+      queue2 = s .queue2;
+      next1 = s .next1;
+    }
+
+-- Turning the mode on from off sets all four parts to 0, and so does turning it off; turning it on when it is on changes nothing [W15].
+abbrev pub withMode : Bool → Mux → Mux
+withMode on s = withCarry on (cond (on && s .carrying) (s .carry) noCarry) s
+
+-- A flush drops what is queued and being sent, and sets the carried parts to 0; the switches and the next turn stay [W13].
 abbrev pub flushMux : Mux → Mux
-flushMux s = record { pad608 = s .pad608; padOut = s .padOut; packets = []; sending = []; queue1 = []; queue2 = []; next1 = s .next1 }
+flushMux s =
+    record {
+      pad608 = s .pad608;
+      padOut = s .padOut;
+      carrying = s .carrying;
+      carry = noCarry;
+      packets = [];
+      sending = [];
+      queue1 = [];
+      queue2 = [];
+      next1 = s .next1;
+    }
 
 -- the most packets that wait [S1]
 abbrev pub mostPackets : ℕ
@@ -52,15 +97,38 @@ validMux s =
     && (every storable (s .packets)
     && (leb (2 * length (s .sending)) mostPacket
     && (leb (length (s .queue1)) mostQueued
-    && leb (length (s .queue2)) mostQueued)))
+    && (leb (length (s .queue2)) mostQueued
+    && validCarry (s .carry)))))
 
 -- the multiplexer with other packets queued
 abbrev pub withPackets : List Packet → Mux → Mux
-withPackets ps s = record { pad608 = s .pad608; padOut = s .padOut; packets = ps; sending = s .sending; queue1 = s .queue1; queue2 = s .queue2; next1 = s .next1 }
+withPackets ps s =
+    record {
+      pad608 = s .pad608;
+      padOut = s .padOut;
+      carrying = s .carrying;
+      carry = s .carry;
+      packets = ps;
+      sending = s .sending;
+      queue1 = s .queue1;
+      queue2 = s .queue2;
+      next1 = s .next1;
+    }
 
 -- the multiplexer with other pairs queued
 abbrev pub withQueues : List Pair → List Pair → Mux → Mux
-withQueues q1 q2 s = record { pad608 = s .pad608; padOut = s .padOut; packets = s .packets; sending = s .sending; queue1 = q1; queue2 = q2; next1 = s .next1 }
+withQueues q1 q2 s =
+    record {
+      pad608 = s .pad608;
+      padOut = s .padOut;
+      carrying = s .carrying;
+      carry = s .carry;
+      packets = s .packets;
+      sending = s .sending;
+      queue1 = q1;
+      queue2 = q2;
+      next1 = s .next1;
+    }
 
 -- a queue with one more at its end, or 10 where it has no place [R10]
 unfoldable pub queued : {A : Type 0} → ℕ → A → List A → Outcome (List A)
@@ -179,7 +247,17 @@ unfoldable pub framed : ℕ → Turned → Sent → Mux → Framed
 framed n t o s =
     record {
       frame = record { count = n; triples = t .out ++ (o .out ++ padding (s .padOut) (n - length (t .out) - length (o .out))) };
-      next = record { pad608 = s .pad608; padOut = s .padOut; packets = o .packets; sending = o .sending; queue1 = t .queue1; queue2 = t .queue2; next1 = t .next1 };
+      next = record {
+        pad608 = s .pad608;
+        padOut = s .padOut;
+        carrying = s .carrying;
+        carry = s .carry;
+        packets = o .packets;
+        sending = o .sending;
+        queue1 = t .queue1;
+        queue2 = t .queue2;
+        next1 = t .next1;
+      };
     }
 
 -- A frame at given budgets: the turns, then packet triples up to the count, then padding.
@@ -188,6 +266,14 @@ writeFrame b s =
     let n = countDue b s in
     let t = turned (turnsDue (b .pairs) s) s in
     framed n t (send (n - length (t .out)) (s .sending) (s .packets)) s
+
+-- what a write at a rate gets, by the mode [G4]
+abbrev pub shareAt : ℕ → ℕ → Mux → Outcome Share
+shareAt numer denom s = shareBy (s .carrying) numer denom (s .carry)
+
+-- a write with its share: the frame at its budgets; the multiplexer afterwards keeps the parts [W16]
+abbrev pub writeShare : Share → Mux → Framed
+writeShare h s = let w = writeFrame (h .budgets) s in record { frame = w .frame; next = withCarry (s .carrying) (h .carry) (w .next) }
 
 -- the bytes of the frame, the lent output with them, and the multiplexer after a write
 pub record Written : Type 0 where
@@ -198,5 +284,5 @@ pub record Written : Type 0 where
 -- A frame written to a lent output at a rate: 8, then 9 [A4].
 unfoldable pub writeAt : ℕ → ℕ → List ℕ → Mux → Outcome Written
 writeAt numer denom out s =
-    andThen (budgets numer denom)
-    (λ b. let w = writeFrame b s in mapped (λ o. record { frame = frameBytes (w .frame); out = o; next = w .next }) (putInto out (frameBytes (w .frame))))
+    andThen (shareAt numer denom s)
+    (λ h. let w = writeShare h s in mapped (λ o. record { frame = frameBytes (w .frame); out = o; next = w .next }) (putInto out (frameBytes (w .frame))))

@@ -1,9 +1,9 @@
--- The two budgets of a frame rate: rules G of docs/RULES.md. Assumes nothing.
-use mathlib.Core.Bool.{cond, _||_}
+-- The two budgets of a frame rate, rounded or carried from frame to frame: rules G of docs/RULES.md. Assumes nothing.
+use mathlib.Core.Bool.{Bool, cond, _&&_, _||_}
 use mathlib.Core.List.{List, [], _∷_}
-use Prim.Native.Nat.{ℕ, _+_, _*_, _/_}
+use Prim.Native.Nat.{ℕ, _+_, _*_, _/_, _%_}
 use lib.Dec.{eqb, ltb}
-use Rattle.model.specs.Said.{Outcome, gave, refused, badRate}
+use Rattle.model.specs.Said.{Outcome, gave, refused, andThen, mapped, badRate}
 
 -- numer frames in denom seconds [G1]
 pub record Rate : Type 0 where
@@ -48,3 +48,54 @@ budgets numer denom =
 -- the two values that accepted budgets tell, in that order
 abbrev pub pairsThenTriples : Budgets → List ℕ
 pairsThenTriples b = b .pairs ∷ b .triples ∷ []
+
+-- Carried parts [G5]: numer and denom of the running sum, and what the sum has left over of the pairs and of the triples, in parts of numer.
+pub record Carry : Type 0 where
+  pub numer : ℕ
+  pub denom : ℕ
+  pub pairs : ℕ
+  pub triples : ℕ
+
+-- all four are 0 when a sum is to start afresh [G5]
+abbrev pub noCarry : Carry
+noCarry = record { numer = 0; denom = 0; pairs = 0; triples = 0 }
+
+-- both rests are below numer, or all four parts are 0 [G7]
+unfoldable pub validCarry : Carry → Bool
+validCarry c =
+    (ltb (c .pairs) (c .numer) && ltb (c .triples) (c .numer))
+    || (eqb (c .numer) 0 && (eqb (c .denom) 0 && (eqb (c .pairs) 0 && eqb (c .triples) 0)))
+
+-- the rests count as 0 if numer or denom differs from those kept [G5]
+unfoldable pub goingOn : ℕ → ℕ → Carry → Carry
+goingOn numer denom c = cond (eqb (c .numer) numer && eqb (c .denom) denom) c noCarry
+
+-- with what is left over, k · denom / numer rounded down [G4]
+unfoldable pub carried : ℕ → ℕ → ℕ → ℕ → ℕ
+carried k numer denom rest = (rest + k * denom) / numer
+
+-- and what that leaves over [G4]
+unfoldable pub leftOver : ℕ → ℕ → ℕ → ℕ → ℕ
+leftOver k numer denom rest = (rest + k * denom) % numer
+
+-- what a frame gets of a rate: its budgets, and the parts that are kept
+pub record Share : Type 0 where
+  pub budgets : Budgets
+  pub carry : Carry
+
+-- a sum that goes on with these rests
+unfoldable pub carriedOn : ℕ → ℕ → Carry → Share
+carriedOn numer denom c =
+    record {
+      budgets = record { pairs = carried 60 numer denom (c .pairs); triples = carried 600 numer denom (c .triples) };
+      carry = record { numer = numer; denom = denom; pairs = leftOver 60 numer denom (c .pairs); triples = leftOver 600 numer denom (c .triples) };
+    }
+
+-- in the carrying mode: 8 as without it, and also if 600 · denom exceeds 31 · numer [G6]
+unfoldable pub carriedShare : ℕ → ℕ → Carry → Outcome Share
+carriedShare numer denom c =
+    andThen (budgets numer denom) (λ _. cond (ltb (mostTriples * numer) (600 * denom)) (refused badRate) (gave (carriedOn numer denom (goingOn numer denom c))))
+
+-- by the mode; without it the budgets are the rounded ones, and the parts stay as they are
+unfoldable pub shareBy : Bool → ℕ → ℕ → Carry → Outcome Share
+shareBy carrying numer denom c = cond carrying (carriedShare numer denom c) (mapped (λ b. record { budgets = b; carry = c }) (budgets numer denom))

@@ -5,19 +5,20 @@ use mathlib.Core.List.{List, [], _∷_, _++_}
 use Prim.Native.Nat.{ℕ, zero, suc, _+_, _≤_}
 use lib.Dec.{eqb}
 use lib.ListN.{length}
-use Rattle.model.specs.Said.{Said, isGiven, after}
+use Rattle.model.specs.Said.{Said, gave, isGiven, after}
 use Rattle.model.specs.Packet.{Packet, validPacket}
 use Rattle.model.specs.Frame.{Pair, Cea608, field1, field2, frameBytes}
 use Rattle.model.specs.Demux.{Demux, Item, draw, takeFrame}
-use Rattle.model.specs.Rate.{Budgets, mostTriples}
-use Rattle.model.specs.Mux.{Mux, Framed, withPads, pushPacket, pushPair, pushCea608, isNull, writeFrame}
+use Rattle.model.specs.Rate.{Rate, Budgets, mostTriples, Share}
+use Rattle.model.specs.Mux.{Mux, Framed, withPads, withMode, pushPacket, pushPair, pushCea608, isNull, shareAt, writeShare}
 
--- what is done to a multiplexer, in any order; no flush [J0]. A write is at its budgets
+-- what is done to a multiplexer, in any order; no flush [J0]. A write is with its share
 pub data Call : Type 0 where
   pushes : Packet → Call
   pushes608 : Cea608 → Call
   pads : Bool → Bool → Call
-  writes : Budgets → Call
+  carries : Bool → Call
+  writes : Share → Call
 
 -- the frames that calls make, the nonempty packets and each field's pairs that are accepted, and the multiplexer at the end
 pub record Run : Type 0 where
@@ -46,8 +47,9 @@ call (pushes608 (field1 x)) s =
 call (pushes608 (field2 x)) s =
     record { frames = []; packets = []; pairs1 = []; pairs2 = onlyIf (isGiven (pushPair x (s .queue2))) x; last = after s (pushCea608 (field2 x) s) }
 call (pads a b) s = record { frames = []; packets = []; pairs1 = []; pairs2 = []; last = withPads a b s }
-call (writes b) s =
-    let w : Framed = writeFrame b s in
+call (carries on) s = record { frames = []; packets = []; pairs1 = []; pairs2 = []; last = withMode on s }
+call (writes h) s =
+    let w : Framed = writeShare h s in
     record { frames = frameBytes (w .frame) ∷ []; packets = []; pairs1 = []; pairs2 = []; last = w .next }
 
 -- what calls do, one after the other
@@ -58,23 +60,50 @@ run (c ∷ cs) s =
     let r = run cs (k .last) in
     record { frames = k .frames ++ r .frames; packets = k .packets ++ r .packets; pairs1 = k .pairs1 ++ r .pairs1; pairs2 = k .pairs2 ++ r .pairs2; last = r .last }
 
--- What the budgets of an accepted rate are bounded by [G1] [G2]. Budgets that no rate has are within these bounds too.
+-- What is asked of the budgets of an accepted write, in either mode [G2] [G6]. Budgets that no rate has are within these bounds too.
 pub record Accepted (b : Budgets) : Type 0 where
-  pub some-pair : 1 ≤ b .pairs
   pub apart : b .pairs + 4 ≤ b .triples
   pub most : b .triples ≤ mostTriples
 
--- a write is at an accepted rate with at least one padding on [J0]; a packet is one that breaks no limit
-abbrev pub AllowedCall : Call → Mux → Type 0
-AllowedCall (pushes p) s = validPacket p ≡ true
-AllowedCall (pushes608 x) s = Unit {0}
-AllowedCall (pads a b) s = Unit {0}
-AllowedCall (writes b) s = Accepted b × (s .pad608 || s .padOut ≡ true)
+-- with so many pairs, and those of the next, there is a pair
+abbrev pub PairBeside : ℕ → List Budgets → Type 0
+PairBeside n [] = Unit {0}
+PairBeside n (b ∷ bs) = 1 ≤ n + b .pairs
+
+-- And of those of writes in a row: of any two there is at least one pair [J3].
+abbrev pub OneOfTwo : List Budgets → Type 0
+OneOfTwo [] = Unit {0}
+OneOfTwo (b ∷ bs) = PairBeside (b .pairs) bs × OneOfTwo bs
+
+-- whether a padding is on [J0]
+abbrev pub anyPadding : Mux → Bool
+anyPadding s = s .pad608 || s .padOut
+
+-- a write has accepted budgets and is of a multiplexer that passes a test; a packet is one that breaks no limit
+abbrev pub AllowedCall : (Mux → Bool) → Call → Mux → Type 0
+AllowedCall passes (pushes p) s = validPacket p ≡ true
+AllowedCall passes (pushes608 x) s = Unit {0}
+AllowedCall passes (pads a b) s = Unit {0}
+AllowedCall passes (carries on) s = Unit {0}
+AllowedCall passes (writes h) s = Accepted (h .budgets) × (passes s ≡ true)
 
 -- each call is allowed at the multiplexer that it meets
-abbrev pub Allowed : List Call → Mux → Type 0
-Allowed [] s = Unit {0}
-Allowed (c ∷ cs) s = AllowedCall c s × Allowed cs (call c s .last)
+abbrev pub Allowed : (Mux → Bool) → List Call → Mux → Type 0
+Allowed passes [] s = Unit {0}
+Allowed passes (c ∷ cs) s = AllowedCall passes c s × Allowed passes cs (call c s .last)
+
+-- The mode stays on or off: it is set to what it is. A write gets its share at a rate; with the mode on that is always the rate r.
+abbrev pub StaysCall : Bool → Rate → Call → Mux → Type 0
+StaysCall on r (pushes p) s = Unit {0}
+StaysCall on r (pushes608 x) s = Unit {0}
+StaysCall on r (pads a b) s = Unit {0}
+StaysCall on r (carries x) s = x ≡ on
+StaysCall on r (writes h) s = (q : Rate) × (shareAt (q .numer) (q .denom) s ≡ gave h) × (on ≡ true → q ≡ r)
+
+-- each call leaves it so
+abbrev pub Stays : Bool → Rate → List Call → Mux → Type 0
+Stays on r [] s = Unit {0}
+Stays on r (c ∷ cs) s = StaysCall on r c s × Stays on r cs (call c s .last)
 
 -- nothing is queued and nothing is being sent [J1]
 pub record Drained (s : Mux) : Type 0 where

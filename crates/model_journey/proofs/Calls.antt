@@ -1,5 +1,5 @@
 -- What the calls that write no frame do to a multiplexer. Assumes nothing.
-use mathlib.Core.Path.{_≡_, refl, sym}
+use mathlib.Core.Path.{_≡_, refl, sym, _∙_}
 use mathlib.Core.Bool.{Bool, true, false, not, _&&_}
 use mathlib.Core.List.{List, [], _∷_, _++_, append-nil}
 use Prim.Native.Nat.{_≤_}
@@ -11,7 +11,7 @@ use Rattle.model.specs.Said.{Outcome, gave, refused, isGiven, after, mapped}
 use Rattle.model.specs.Packet.{Packet}
 use Rattle.model.specs.Frame.{Pair, Cea608, field1, field2}
 use Rattle.model.specs.Mux.{Mux, withPackets, withQueues, queued, pushPacket, isNull, pushPair, pushCea608, mostPackets, mostQueued}
-use Rattle.model.specs.Run.{pushes, pushes608, pads, Run, onlyIf, call, run, others}
+use Rattle.model.specs.Run.{pushes, pushes608, pads, carries, Run, onlyIf, call, run, others}
 use Rattle.model.proofs.Cases.{by-test}
 use Rattle.model.proofs.Packets.{Valid}
 use Rattle.model_journey.specs.Bounds.{Field, one, two, the, queueOf, acceptedOf}
@@ -81,6 +81,12 @@ unfolding call
 quiet-pads a b s =
     record { frames = refl; sending = refl; next1 = refl; packets = append-nil (s .packets); pairs = elim [ one ↦ grown-none (s .queue1) | two ↦ grown-none (s .queue2) ] }
 
+-- the mode is set
+pub quiet-mode : (on : Bool) (s : Mux) → Quiet s (call (carries on) s)
+unfolding call
+quiet-mode on s =
+    record { frames = refl; sending = refl; next1 = refl; packets = append-nil (s .packets); pairs = elim [ one ↦ grown-none (s .queue1) | two ↦ grown-none (s .queue2) ] }
+
 -- the queues of pairs grow
 quiet-queues : (s : Mux) {x1 x2 q1 q2 : List Pair} → Grown (s .queue1) x1 q1 → Grown (s .queue2) x2 q2
     → Quiet s (record { frames = []; packets = []; pairs1 = x1; pairs2 = x2; last = withQueues q1 q2 s })
@@ -119,3 +125,25 @@ quiet-push p s =
 pub stored-push : (p : Packet) (s : Mux) → Valid p → AllStored (call (pushes p) s .packets)
 unfolding call
 stored-push p s v = push-cases (λ (ps : List Packet) (s′ : Mux). AllStored ps) p s none (λ some. also (record { valid = v; some = some }) none)
+
+-- the mode and the parts that it carries stay
+pub record SameSum (s s′ : Mux) : Type 0 where
+  pub carrying : s′ .carrying ≡ s .carrying
+  pub carry : s′ .carry ≡ s .carry
+
+-- a packet that is pushed leaves them
+pub sum-push : (p : Packet) (s : Mux) → SameSum s (call (pushes p) s .last)
+unfolding call
+sum-push p s =
+    push-cases (λ (ps : List Packet) (s′ : Mux). SameSum s s′) p s (record { carrying = refl; carry = refl }) (λ some. record { carrying = refl; carry = refl })
+
+-- and so does a pair
+pub sum-608 : (x : Cea608) (s : Mux) → SameSum s (call (pushes608 x) s .last)
+unfolding call pushCea608
+sum-608 (field1 x) s = rw (after1 s (pushPair x (s .queue1))) (record { carrying = refl; carry = refl })
+sum-608 (field2 x) s = rw (after2 s (pushPair x (s .queue2))) (record { carrying = refl; carry = refl })
+
+-- and so does turning the mode on where it is on
+pub sum-mode : (on : Bool) (s : Mux) → on ≡ true → s .carrying ≡ true → SameSum s (call (carries on) s .last)
+unfolding call
+sum-mode on s e m = record { carrying = e ∙ sym m; carry = rw (e, m) }

@@ -8,9 +8,9 @@ use Rattle.model.specs.Said.{Said, accepted}
 use Rattle.model.specs.Packet.{Packet}
 use Rattle.model.specs.Frame.{Pair, Cea608, field1, field2, frameBytes}
 use Rattle.model.specs.Demux.{Demux, takeFrame}
-use Rattle.model.specs.Rate.{Budgets}
-use Rattle.model.specs.Mux.{Mux, writeFrame}
-use Rattle.model.specs.Run.{Call, pushes, pushes608, pads, writes, Run, call, run, AllowedCall, Allowed, Read, emptied, readFrames, ofField1, ofField2, others}
+use Rattle.model.specs.Rate.{Share}
+use Rattle.model.specs.Mux.{Mux, writeShare}
+use Rattle.model.specs.Run.{Call, pushes, pushes608, pads, carries, writes, Run, call, run, anyPadding, AllowedCall, Allowed, Read, emptied, readFrames, ofField1, ofField2, others}
 use Rattle.model.proofs.Packets.{valid-facts}
 use Rattle.model_journey.specs.Bounds.{Field, one, two, queueOf, acceptedOf}
 use Rattle.model_journey.proofs.Turns.{ofField, others-append}
@@ -18,7 +18,7 @@ use Rattle.model_journey.proofs.Gather.{AllStored, none, also, underway
 use Rattle.model_journey.proofs.Count.{fits, counted}
 use Rattle.model_journey.proofs.Taking.{holding}
 use Rattle.model_journey.proofs.Round.{Ready, round}
-use Rattle.model_journey.proofs.Calls.{none-accepted, thenRun, accepted-append, Quiet, quiet-none, quiet-pads, quiet-608, quiet-push, stored-push}
+use Rattle.model_journey.proofs.Calls.{none-accepted, thenRun, accepted-append, Quiet, quiet-none, quiet-pads, quiet-mode, quiet-608, quiet-push, stored-push}
 
 -- What was there and what came in is, in order, what went out and what is there now.
 pub record Kept {A : Type 0} (before into out now : List A) : Type 0 where
@@ -62,26 +62,30 @@ quiet-carried {s} {g} {k} d new h =
     })
 
 -- a write at an accepted rate with a padding on
-write-carried : (b : Budgets) (s : Mux) (g : List ℕ) → AllowedCall (writes b) s → Ready s g → Carried s g (call (writes b) s) (readFrames (call (writes b) s .frames) (holding g))
+write-carried : (b : Share) (s : Mux) (g : List ℕ) → AllowedCall anyPadding (writes b) s → Ready s g → Carried s g (call (writes b) s) (readFrames (call (writes b) s .frames) (holding g))
 unfolding call readFrames
 write-carried b s g w h =
-    let d = round b s g (fits (w .0)) (counted b s (fits (w .0)) (w .1)) h in
-    let t = takeFrame (frameBytes (writeFrame b s .frame)) (holding g) in
+    let d = round (b .budgets) s g (fits (w .0)) (counted (b .budgets) s (fits (w .0)) (w .1)) h in
+    let t = takeFrame (frameBytes (writeShare b s .frame)) (holding g) in
     record {
       answers = ap (λ (a : Said). a ∷ []) (d .answer);
       held = ap (λ (on : Bool). record { on608 = on; pairs = []; pending = t .next .pending; waiting = [] }) (d .on);
-      ready = d .ready;
+      ready = record { linked = d .ready .linked; rested = d .ready .rested; stored = d .ready .stored };
       packets = record { same = rw (append-nil (t .next .waiting)) (append-nil _ ∙ d .packets) };
-      pairs = λ f. record { same = rw (append-nil (t .next .pairs), none-accepted f) (append-nil _ ∙ d .pairs f) };
+      pairs = elim [
+        | one ↦ record { same = rw (append-nil (t .next .pairs), none-accepted one) (append-nil _ ∙ d .pairs one) }
+        | two ↦ record { same = rw (append-nil (t .next .pairs), none-accepted two) (append-nil _ ∙ d .pairs two) }
+      ];
     }
 
 -- any call that is allowed
-call-carried : (c : Call) (s : Mux) (g : List ℕ) → AllowedCall c s → Ready s g → Carried s g (call c s) (readFrames (call c s .frames) (holding g))
+call-carried : (c : Call) (s : Mux) (g : List ℕ) → AllowedCall anyPadding c s → Ready s g → Carried s g (call c s) (readFrames (call c s .frames) (holding g))
 unfolding call
 call-carried (pushes p) s g w h = quiet-carried (quiet-push p s) (stored-push p s (valid-facts p w)) h
 call-carried (pushes608 (field1 x)) s g w h = quiet-carried (quiet-608 (field1 x) s) none h
 call-carried (pushes608 (field2 x)) s g w h = quiet-carried (quiet-608 (field2 x) s) none h
 call-carried (pads a b) s g w h = quiet-carried (quiet-pads a b s) none h
+call-carried (carries on) s g w h = quiet-carried (quiet-mode on s) none h
 call-carried (writes b) s g w h = write-carried b s g w h
 
 -- the frames of the one read, and then those of the other
@@ -118,7 +122,7 @@ then-carried {s} {g} {k} {r} {o} {p} c d =
     }
 
 -- a run of calls that are allowed
-pub carried : (cs : List Call) (s : Mux) (g : List ℕ) → Allowed cs s → Ready s g → Carried s g (run cs s) (readFrames (run cs s .frames) (holding g))
+pub carried : (cs : List Call) (s : Mux) (g : List ℕ) → Allowed anyPadding cs s → Ready s g → Carried s g (run cs s) (readFrames (run cs s .frames) (holding g))
 unfolding run
 carried [] s g w h = quiet-carried (quiet-none s) none h
 carried (c ∷ cs) s g w h =

@@ -2,14 +2,14 @@
 use mathlib.Core.Path.{_≡_, refl}
 use mathlib.Core.Bool.{true}
 use mathlib.Core.List.{List, [], _∷_, _++_}
-use Prim.Native.Nat.{ℕ, zero, suc, _+_, _*_}
+use Prim.Native.Nat.{ℕ, zero, suc, _+_, _*_, _≤_}
 use native.Mathlib.Omega.{arith}
 use lib.ListN.{length, replicate}
-use Rattle.model.specs.Rate.{Budgets}
-use Rattle.model.specs.Mux.{Mux, withPads, unsent, framed, writeFrame}
-use Rattle.model.specs.Run.{Call, pads, writes, call, run, Accepted, Allowed, Drained}
-use Rattle.model_journey.specs.Bounds.{writesIn, AtRates, NoPush}
-use Rattle.model_journey.proofs.Drains.{drains}
+use Rattle.model.specs.Rate.{Share}
+use Rattle.model.specs.Mux.{Mux, withPads, unsent, framed, writeFrame, writeShare}
+use Rattle.model.specs.Run.{Call, pads, writes, call, run, Accepted, anyPadding, Allowed, Drained}
+use Rattle.model_journey.specs.Bounds.{budgetsIn, writesIn, pairedIn, AtRates, NoPush}
+use Rattle.model_journey.proofs.Drains.{drains-paired}
 
 -- calls behind others
 last-append : (cs ds : List Call) (s : Mux) → run (cs ++ ds) s .last ≡ run ds (run cs s .last) .last
@@ -18,45 +18,52 @@ last-append [] ds s = refl
 last-append (c ∷ cs) ds s = last-append cs ds (call c s .last)
 
 -- they are allowed if both are
-allowed-append : (cs ds : List Call) (s : Mux) → Allowed cs s → Allowed ds (run cs s .last) → Allowed (cs ++ ds) s
+allowed-append : (cs ds : List Call) (s : Mux) → Allowed anyPadding cs s → Allowed anyPadding ds (run cs s .last) → Allowed anyPadding (cs ++ ds) s
 unfolding run
 allowed-append [] ds s w v = v
 allowed-append (c ∷ cs) ds s w v = (w .0, allowed-append cs ds (call c s .last) (w .1) v)
 
-module _ (b : Budgets) (a : Accepted b) where
-  -- n writes at one rate
+module _ (h : Share) (a : Accepted (h .budgets)) (some : 1 ≤ h .budgets .pairs) where
+  -- n writes with one share
   abbrev writing : ℕ → List Call
-  writing n = replicate n (writes b)
+  writing n = replicate n (writes h)
 
   -- are allowed while 608 padding is on, which a write leaves as it is
-  allowed-writing : (n : ℕ) (s : Mux) → s .pad608 ≡ true → Allowed (writing n) s
+  allowed-writing : (n : ℕ) (s : Mux) → s .pad608 ≡ true → Allowed anyPadding (writing n) s
   unfolding call writeFrame framed
   allowed-writing zero s on = tt
-  allowed-writing (suc n) s on = ((a, rw on), allowed-writing n (writeFrame b s .next) on)
+  allowed-writing (suc n) s on = ((a, rw on), allowed-writing n (writeShare h s .next) on)
 
   -- push nothing
   no-push : (n : ℕ) → NoPush (writing n)
   no-push zero = tt
   no-push (suc n) = no-push n
 
-  -- are at an accepted rate
+  -- are accepted
   at-rates : (n : ℕ) → AtRates (writing n)
   at-rates zero = tt
   at-rates (suc n) = (a, at-rates n)
 
-  -- and are n
+  -- are n
   writes-in : (n : ℕ) → writesIn (writing n) ≡ n
   writes-in zero = refl
   writes-in (suc n) = rw (writes-in n)
 
+  -- and have a pair each
+  paired-in : (n : ℕ) → pairedIn (budgetsIn (writing n)) ≡ n
+  paired-in zero = refl
+  paired-in (suc n) = rw (paired-in n) (omega arith)
+
   -- with both paddings turned on, so many writes more drain any run
-  pub drainable : (cs : List Call) (s : Mux) → Allowed cs s → (n : ℕ) × Allowed (cs ++ (pads true true ∷ writing n)) s × Drained (run (cs ++ (pads true true ∷ writing n)) s .last)
+  pub drainable : (cs : List Call) (s : Mux) → Allowed anyPadding cs s
+      → (n : ℕ) × Allowed anyPadding (cs ++ (pads true true ∷ writing n)) s × Drained (run (cs ++ (pads true true ∷ writing n)) s .last)
   unfolding run call
   drainable cs s w =
       let t : Mux = run cs s .last in
       let n : ℕ = 2 * length (t .queue1) + 2 * length (t .queue2) + unsent t in
-      let k = writes-in n in (
+      let k = writes-in n in
+      let p = paired-in n in (
         n,
         allowed-append cs (pads true true ∷ writing n) s w (tt, allowed-writing n (withPads true true t) refl),
-        rw (last-append cs (pads true true ∷ writing n) s) (drains (writing n) (withPads true true t) (no-push n) (at-rates n) (omega arith) (omega arith) (omega arith)),
+        rw (last-append cs (pads true true ∷ writing n) s) (drains-paired (writing n) (withPads true true t) (no-push n) (at-rates n) (omega arith) (omega arith) (omega arith)),
       )

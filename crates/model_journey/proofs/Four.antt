@@ -6,9 +6,9 @@ use Prim.Native.Nat.{ℕ, _+_, _-_, _≤_, min}
 use native.Mathlib.Omega.{arith}
 use lib.ListN.{length}
 use Rattle.model.specs.Frame.{Triple, Seen, seenAll}
-use Rattle.model.specs.Rate.{Budgets}
-use Rattle.model.specs.Mux.{Mux, freshMux, Sent, turnsDue, turned, unsent, countDue, padding, framed, writeFrame}
-use Rattle.model.specs.Run.{Call, pushes, pushes608, pads, writes, call, run, Accepted}
+use Rattle.model.specs.Rate.{Budgets, Share}
+use Rattle.model.specs.Mux.{Mux, freshMux, Sent, turnsDue, turned, unsent, countDue, padding, framed, writeFrame, writeShare}
+use Rattle.model.specs.Run.{Call, pushes, pushes608, pads, carries, writes, call, run, Accepted}
 use Rattle.model_journey.specs.Bounds.{packetTriplesIn, SendsFour}
 use Rattle.model_journey.proofs.Parts.{In608, end6, one6, two6, void6, seen-append}
 use Rattle.model_journey.proofs.Padding.{padding-none}
@@ -51,18 +51,26 @@ sent-in b s f =
     (omega (arith, sent-only m f (s .packets) .number (seenAll pad), padding-none (s .padOut) (m - length (o .out))))
 
 -- a write in any state whose triples left go on with a packet
-pub four-at : (b : Budgets) (s : Mux) → b .pairs + 4 ≤ b .triples → Follow (s .sending) → SendsFour s (writeFrame b s)
-four-at b s apart f = record { four = omega (arith, sent-in b s f, sends-four b s apart); no-other = omega (arith, sent-in b s f, remains b s) }
+pub four-at : (h : Share) (s : Mux) → h .budgets .pairs + 4 ≤ h .budgets .triples → Follow (s .sending) → SendsFour s (writeShare h s)
+four-at h s apart f =
+    let b : Budgets = h .budgets in
+    record { four = omega (arith, sent-in b s f, sends-four b s apart); no-other = omega (arith, sent-in b s f, remains b s) }
 
--- the triples left go on with a packet, whatever is called
+-- the triples left of one write go on with a packet
+pub follow-write : (h : Share) (s : Mux) → Follow (s .sending) → Follow (writeShare h s .next .sending)
+unfolding writeFrame framed
+follow-write h s f = sent-only _ f (s .packets) .follow
+
+-- and so they do whatever is called
 pub follow-run : (cs : List Call) (s : Mux) → Follow (s .sending) → Follow (run cs s .last .sending)
-unfolding run call writeFrame framed
+unfolding run call
 follow-run [] s f = f
 follow-run (pushes p ∷ cs) s f = follow-run cs (call (pushes p) s .last) (rw (quiet-push p s .sending) f)
 follow-run (pushes608 x ∷ cs) s f = follow-run cs (call (pushes608 x) s .last) (rw (quiet-608 x s .sending) f)
 follow-run (pads a b ∷ cs) s f = follow-run cs (call (pads a b) s .last) f
-follow-run (writes b ∷ cs) s f = follow-run cs (writeFrame b s .next) (sent-only _ f (s .packets) .follow)
+follow-run (carries on ∷ cs) s f = follow-run cs (call (carries on) s .last) f
+follow-run (writes h ∷ cs) s f = follow-run cs (writeShare h s .next) (follow-write h s f)
 
 -- each write sends at least four packet triples, or all that are left [J4]: after any calls on a fresh multiplexer
-pub four : (cs : List Call) (b : Budgets) → Accepted b → SendsFour (run cs freshMux .last) (writeFrame b (run cs freshMux .last))
-four cs b a = four-at b (run cs freshMux .last) (a .apart) (follow-run cs freshMux stop)
+pub four : (cs : List Call) (h : Share) → Accepted (h .budgets) → SendsFour (run cs freshMux .last) (writeShare h (run cs freshMux .last))
+four cs h a = four-at h (run cs freshMux .last) (a .apart) (follow-run cs freshMux stop)

@@ -1,4 +1,5 @@
--- The pair at place i of its field leaves within 2i writes at accepted rates. Assumes nothing.
+-- The pair at place i of its field leaves within 2i writes that have a pair: within 2i writes while the carrying mode is off, within 4i while it is on
+-- and the rate stays. Assumes nothing.
 use mathlib.Core.Path.{_≡_, sym, ap, _∙_}
 use mathlib.Core.Bool.{Bool, true, false, cond}
 use mathlib.Core.List.{List, [], _∷_, _++_, append-assoc, append-nil}
@@ -7,46 +8,47 @@ use native.Mathlib.Omega.{arith}
 use lib.ListN.{length, take, length-append}
 use lib.Seq.{take-append-le}
 use Rattle.model.specs.Frame.{Pair}
-use Rattle.model.specs.Rate.{Budgets}
-use Rattle.model.specs.Mux.{Mux, turnsDue, framed, writeFrame}
-use Rattle.model.specs.Run.{Call, pushes, pushes608, pads, writes, Run, call, run, others}
-use Rattle.model_journey.specs.Bounds.{Field, one, two, queueOf, acceptedOf, writesIn, AtRates, Left, LeavesInTime}
+use Rattle.model.specs.Rate.{Rate, Budgets}
+use Rattle.model.specs.Mux.{Mux, turnsDue, framed, writeFrame, writeShare}
+use Rattle.model.specs.Run.{Call, pushes, pushes608, pads, carries, writes, Run, call, run, Stays, others}
+use Rattle.model_journey.specs.Bounds.{Field, one, two, queueOf, acceptedOf, budgetsIn, pairedIn, Left, LeavesInTime}
 use Rattle.model_journey.proofs.Turns.{others-append, mine, mine-most, turns-serve}
-use Rattle.model_journey.proofs.Calls.{none-accepted, thenRun, accepted-append, Quiet, quiet-pads, quiet-608, quiet-push}
+use Rattle.model_journey.proofs.Calls.{none-accepted, thenRun, accepted-append, Quiet, quiet-pads, quiet-mode, quiet-608, quiet-push}
+use Rattle.model_journey.proofs.Paces.{paced}
 
--- a frame at a rate with a pair has a turn if a field has a pair
-some-turn : (f : Field) (s : Mux) (p : ℕ) → 1 ≤ p → 1 ≤ length (queueOf f s) → 1 ≤ turnsDue p s
+-- a frame whose budget has a pair has a turn if a field has a pair
+some-turn : (f : Field) (s : Mux) (p : ℕ) → 1 ≤ length (queueOf f s) → min 1 p ≤ turnsDue p s
 unfolding turnsDue
-some-turn f s p h k = by-pad f (s .pad608) k
+some-turn f s p k = by-pad f (s .pad608) k
   where
-    by-pad : (f : Field) (b : Bool) → 1 ≤ length (queueOf f s) → 1 ≤ cond b p (min p (max (length (s .queue1)) (2 * length (s .queue2))))
-    by-pad f true k = h
+    by-pad : (f : Field) (b : Bool) → 1 ≤ length (queueOf f s) → min 1 p ≤ cond b p (min p (max (length (s .queue1)) (2 * length (s .queue2))))
+    by-pad f true k = omega arith
     by-pad one false k = omega arith
     by-pad two false k = omega arith
 
--- What a write does for a field: the first pairs of its queue go. A place that is reached in so many writes, half a write counted where the
--- next turn is the field's, is then `length gone` places nearer, and there is one write less.
-pub record Moved (f : Field) (s s′ : Mux) : Type 0 where
+-- What a write does for a field: the first pairs of its queue go. A place that is reached in so many writes with a pair, half a write counted where
+-- the next turn is the field's, is then `length gone` places nearer, and if this was such a write there is one less.
+pub record Moved (f : Field) (p : ℕ) (s s′ : Mux) : Type 0 where
   pub gone : List Pair
   pub cut : queueOf f s ≡ gone ++ queueOf f s′
-  pub nearer : (i left : ℕ) → i ≤ length (queueOf f s) → 2 * i ≤ suc left + mine f (s .next1) → 2 * (i - length gone) ≤ left + mine f (s′ .next1)
+  pub nearer : (i left : ℕ) → i ≤ length (queueOf f s) → 2 * i ≤ min 1 p + left + mine f (s .next1) → 2 * (i - length gone) ≤ left + mine f (s′ .next1)
 
--- in n turns, one at least if anything is queued, g places of a go
-nearer-by : (i a g m n c w w′ : ℕ) → i ≤ a → g ≡ min a m → 2 * m + w′ ≡ n + w → (1 ≤ a → 1 ≤ n) → 2 * i ≤ suc c + w → 2 * (i - g) ≤ c + w′
-nearer-by zero a g m n c w w′ h e k t u = omega arith
-nearer-by (suc i) a g m n c w w′ h e k t u = let v : 1 ≤ n = t (omega arith) in omega arith
+-- in n turns, one at least if there is a pair and anything is queued, g places of a go
+nearer-by : (i a g m n p c w w′ : ℕ) → i ≤ a → g ≡ min a m → 2 * m + w′ ≡ n + w → (1 ≤ a → min 1 p ≤ n) → 2 * i ≤ min 1 p + c + w → 2 * (i - g) ≤ c + w′
+nearer-by zero a g m n p c w w′ h e k t u = omega arith
+nearer-by (suc i) a g m n p c w w′ h e k t u = let v : min 1 p ≤ n = t (omega arith) in omega arith
 
--- every write at a rate with a pair does so
-pub moved : (f : Field) (b : Budgets) (s : Mux) → 1 ≤ b .pairs → Moved f s (writeFrame b s .next)
+-- every write does so
+pub moved : (f : Field) (b : Budgets) (s : Mux) → Moved f (b .pairs) s (writeFrame b s .next)
 unfolding writeFrame framed
-moved f b s some =
+moved f b s =
     let n : ℕ = turnsDue (b .pairs) s in
     let v = turns-serve f n s in
-    let t = some-turn f s (b .pairs) some in
+    let t = some-turn f s (b .pairs) in
     record {
       gone = v .gone;
       cut = v .cut;
-      nearer = λ i left h k. nearer-by i (length (queueOf f s)) (length (v .gone)) (v .m) n left _ _ h (v .enough) (v .clock) t k;
+      nearer = λ i left h k. nearer-by i (length (queueOf f s)) (length (v .gone)) (v .m) n (b .pairs) left _ _ h (v .enough) (v .clock) t k;
     }
 
 -- first these go, then those
@@ -78,24 +80,29 @@ module _ (f : Field) where
       rw (came-append f k r) (left-then (others (acceptedOf f k)) i i [] behind (later (omega (arith, length-append (queueOf f s) (others (acceptedOf f k)))) (rw (d .next1) e)) (omega arith))
 
   -- call by call
-  goes : (cs : List Call) (s : Mux) (i : ℕ) → AtRates cs → i ≤ length (queueOf f s) → 2 * i ≤ writesIn cs + mine f (s .next1) → Goes i s (run cs s)
+  goes : (cs : List Call) (s : Mux) (i : ℕ) → i ≤ length (queueOf f s) → 2 * i ≤ pairedIn (budgetsIn cs) + mine f (s .next1) → Goes i s (run cs s)
   unfolding run call
-  goes [] s i r h k = record { gone = []; cut = rw (none-accepted f) (append-nil _); enough = omega (arith, mine-most f (s .next1)) }
-  goes (pushes p ∷ cs) s i r h k = quiet-left (run cs (call (pushes p) s .last)) i (writesIn cs) (quiet-push p s) (goes cs _ i r) h k
-  goes (pushes608 x ∷ cs) s i r h k = quiet-left (run cs (call (pushes608 x) s .last)) i (writesIn cs) (quiet-608 x s) (goes cs _ i r) h k
-  goes (pads a b ∷ cs) s i r h k = quiet-left (run cs (call (pads a b) s .last)) i (writesIn cs) (quiet-pads a b s) (goes cs _ i r) h k
-  goes (writes b ∷ cs) s i r h k =
-      let v = moved f b s (r .0 .some-pair) in
-      let s′ = writeFrame b s .next in
+  goes [] s i h k = record { gone = []; cut = rw (none-accepted f) (append-nil _); enough = omega (arith, mine-most f (s .next1)) }
+  goes (pushes p ∷ cs) s i h k = quiet-left (run cs (call (pushes p) s .last)) i (pairedIn (budgetsIn cs)) (quiet-push p s) (goes cs _ i) h k
+  goes (pushes608 x ∷ cs) s i h k = quiet-left (run cs (call (pushes608 x) s .last)) i (pairedIn (budgetsIn cs)) (quiet-608 x s) (goes cs _ i) h k
+  goes (pads a b ∷ cs) s i h k = quiet-left (run cs (call (pads a b) s .last)) i (pairedIn (budgetsIn cs)) (quiet-pads a b s) (goes cs _ i) h k
+  goes (carries on ∷ cs) s i h k = quiet-left (run cs (call (carries on) s .last)) i (pairedIn (budgetsIn cs)) (quiet-mode on s) (goes cs _ i) h k
+  goes (writes b ∷ cs) s i h k =
+      let v = moved f (b .budgets) s in
+      let s′ = writeShare b s .next in
       let j : ℕ = i - length (v .gone) in
       let long = ap length (v .cut) in
-      let w = goes cs s′ j (r .1) (omega (arith, length-append (v .gone) (queueOf f s′))) (v .nearer i (writesIn cs) h k) in
+      let w = goes cs s′ j (omega (arith, length-append (v .gone) (queueOf f s′))) (v .nearer i (pairedIn (budgetsIn cs)) h k) in
       rw (came-append f (call (writes b) s) (run cs s′), none-accepted f) (left-then [] i j (v .gone) (append-nil _ ∙ v .cut) w (omega arith))
 
--- the pair at place i has left after 2i accepted writes [J3]: after so many or more, whatever is pushed or switched between them, the first i
--- places of what was queued have gone
-pub leaves : (f : Field) (cs : List Call) (s : Mux) → AtRates cs → LeavesInTime f cs s
-leaves f cs s r i h k = goes f cs s i r h (omega arith)
+-- after 2i writes with a pair, or more, the first i places of what was queued have gone, whatever is called between them
+pub leaves-paired : (f : Field) (cs : List Call) (s : Mux) (i : ℕ) → i ≤ length (queueOf f s) → 2 * i ≤ pairedIn (budgetsIn cs)
+    → Left i (queueOf f s) (others (acceptedOf f (run cs s))) (queueOf f (run cs s .last))
+leaves-paired f cs s i h k = goes f cs s i h (omega arith)
+
+-- so the pair at place i has left after 2i accepted writes while the mode stays off, after 4i while it stays on and the rate stays [J3]
+pub leaves : (on : Bool) (r : Rate) (f : Field) (cs : List Call) (s : Mux) → s .carrying ≡ on → Stays on r cs s → LeavesInTime on f cs s
+leaves on r f cs s mode st i h k = leaves-paired f cs s i h (paced on r cs s mode st i k)
 
 -- those that went begin with the pairs at the first i places
 pub first-gone : {i : ℕ} {q came q′ : List Pair} (w : Left i q came q′) → i ≤ length q → take i (w .gone) ≡ take i q

@@ -12,7 +12,9 @@ pub mod Carried
 pub mod Trip
 pub mod Distinct
 pub mod Draws
+pub mod Paces
 pub mod Leaves
 pub mod Four
 pub mod Drains
+pub mod Sums
 pub mod Drainable

@@ -1,11 +1,13 @@
 -- How soon what is queued leaves. Assumes nothing.
 use mathlib.Core.Path.{_≡_}
+use mathlib.Core.Bool.{Bool, cond}
 use mathlib.Core.List.{List, [], _∷_, _++_}
 use Prim.Native.Nat.{ℕ, suc, _+_, _*_, _≤_, min}
 use lib.ListN.{length}
 use Rattle.model.specs.Frame.{Pair, Seen, first, second, start, more, void608, void708, seenAll}
+use Rattle.model.specs.Rate.{Budgets}
 use Rattle.model.specs.Mux.{Mux, Framed, unsent}
-use Rattle.model.specs.Run.{Call, pushes, pushes608, pads, writes, Run, run, Accepted, Drained, others}
+use Rattle.model.specs.Run.{Call, pushes, pushes608, pads, carries, writes, Run, run, Accepted, Drained, others}
 
 -- one of the two fields
 pub data Field : Type 0 where
@@ -24,21 +26,32 @@ queueOf f s = the f (s .queue1) (s .queue2)
 abbrev pub acceptedOf : Field → Run → List Pair
 acceptedOf f r = the f (r .pairs1) (r .pairs2)
 
--- the writes among calls
-abbrev pub writesIn : List Call → ℕ
-writesIn [] = 0
-writesIn (pushes p ∷ cs) = writesIn cs
-writesIn (pushes608 x ∷ cs) = writesIn cs
-writesIn (pads a b ∷ cs) = writesIn cs
-writesIn (writes b ∷ cs) = suc (writesIn cs)
+-- the budgets of the writes among calls
+abbrev pub budgetsIn : List Call → List Budgets
+budgetsIn [] = []
+budgetsIn (pushes p ∷ cs) = budgetsIn cs
+budgetsIn (pushes608 x ∷ cs) = budgetsIn cs
+budgetsIn (pads a b ∷ cs) = budgetsIn cs
+budgetsIn (carries on ∷ cs) = budgetsIn cs
+budgetsIn (writes h ∷ cs) = h .budgets ∷ budgetsIn cs
 
--- each write is at an accepted rate; nothing is asked of the paddings
+-- how many writes there are
+abbrev pub writesIn : List Call → ℕ
+writesIn cs = length (budgetsIn cs)
+
+-- how many of these budgets have a pair
+abbrev pub pairedIn : List Budgets → ℕ
+pairedIn [] = 0
+pairedIn (b ∷ bs) = min 1 (b .pairs) + pairedIn bs
+
+-- each write has accepted budgets; nothing is asked of the switches
 abbrev pub AtRates : List Call → Type 0
 AtRates [] = Unit {0}
 AtRates (pushes p ∷ cs) = AtRates cs
 AtRates (pushes608 x ∷ cs) = AtRates cs
 AtRates (pads a b ∷ cs) = AtRates cs
-AtRates (writes b ∷ cs) = Accepted b × AtRates cs
+AtRates (carries on ∷ cs) = AtRates cs
+AtRates (writes h ∷ cs) = Accepted (h .budgets) × AtRates cs
 
 -- nothing is pushed; the switches may change
 abbrev pub NoPush : List Call → Type 0
@@ -46,7 +59,8 @@ NoPush [] = Unit {0}
 NoPush (pushes p ∷ cs) = ⊥
 NoPush (pushes608 x ∷ cs) = ⊥
 NoPush (pads a b ∷ cs) = NoPush cs
-NoPush (writes b ∷ cs) = NoPush cs
+NoPush (carries on ∷ cs) = NoPush cs
+NoPush (writes h ∷ cs) = NoPush cs
 
 -- The pairs at the first i places of the queue q have left: what was queued and then what came is, in order, what went and then q′, which is
 -- queued now; and i pairs or more went.
@@ -55,15 +69,20 @@ pub record Left (i : ℕ) (q came q′ : List Pair) : Type 0 where
   pub cut : q ++ came ≡ gone ++ q′
   pub enough : i ≤ length gone
 
--- the pair at place i has left after 2i accepted writes [J3], whatever is pushed or switched between them. What comes is what is
--- accepted meanwhile, other than 0x80,0x80, which is never queued.
-abbrev pub LeavesInTime : Field → List Call → Mux → Type 0
-LeavesInTime f cs s =
-    (i : ℕ) → i ≤ length (queueOf f s) → 2 * i ≤ writesIn cs → Left i (queueOf f s) (others (acceptedOf f (run cs s))) (queueOf f (run cs s .last))
+-- the writes that a place takes to leave [J3]: two while the carrying mode is off, four while it is on
+abbrev pub pace : Bool → ℕ
+pace on = cond on 4 2
 
--- writes that are twice as many as the pairs of either field, and a quarter of the packet triples, drain a multiplexer
-abbrev pub DrainsInTime : List Call → Mux → Type 0
-DrainsInTime cs s = 2 * length (s .queue1) ≤ writesIn cs → 2 * length (s .queue2) ≤ writesIn cs → unsent s ≤ 4 * writesIn cs → Drained (run cs s .last)
+-- The pair at place i has left after 2i accepted writes while the mode stays off, and after 4i while it stays on and the rate stays [J3], whatever is
+-- pushed or padded between them. What comes is what is accepted meanwhile, other than 0x80,0x80, which is never queued.
+abbrev pub LeavesInTime : Bool → Field → List Call → Mux → Type 0
+LeavesInTime on f cs s =
+    (i : ℕ) → i ≤ length (queueOf f s) → pace on * i ≤ writesIn cs → Left i (queueOf f s) (others (acceptedOf f (run cs s))) (queueOf f (run cs s .last))
+
+-- writes that are that many times as many as the pairs of either field, and a quarter of the packet triples, drain a multiplexer
+abbrev pub DrainsInTime : Bool → List Call → Mux → Type 0
+DrainsInTime on cs s =
+    pace on * length (s .queue1) ≤ writesIn cs → pace on * length (s .queue2) ≤ writesIn cs → unsent s ≤ 4 * writesIn cs → Drained (run cs s .last)
 
 -- the packet triples among those that a reader sees
 unfoldable pub packetTriplesIn : List Seen → ℕ

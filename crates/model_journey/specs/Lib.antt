@@ -1,2 +1,3 @@
 pub mod Trip
 pub mod Bounds
+pub mod Sums

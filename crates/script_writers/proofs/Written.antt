@@ -6,7 +6,7 @@ use Prim.Native.Nat.{ℕ}
 use lib.ListN.{getD, drop}
 use Rattle.model.specs.Said.{Outcome, accepted, gave, says, checked, mapped, after, measured}
 use Rattle.model.specs.Duration.{field1Duration, field2Duration, packetDuration}
-use Rattle.model.specs.Mux.{Mux, withPads}
+use Rattle.model.specs.Mux.{Mux, withPads, withMode}
 use Rattle.model.proofs.Cases.{by-test}
 use Rattle.caption.specs.declared.Counted.{Counted}
 use Rattle.caption.specs.declared.Framerate.{Framerate}
@@ -19,7 +19,7 @@ use Rattle.writer.specs.declared.WriterAnswer.{WriterAnswer}
 use Rattle.writer.specs.declared.WriterCount.{WriterCount}
 use Rattle.writer.specs.Writer.{means, validWriter, stored}
 use Rattle.writer.specs.Calls.{Answers, Writes, saidMicros}
-use Rattle.writer.proofs.Kept.{pads-valid, pads-again}
+use Rattle.writer.proofs.Kept.{pads-valid, pads-again, mode-again}
 use Rattle.program_text.specs.Laid.{Laid}
 use Rattle.program_records.specs.Reading.{highestFirst}
 use Rattle.script_answers.specs.Script.{answerLine, lentLine, countOf, together}
@@ -51,29 +51,34 @@ pub times-measured : {out after : List ℕ} {at r : ℕ} (w : CCDataWriter) (a b
 unfolding durations
 times-measured w a b c x y z e f g i j k l = same-line (three-measured _ _ _ (validWriter w) a b c (i ∙ e) (j ∙ f) (k ∙ g)) l
 
--- Both switches set, one after the other: the first call keeps the limits, so that the second is refused where the first was.
-module _ (a b : Bool) (w : CCDataWriter) (f s : WriterAnswer)
+-- The switches set, one after the other: each call keeps the limits, so that all are refused where the first was.
+module _ (a b on : Bool) (w : CCDataWriter) (f s t : WriterAnswer)
     (x : Answers (checked (validWriter w) (gave (withPads a (w .«output_padding») (means w)))) (stored w) w f)
-    (y : Answers (checked (validWriter (f .writer)) (gave (withPads (f .writer .«output_cea608_padding») b (means (f .writer))))) (stored (f .writer)) (f .writer) s) where
-  -- what both come to
-  abbrev both : Outcome Mux
-  both = checked (validWriter w) (gave (withPads a b (means w)))
+    (y : Answers (checked (validWriter (f .writer)) (gave (withPads (f .writer .«output_cea608_padding») b (means (f .writer))))) (stored (f .writer)) (f .writer) s)
+    (z : Answers (checked (validWriter (s .writer)) (gave (withMode on (means (s .writer))))) (stored (s .writer)) (s .writer) t) where
+  -- what all come to
+  abbrev all : Outcome Mux
+  all = checked (validWriter w) (gave (withMode on (withPads a b (means w))))
 
   -- within the limits
-  switched-within : validWriter w ≡ true → (saidAnswer (s .answer) ≡ says both) × (s .writer ≡ after w (mapped (stored w) both))
+  switched-within : validWriter w ≡ true → (saidAnswer (t .answer) ≡ says all) × (t .writer ≡ after w (mapped (stored w) all))
   switched-within e =
       let first : f .writer ≡ stored w (withPads a (w .«output_padding») (means w)) = rw e at (x .places) in
-      let good : validWriter (f .writer) ≡ true = rw first (pads-valid w e a (w .«output_padding»)) in (
-        rw good at (y .answer) ∙ rw e,
-        rw good at (y .places) ∙ rw (first, e) (pads-again w e a (w .«output_padding») b),
+      let good : validWriter (f .writer) ≡ true = rw first (pads-valid w e a (w .«output_padding»)) in
+      let second : s .writer ≡ stored w (withPads a b (means w)) = rw good at (y .places) ∙ rw first (pads-again w e a (w .«output_padding») b) in
+      let fine : validWriter (s .writer) ≡ true = rw second (pads-valid w e a b) in (
+        rw fine at (z .answer) ∙ rw e,
+        rw fine at (z .places) ∙ rw (second, e) (mode-again w e a b on),
       )
 
   -- outside them
-  switched-outside : validWriter w ≡ false → (saidAnswer (s .answer) ≡ says both) × (s .writer ≡ after w (mapped (stored w) both))
+  switched-outside : validWriter w ≡ false → (saidAnswer (t .answer) ≡ says all) × (t .writer ≡ after w (mapped (stored w) all))
   switched-outside e =
       let first : f .writer ≡ w = rw e at (x .places) in
       let bad : validWriter (f .writer) ≡ false = rw first e in
-      (rw bad at (y .answer) ∙ rw e, rw bad at (y .places) ∙ first ∙ rw e)
+      let second : s .writer ≡ w = rw bad at (y .places) ∙ first in
+      let worse : validWriter (s .writer) ≡ false = rw second e in
+      (rw worse at (z .answer) ∙ rw e, rw worse at (z .places) ∙ second ∙ rw e)
 
-  pub did-switch : {out now : List ℕ} {at laid : ℕ} (state : CCDataWriter) → Did (tells (saidAnswer (s .answer)) (s .writer)) out at laid state now → Did (lays stored w both) out at laid state now
-  did-switch state d = let z = by-test (validWriter w) switched-within switched-outside in record { told = rw (← z .0) (d .told); left = d .left ∙ z .1 }
+  pub did-switch : {out now : List ℕ} {at laid : ℕ} (state : CCDataWriter) → Did (tells (saidAnswer (t .answer)) (t .writer)) out at laid state now → Did (lays stored w all) out at laid state now
+  did-switch state d = let k = by-test (validWriter w) switched-within switched-outside in record { told = rw (← k .0) (d .told); left = d .left ∙ k .1 }

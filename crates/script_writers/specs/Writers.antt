@@ -6,7 +6,7 @@ use lib.Dec.{eqb}
 use lib.ListN.{length, drop}
 use Rattle.model.specs.Said.{Said, gave, checked, saysWith, mapped, after}
 use Rattle.model.specs.Duration.{field1Duration, field2Duration, packetDuration}
-use Rattle.model.specs.Mux.{withPads, flushMux, pushPacket, pushCea608}
+use Rattle.model.specs.Mux.{withPads, withMode, flushMux, pushPacket, pushCea608}
 use Rattle.caption.specs.declared.Framerate.{Framerate}
 use Rattle.caption.specs.declared.Cea608.{Cea608}
 use Rattle.caption.specs.declared.Cea608.the-variants.{Field1, Field2}
@@ -17,6 +17,7 @@ use Rattle.packet.specs.Packet.{packetOf, validDTVCC}
 use Rattle.writer.specs.declared.CCDataWriter.{CCDataWriter}
 use Rattle.writer.specs.Writer.{means, validWriter, fresh, stored, emptied, moved}
 use Rattle.writer.specs.Calls.{written}
+use Rattle.writer.specs.Making.{withCarrying}
 use Rattle.program_records.specs.Reading.{highestFirst}
 use Rattle.script_answers.specs.Script.{answerLine, lentLine, measures}
 use Rattle.script_answers.specs.Steps.{Effect, lays, becomes, stays, lentOut}
@@ -26,10 +27,11 @@ use Rattle.script_answers.specs.Rows.{Row, row, exactly, byte}
 abbrev pub renewsWriter : Effect CCDataWriter
 renewsWriter = becomes fresh
 
--- its two switches: the 608 padding by bit 0, and the output padding by bit 1
+-- its three switches: the 608 padding by bit 0, the output padding by bit 1, and then the carrying mode by bit 2
 abbrev pub switches : List ℕ → CCDataWriter → Effect CCDataWriter
 switches a w =
-    lays stored w (checked (validWriter w) (gave (withPads (eqb (byte a 0 % 2) 1) (eqb (byte a 0 / 2 % 2) 1) (means w))))
+    let padded = withPads (eqb (byte a 0 % 2) 1) (eqb (byte a 0 / 2 % 2) 1) (means w) in
+    lays stored w (checked (validWriter w) (gave (withMode (eqb (byte a 0 / 4 % 2) 1) padded)))
 
 -- a packet pushed
 abbrev pub pushesPacket : DTVCCPacket → CCDataWriter → Effect CCDataWriter
@@ -78,7 +80,16 @@ setsWriter a w =
       field1 = record { bytes = w .field1 .bytes; count = byte a 2 };
       field2 = record { bytes = w .field2 .bytes; count = byte a 3 };
       «field2_next» = w .«field2_next»;
+      carrying = w .carrying;
+      carry = w .carry;
     })
+
+-- its four carried parts, each in four bytes, the highest first, whatever they break
+abbrev pub setsCarry : List ℕ → CCDataWriter → Effect CCDataWriter
+setsCarry a w =
+    becomes
+    (withCarrying (w .carrying)
+    (record { numer = highestFirst (drop 0 a); denom = highestFirst (drop 4 a); pairs = highestFirst (drop 8 a); triples = highestFirst (drop 12 a) }) w)
 
 -- those that frames and durations come out by
 unfoldable pub leavingRows : CCDataWriter → List (Row CCDataWriter)
@@ -102,4 +113,5 @@ writerRows p w =
     ∷ row "S" (exactly 1) (λ a. switches a w)
     ∷ row "x" (exactly 0) (λ a. flushesWriter w)
     ∷ row "Q" (exactly 4) (λ a. setsWriter a w)
+    ∷ row "C" (exactly 16) (λ a. setsCarry a w)
     ∷ pushingRows p w

@@ -8,16 +8,18 @@ ghost use Rattle.writer.specs.Calls.{written, saidMicros};
 ghost use Rattle.script_answers.specs.Steps.{Runs, tells};
 ghost use Rattle.script_answers.specs.Rows.{byte, sought, Asked};
 ghost use Rattle.script_writers.specs.Writers.{renewsWriter, switches, pushesPair, wrote, writesFrame, tellsDurations};
-ghost use Rattle.script_writers.specs.Writers.{setsWriter, leavingRows, pushingRows, writerRows};
+ghost use Rattle.script_writers.specs.Writers.{setsWriter, setsCarry, leavingRows, pushingRows, writerRows};
 use caption::Cea608;
 use caption::Counted;
 use caption::Framerate;
 use packet::DTVCCPacket;
 use program_records::byte_at;
+use program_records::number_at;
 use script_answers::asks;
 use writer::CCDataWriter;
 use writer::Micros;
 use writer::WriterAnswer;
+use writer_shares::Carry;
 
 // Whether an operation was run, the place behind its line, and the multiplexer.
 pub struct OnWriter {
@@ -50,14 +52,16 @@ fn told_writer(out: &mut [u8], at: usize, done: WriterAnswer) -> OnWriter
     }
 }
 
-// The two switches set, by two bits.
+// The three switches set, by three bits.
 fn switch(out: &mut [u8], at: usize, before: CCDataWriter, args: &[u8]) -> OnWriter
     ensures { λ r. ⌜ Runs (switches (now (args .entry)) before) (now (out .entry)) at (r .ran) (r .laid) (r .writer) (now (out .exit)) ⌝ }
 {
     let bits = byte_at(args, 0);
     let first = before.set_output_cea608_padding(bits % 2 == 1);
-    let writer = first.writer;
-    told_writer(out, at, writer.set_output_padding(bits / 2 % 2 == 1))
+    let padded = first.writer;
+    let second = padded.set_output_padding(bits / 2 % 2 == 1);
+    let writer = second.writer;
+    told_writer(out, at, writer.set_carrying(bits / 4 % 2 == 1))
 }
 
 // A pair of field 1 pushed.
@@ -132,14 +136,31 @@ fn set_writer(out: &mut [u8], at: usize, before: CCDataWriter, args: &[u8]) -> O
     }
 }
 
+// The four carried parts of the multiplexer set, whatever they break.
+fn set_carry(out: &mut [u8], at: usize, before: CCDataWriter, args: &[u8]) -> OnWriter
+    ensures { λ r. ⌜ Runs (setsCarry (now (args .entry)) before) (now (out .entry)) at (r .ran) (r .laid) (r .writer) (now (out .exit)) ⌝ }
+{
+    let carry = Carry {
+        numer: number_at(args, 0),
+        denom: number_at(args, 4),
+        pairs: number_at(args, 8),
+        triples: number_at(args, 12),
+    };
+    let mut writer = before;
+    writer.carry = carry;
+    let laid = script_answers::put_ok_line(out, at);
+    OnWriter {
+        ran: true,
+        laid,
+        writer,
+    }
+}
+
 // A frame written to an output of as many bytes as the last argument says.
 fn write_frame(out: &mut [u8], at: usize, w: CCDataWriter, args: &[u8]) -> OnWriter
     ensures { λ r. ⌜ Runs (writesFrame (now (args .entry)) w) (now (out .entry)) at (r .ran) (r .laid) (r .writer) (now (out .exit)) ⌝ }
 {
-    let rate = Framerate::new(
-        program_records::number_at(args, 0),
-        program_records::number_at(args, 4),
-    );
+    let rate = Framerate::new(number_at(args, 0), number_at(args, 4));
     let mut lent = [0xA5u8; 255];
     let end = byte_at(args, 8) as usize;
     tell_frame(out, at, w, rate, &mut lent[0..end])
@@ -225,6 +246,9 @@ pub fn on_writer(
     }
     if asks(op, b'Q', n == 4) {
         return set_writer(out, at, w, args);
+    }
+    if asks(op, b'C', n == 16) {
+        return set_carry(out, at, w, args);
     }
     on_writer_pushing(out, at, p, w, op, args)
 }

@@ -1,6 +1,6 @@
 -- How soon what is queued leaves, for any sequence of calls that the contracts allow. Assumes nothing.
 use mathlib.Core.Path.{_≡_, refl, sym, ap, _∙_}
-use mathlib.Core.Bool.{true, false≢true}
+use mathlib.Core.Bool.{Bool, true, false≢true}
 use mathlib.Core.List.{List, []}
 use Prim.Native.Nat.{ℕ, _+_, _*_, _≤_}
 use native.Mathlib.Omega.{arith}
@@ -12,12 +12,12 @@ use Rattle.model.specs.Said.{Outcome, gave, refused, isGiven}
 use Rattle.model.specs.Packet.{Packet}
 use Rattle.model.specs.Frame as model
 use Rattle.model.specs.Frame.{frameBytes, triplesIn}
-use Rattle.model.specs.Rate.{Budgets}
-use Rattle.model.specs.Mux.{Mux, freshMux, writeFrame}
+use Rattle.model.specs.Rate.{Share}
+use Rattle.model.specs.Mux.{Mux, freshMux, writeShare}
 use Rattle.model.specs.Run as runs
 use Rattle.model.proofs.Frames.{unflat}
 use Rattle.model_journey.specs.Bounds as journey
-use Rattle.model_journey.specs.Bounds.{Field, one, two, acceptedOf}
+use Rattle.model_journey.specs.Bounds.{Field, one, two, acceptedOf, pace}
 use Rattle.model_journey.proofs.Leaves as leaves
 use Rattle.model_journey.proofs.Four as four
 use Rattle.model_journey.proofs.Drains as drains
@@ -30,14 +30,14 @@ use Rattle.slots.specs.Slot.{readSlot}
 use Rattle.writer.specs.Writer.{means}
 use Rattle.writer_sending.proofs.Triples.{left-length}
 use Rattle.writer.proofs.Kept.{Sound, sound-ok}
-use Rattle.writer.proofs.Laws.{write-given}
+use Rattle.writer.proofs.Laws.{share-within, write-given}
 use Rattle.writer.specs.declared.CCDataWriter.{CCDataWriter}
 use Rattle.writer.specs.declared.WriterCount.{WriterCount}
 use Rattle.theorems.specs.Items.{Items, noItems}
 use Rattle.theorems.specs.Allowed.{Lent, NewWriter, Write}
-use Rattle.theorems.specs.Writing.{Calls, Padded, Drained}
+use Rattle.theorems.specs.Writing.{Calls, Tested, Stays, Drained}
 use Rattle.theorems.specs.Bounds.{queueAt, pairsAt, SendsFour, AcceptsWrite, LeavesInTime, DrainsInTime}
-use Rattle.theorems.proofs.Following.{Follows}
+use Rattle.theorems.proofs.Following.{Tests, Staying, Follows}
 use Rattle.theorems.proofs.Frames.{Writes, no-frame, one-frame, write-does}
 use Rattle.theorems.proofs.Sequences.{follows, from-fresh}
 
@@ -52,8 +52,13 @@ unfolding means
 queue-means one w = refl
 queue-means two w = refl
 
+-- and the mode is
+pub carrying-means : (w : CCDataWriter) → means w .carrying ≡ w .carrying
+unfolding means
+carrying-means w = refl
+
 -- and what is accepted of the field is what the model accepts
-pub came : {s : Mux} {there : List Packet} {w : CCDataWriter} {fs : List (List ℕ)} {is : Items} {pad : Type 0} (f : Field) (k : Follows s there fs is w pad)
+pub came : {s : Mux} {there : List Packet} {w : CCDataWriter} {fs : List (List ℕ)} {is : Items} {test : Tests} {stay : Staying} (f : Field) (k : Follows s there fs is w test stay)
     → runs.others (acceptedOf f (runs.run (k .calls) s)) ≡ pairsAt f is
 came one k = k .pairs1
 came two k = k .pairs2
@@ -74,16 +79,16 @@ drained-back w s d =
     }
 
 -- a write that counts n bytes sends what the model's sends
-four-by : (w : CCDataWriter) (end : List ℕ) (r : WriterCount) → Sound w → (n : ℕ) → r .answer ≡ counted.Count n
-    → ((b : Budgets) → runs.Accepted b → journey.SendsFour (means w) (writeFrame b (means w))) → Writes w end r → SendsFour w (take n end) (r .writer)
-four-by w end r s n e f (no-frame why k same) = absurd (false≢true (cc))
-four-by w end r s n e f (one-frame b accepted counts first meant next) =
-    let m = f b accepted in
-    let z : n ≡ length (frameBytes (writeFrame b (means w) .frame)) = (cc) in
+four-by : (w : CCDataWriter) (rate : Framerate) (end : List ℕ) (r : WriterCount) → Sound w → (n : ℕ) → r .answer ≡ counted.Count n
+    → ((h : Share) → runs.Accepted (h .budgets) → journey.SendsFour (means w) (writeShare h (means w))) → Writes w rate end r → SendsFour w (take n end) (r .writer)
+four-by w rate end r s n e f (no-frame why k same) = absurd (false≢true (cc))
+four-by w rate end r s n e f (one-frame h given counts first meant next) =
+    let m = f h (share-within w (s .valid) rate given .accepted) in
+    let z : n ≡ length (frameBytes (writeShare h (means w) .frame)) = (cc) in
     rw (z, first)
     (record {
-      four = rw (frame-triples (writeFrame b (means w) .frame)) (m .four);
-      no-other = rw (frame-triples (writeFrame b (means w) .frame), meant) (m .no-other);
+      four = rw (frame-triples (writeShare h (means w) .frame)) (m .four);
+      no-other = rw (frame-triples (writeShare h (means w) .frame), meant) (m .no-other);
     })
 
 -- what is given is something
@@ -94,43 +99,46 @@ given-by (refused why) e f = absurd (false≢true e)
 -- a state that calls of a fresh multiplexer have reached
 module _ {w₀ w : CCDataWriter} {fs₀ : List (List ℕ)} {is₀ : Items} (new : NewWriter w₀) (before : Calls w₀ fs₀ is₀ w) where
   -- these calls in the model
-  abbrev reached : Follows freshMux [] fs₀ is₀ w (Padded before)
+  abbrev reached : Follows freshMux [] fs₀ is₀ w (λ passes. Tested passes before) (λ mode speed. Stays mode speed before)
   reached = from-fresh new before
 
-  -- the pair at place i has left after 2i accepted writes [J3]: once so many or more are accepted, whatever is pushed or switched between them,
-  -- the first i places of what was queued have gone
-  pub pair-leaves : {w′ : CCDataWriter} {fs : List (List ℕ)} {is : Items} → Calls w fs is w′ → (f : Field) → LeavesInTime f w fs is w′
-  pair-leaves {w′} c f i there writes =
+  -- the pair at place i has left after 2i accepted writes while the mode stays off, after 4i while it stays on and the rate stays [J3]: once so many or
+  -- more are accepted, whatever is pushed or padded between them, the first i places of what was queued have gone
+  pub pair-leaves : (mode : Bool) (speed : Framerate) {w′ : CCDataWriter} {fs : List (List ℕ)} {is : Items} (c : Calls w fs is w′)
+      → w .carrying ≡ mode → Stays mode speed c → (f : Field) → LeavesInTime mode f w fs is w′
+  pair-leaves mode speed {w′} c set stay f i there writes =
       let k = follows c (reached .sound) in
-      let l = leaves.leaves f (k .calls) (means w) (k .rates) i (rw (queue-means f w) there) (omega (arith, k .writes)) in
+      let l = leaves.leaves mode _ f (k .calls) (means w) (carrying-means w ∙ set) (k .steady mode speed stay) i (rw (queue-means f w) there) (rw (k .writes) writes) in
       rw (came f k, k .last, queue-means f w, queue-means f w′) at l
 
   -- so where nothing comes, i places at least come free
-  pub places-free : {w′ : CCDataWriter} {fs : List (List ℕ)} → Calls w fs noItems w′ → (f : Field) (i : ℕ) → i ≤ length (queueAt f w) → 2 * i ≤ length fs
-      → i + length (queueAt f w′) ≤ length (queueAt f w)
-  places-free c one i there writes = omega (arith, leaves.left-fewer (pair-leaves c one i there (omega arith)))
-  places-free c two i there writes = omega (arith, leaves.left-fewer (pair-leaves c two i there (omega arith)))
+  pub places-free : (mode : Bool) (speed : Framerate) {w′ : CCDataWriter} {fs : List (List ℕ)} (c : Calls w fs noItems w′) → w .carrying ≡ mode → Stays mode speed c
+      → (f : Field) (i : ℕ) → i ≤ length (queueAt f w) → pace mode * i ≤ length fs → i + length (queueAt f w′) ≤ length (queueAt f w)
+  places-free mode speed c set stay one i there writes = omega (arith, leaves.left-fewer (pair-leaves mode speed c set stay one i there writes))
+  places-free mode speed c set stay two i there writes = omega (arith, leaves.left-fewer (pair-leaves mode speed c set stay two i there writes))
 
   -- each accepted write sends at least four packet triples, or all that are left [J4]
   pub sends-four : (κs : Lfts 1) (rate : Framerate) (out end : Lent) (r : WriterCount) → Write κs w rate out end r
       → (n : ℕ) → r .answer ≡ counted.Count n → SendsFour w (take n (now end)) (r .writer)
   sends-four κs rate out end r a n e =
       let k = reached in
-      four-by w (now end) r (k .sound) n e (λ b accepted. rw (k .last) at (four.four (k .calls) b accepted)) (write-does κs w rate out end r (k .sound) a)
+      four-by w rate (now end) r (k .sound) n e (λ h accepted. rw (k .last) at (four.four (k .calls) h accepted)) (write-does κs w rate out end r (k .sound) a)
 
-  -- a write at an accepted rate, with room for the longest frame, is accepted
+  -- a write that gets a share of its rate, with room for the longest frame, is accepted
   pub write-accepted : (κs : Lfts 1) (rate : Framerate) (out end : Lent) (r : WriterCount) → Write κs w rate out end r → AcceptsWrite w rate (now out) (r .answer)
-  write-accepted κs rate out end r a b given room =
+  write-accepted κs rate out end r a h given room =
       let said = rw (write-given w (reached .sound .valid) rate (now out) given (omega arith)) at (a .answer) in
-      saidCounted-injective (r .answer) (counted.Count (length (frameBytes (writeFrame b (means w) .frame)))) said
+      saidCounted-injective (r .answer) (counted.Count (length (frameBytes (writeShare h (means w) .frame)))) said
 
-  -- so many accepted writes drain a multiplexer, if nothing more is accepted: twice as many as the pairs of either field, and a quarter of the
-  -- packet triples
-  pub writes-drain : {w′ : CCDataWriter} {fs : List (List ℕ)} → Calls w fs noItems w′ → DrainsInTime w fs w′
-  writes-drain {w′} c k₁ k₂ u =
+  -- so many accepted writes drain a multiplexer, if nothing more is accepted: for each pair of either field two while the mode stays off, four while it
+  -- stays on and the rate stays; and a quarter of the packet triples
+  pub writes-drain : (mode : Bool) (speed : Framerate) {w′ : CCDataWriter} {fs : List (List ℕ)} (c : Calls w fs noItems w′) → w .carrying ≡ mode → Stays mode speed c → DrainsInTime mode w fs w′
+  writes-drain mode speed {w′} c set stay k₁ k₂ u =
       let ok = sound-ok w (reached .sound) in
       let k = follows c (reached .sound) in
       let n₁ = ap length (queue-means one w) ∙ queue-length (w .field1) (ok .first) in
       let n₂ = ap length (queue-means two w) ∙ queue-length (w .field2) (ok .second) in
       drained-back w′ (k .sound)
-      (rw (← k .last) (drains.drains (k .calls) (means w) (k .quiet refl) (k .rates) (omega (arith, n₁, k .writes)) (omega (arith, n₂, k .writes)) (omega (arith, k .writes))))
+      (rw (← k .last)
+      (drains.drains mode _ (k .calls) (means w) (carrying-means w ∙ set) (k .steady mode speed stay) (k .quiet refl) (k .rates) (rw (n₁, k .writes) k₁) (rw (n₂, k .writes) k₂)
+      (omega (arith, k .writes))))

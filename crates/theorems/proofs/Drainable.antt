@@ -1,16 +1,18 @@
 -- Every sequence of calls goes on to one that ends drained, so that the round trip speaks of each of them. Assumes nothing.
 use mathlib.Core.Path.{_≡_, refl, ap, _∙_}
-use mathlib.Core.Bool.{true}
+use mathlib.Core.Bool.{Bool, true, false}
 use mathlib.Core.List.{List, [], _++_, append-assoc, append-nil}
-use Prim.Native.Nat.{ℕ, zero, suc, _+_, _*_}
+use Prim.Native.Nat.{ℕ, zero, suc, _+_, _*_, _≤_}
 use native.Mathlib.Omega.{arith}
 use lib.ListN.{length, drop, replicate}
 use contract.Lifetimes.{Lfts}
 use denote.Ref.{now}
 use Rattle.model.specs.Said.{gave, checked, isGiven}
 use Rattle.model.specs.Frame.{mostFrame, frameBytes}
-use Rattle.model.specs.Rate.{rounded, budgets}
-use Rattle.model.specs.Mux.{Mux, withPads, framed, writeFrame}
+use Rattle.model.specs.Rate.{rounded, budgets, carriedShare, shareBy}
+use Rattle.model.specs.Mux.{Mux, withPads, framed, writeFrame, shareAt, writeShare}
+use Rattle.model.proofs.Cases.{by-test}
+use Rattle.model_journey.specs.Bounds.{pace}
 use Rattle.caption.specs.Pairs.{cea608Of}
 use Rattle.caption.specs.declared.Answer.the-variants.{Accepted}
 use Rattle.caption.specs.declared.Counted.the-variants.{Count}
@@ -18,7 +20,7 @@ use Rattle.caption.specs.declared.Framerate.{Framerate}
 use Rattle.packet.specs.Packet.{packetOf}
 use Rattle.writer.specs.Writer.{means, validWriter, stored, moved}
 use Rattle.writer.specs.Calls.{Answers}
-use Rattle.writer.proofs.Laws.{write-given}
+use Rattle.writer.proofs.Laws.{share-within, write-given}
 use Rattle.writer.proofs.Builds.{means-frame}
 use Rattle.writer.proofs.Stored.{Grows, grows-pads, means-stored}
 use Rattle.writer.proofs.Kept.{Sound, sound-ok, sound-order, sound-mux, stored-sound, moved-sound}
@@ -27,7 +29,7 @@ use Rattle.writer.specs.declared.WriterAnswer.{WriterAnswer}
 use Rattle.writer.specs.declared.WriterCount.{WriterCount}
 use Rattle.theorems.specs.Items.{Items, noItems, andThen, ifNonempty, onePair}
 use Rattle.theorems.specs.Allowed.{Lent, NewWriter, Write}
-use Rattle.theorems.specs.Writing.{ifAccepted, Calls, no-call, push-packet, push-cea608, set-cea608-padding, set-padding, write, frameIn, Padded, Drained, Drains}
+use Rattle.theorems.specs.Writing.{ifAccepted, Calls, no-call, push-packet, push-cea608, set-cea608-padding, set-padding, set-carrying, write, frameIn, Padded, Stays, Drained, Drains}
 use Rattle.theorems.specs.Bounds.{unsentOf}
 use Rattle.theorems.proofs.Following.{items-same}
 use Rattle.theorems.proofs.Sequences.{from-fresh}
@@ -42,10 +44,10 @@ rate = record { numer = 25; denom = 1 }
 abbrev out : Lent
 out = lent (replicate mostFrame 0)
 
--- the rate is accepted
-rate-given : isGiven (budgets (rate .numer) (rate .denom)) ≡ true
-unfolding budgets rounded
-rate-given = refl
+-- the rate is accepted in either mode
+rate-given : (s : Mux) → isGiven (shareAt (rate .numer) (rate .denom) s) ≡ true
+unfolding shareBy carriedShare budgets rounded
+rate-given s = by-test (s .carrying) (λ e. rw e refl) (λ e. rw e refl)
 
 -- a write that the contract allows and that is accepted
 record Writable (κs : Lfts 1) (w : CCDataWriter) : Type 0 where
@@ -56,34 +58,40 @@ record Writable (κs : Lfts 1) (w : CCDataWriter) : Type 0 where
   counts : result .answer ≡ Count number
   sound : Sound (result .writer)
   same : result .writer .«output_cea608_padding» ≡ w .«output_cea608_padding»
+  still : result .writer .carrying ≡ w .carrying
 
 -- there is one
 writable : (κs : Lfts 1) (w : CCDataWriter) → Sound w → Writable κs w
 unfolding means writeFrame framed
 writable κs w s =
-    given-by (budgets (rate .numer) (rate .denom)) rate-given
-    (λ b e. let g = write-given w (s .valid) rate (now out) e (omega arith) in
+    given-by (shareAt (rate .numer) (rate .denom) (means w)) (rate-given (means w))
+    (λ h e. let g = write-given w (s .valid) rate (now out) e (omega arith) in
+    let v = share-within w (s .valid) rate e .valid in
+    let frame : List ℕ = frameBytes (writeShare h (means w) .frame) in
     record {
-      end = lent (frameBytes (writeFrame b (means w) .frame) ++ drop (length (frameBytes (writeFrame b (means w) .frame))) (now out));
-      number = length (frameBytes (writeFrame b (means w) .frame));
-      result = record { answer = Count (length (frameBytes (writeFrame b (means w) .frame))); writer = moved w (writeFrame b (means w) .next) };
-      allowed = record { answer = rw g; means = rw g (means-frame w b (sound-ok w s) (sound-mux w s)); places = rw g; output = rw g };
+      end = lent (frame ++ drop (length frame) (now out));
+      number = length frame;
+      result = record { answer = Count (length frame); writer = moved w (writeShare h (means w) .next) };
+      allowed = record { answer = rw g; means = rw g (means-frame w h (sound-ok w s) (sound-mux w s) v); places = rw g; output = rw g };
       counts = refl;
-      sound = moved-sound w s b;
+      sound = moved-sound w s h v;
       same = refl;
+      still = refl;
     })
 
--- n writes, each accepted and with a padding on
+-- n writes at the rate, each accepted and with a padding on, the mode left as it is
 record Written (n : ℕ) (w : CCDataWriter) : Type 0 where
   frames : List (List ℕ)
   last : CCDataWriter
   calls : Calls w frames noItems last
   padded : Padded calls
+  steady : (mode : Bool) → Stays mode rate calls
   number : length frames ≡ n
 
 -- there are such
 written-all : (κs : Lfts 1) (n : ℕ) (w : CCDataWriter) → Sound w → w .«output_cea608_padding» ≡ true → Written n w
-written-all κs zero w s on = record { frames = []; last = w; calls = no-call; padded = tt; number = refl }
+unfolding means
+written-all κs zero w s on = record { frames = []; last = w; calls = no-call; padded = tt; steady = λ mode. tt; number = refl }
 written-all κs (suc n) w s on =
     let k = writable κs w s in
     let m = written-all κs n (k .result .writer) (k .sound) (k .same ∙ on) in
@@ -92,6 +100,7 @@ written-all κs (suc n) w s on =
       last = m .last;
       calls = write κs rate out (k .end) (k .result) (k .allowed) (m .calls);
       padded = (λ n e. rw on, m .padded);
+      steady = λ mode. (λ n e on′. refl, m .steady mode);
       number = rw (k .counts) (ap suc (m .number));
     }
 
@@ -112,11 +121,19 @@ draining {w} κs new before =
     let on : WriterAnswer = record { answer = Accepted; writer = stored w x } in
     let kept = means-stored w (sound-order w s) (sound-ok w s) x g in
     let allowed : Answers (checked (validWriter w) (gave x)) (stored w) w on = record { answer = rw (s .valid); means = rw (s .valid) kept; places = rw (s .valid) } in
-    let n : ℕ = 2 * w .field1 .count + 2 * w .field2 .count + unsentOf w in
+    let n : ℕ = 4 * w .field1 .count + 4 * w .field2 .count + unsentOf w in
     let m = written-all κs n (on .writer) (stored-sound w s x g) refl in
     let c : Calls w (m .frames) noItems (m .last) = set-cea608-padding true on allowed (m .calls) in
     let k = m .number in
-    record { frames = m .frames; last = m .last; calls = c; padded = m .padded; drained = writes-drain new before c (omega arith) (omega arith) (omega arith) }
+    let enough : (mode : Bool) (x : ℕ) → 4 * x ≤ length (m .frames) → pace mode * x ≤ length (m .frames) = elim [ true ↦ λ x h. h | false ↦ λ x h. omega arith ] in
+    record {
+      frames = m .frames;
+      last = m .last;
+      calls = c;
+      padded = m .padded;
+      drained = writes-drain new before (w .carrying) rate c refl (m .steady (w .carrying)) (enough (w .carrying) (w .field1 .count) (omega arith)) (enough (w .carrying) (w .field2 .count) (omega arith))
+          (omega arith);
+    }
 
 -- items in three parts
 then-assoc : (a b c : Items) → andThen (andThen a b) c ≡ andThen a (andThen b c)
@@ -142,6 +159,7 @@ join {is′} (push-cea608 {is} x r a c) k =
     again refl (then-assoc (ifAccepted (r .answer) (onePair (cea608Of x))) is is′) (record { calls = push-cea608 x r a (m .calls); padded = m .padded })
 join (set-cea608-padding on r a c) k = let m = join c k in record { calls = set-cea608-padding on r a (m .calls); padded = m .padded }
 join (set-padding on r a c) k = let m = join c k in record { calls = set-padding on r a (m .calls); padded = m .padded }
+join (set-carrying on r a c) k = let m = join c k in record { calls = set-carrying on r a (m .calls); padded = m .padded }
 join {fs′} (write {fs} κs rate out end r a c) k =
     let m = join c k in
     again (append-assoc (frameIn (r .answer) (now end)) fs fs′) refl (record { calls = write κs rate out end r a (m .calls); padded = λ p. (p .0 .0, m .padded (p .0 .1, p .1)) })

@@ -1,30 +1,50 @@
 -- What a sequence of real calls is in the model: calls of the model with the same frames and the same items. Assumes nothing.
 use mathlib.Core.Path.{_≡_, refl, sym, ap, _∙_}
+use mathlib.Core.Bool.{Bool}
 use mathlib.Core.List.{List, [], _∷_, _++_}
 use Prim.Native.Nat.{ℕ, _+_}
 use lib.ListN.{length, length-append}
 use Rattle.model.specs.Packet.{Packet}
 use Rattle.model.specs.Frame.{Pair}
+use Rattle.model.specs.Rate.{rate}
 use Rattle.model.specs.Mux.{Mux}
-use Rattle.model.specs.Run.{Call, Run, call, run, AllowedCall, Allowed, others}
+use Rattle.model.specs.Run.{Call, Run, call, run, AllowedCall, Allowed, StaysCall, Stays, others}
 use Rattle.model_journey.specs.Bounds.{writesIn, AtRates, NoPush}
 use Rattle.model_journey.proofs.Turns.{others-append}
 use Rattle.model_journey.proofs.Calls.{thenRun}
+use Rattle.caption.specs.declared.Framerate.{Framerate}
 use Rattle.writer.specs.Writer.{means}
 use Rattle.writer.proofs.Kept.{Sound}
 use Rattle.writer.specs.declared.CCDataWriter.{CCDataWriter}
 use Rattle.theorems.specs.Items.{Items, noItems, andThen}
 use Rattle.theorems.proofs.Passing.{thereIn, Passed, passed-none, passed-then}
 
--- One call is one of the model, with the frames fs and the items is, if `pad` holds for its being allowed. It takes part in calls that follow
--- by what it adds to what is known of them.
-pub record Step (w : CCDataWriter) (c : Call) (fs : List (List ℕ)) (is : Items) (w′ : CCDataWriter) (pad : Type 0) : Type 0 where
+-- what is asked of the multiplexers that writes are of, by a test; and what is asked of the mode and of the rates for these to stay
+abbrev pub Tests : Type 1
+Tests = (Mux → Bool) → Type 0
+
+-- the other
+abbrev pub Staying : Type 1
+Staying = Bool → Framerate → Type 0
+
+-- nothing is asked
+abbrev pub noTest : Tests
+noTest passes = Unit {0}
+
+-- nothing is asked
+abbrev pub noStay : Staying
+noStay mode speed = Unit {0}
+
+-- One call is one of the model, with the frames fs and the items is: allowed if what `test` asks holds, and staying if what `stay` asks does. It takes
+-- part in calls that follow by what it adds to what is known of them.
+pub record Step (w : CCDataWriter) (c : Call) (fs : List (List ℕ)) (is : Items) (w′ : CCDataWriter) (test : Tests) (stay : Staying) : Type 0 where
   pub last : call c (means w) .last ≡ means w′
   pub frames : call c (means w) .frames ≡ fs
   pub packets : call c (means w) .packets ≡ is .packets
   pub pairs1 : others (call c (means w) .pairs1) ≡ is .pairs1
   pub pairs2 : others (call c (means w) .pairs2) ≡ is .pairs2
-  pub allowed : pad → AllowedCall c (means w)
+  pub allowed : (passes : Mux → Bool) → test passes → AllowedCall passes c (means w)
+  pub steady : (mode : Bool) (speed : Framerate) → stay mode speed → StaysCall mode (rate (speed .numer) (speed .denom)) c (means w)
   pub rates : (cs : List Call) → AtRates cs → AtRates (c ∷ cs)
   pub writes : (cs : List Call) → writesIn (c ∷ cs) ≡ length fs + writesIn cs
   pub quiet : is ≡ noItems → (cs : List Call) → NoPush cs → NoPush (c ∷ cs)
@@ -32,25 +52,25 @@ pub record Step (w : CCDataWriter) (c : Call) (fs : List (List ℕ)) (is : Items
   pub sound : Sound w′
 
 -- a call leaves the state as it was, with no frame and no item; or it is one of the model
-pub data Moved (w : CCDataWriter) (fs : List (List ℕ)) (is : Items) (w′ : CCDataWriter) (pad : Type 0) : Type 0 where
-  stays : fs ≡ [] → is ≡ noItems → w′ ≡ w → Moved w fs is w′ pad
-  moves : (c : Call) → Step w c fs is w′ pad → Moved w fs is w′ pad
+pub data Moved (w : CCDataWriter) (fs : List (List ℕ)) (is : Items) (w′ : CCDataWriter) (test : Tests) (stay : Staying) : Type 0 where
+  unmoved : fs ≡ [] → is ≡ noItems → w′ ≡ w → Moved w fs is w′ test stay
+  moves : (c : Call) → Step w c fs is w′ test stay → Moved w fs is w′ test stay
 
 -- either way the limits are kept
-pub moved-sound : {w w′ : CCDataWriter} {fs : List (List ℕ)} {is : Items} {pad : Type 0} → Moved w fs is w′ pad → Sound w → Sound w′
-moved-sound (stays f i e) s = rw e s
+pub moved-sound : {w w′ : CCDataWriter} {fs : List (List ℕ)} {is : Items} {test : Tests} {stay : Staying} → Moved w fs is w′ test stay → Sound w → Sound w′
+moved-sound (unmoved f i e) s = rw e s
 moved-sound (moves c k) s = k .sound
 
--- calls of the model from s to the multiplexer that w is, with the frames fs and the items is, allowed if `pad` holds; `there` are the packets that
--- were there
-pub record Follows (s : Mux) (there : List Packet) (fs : List (List ℕ)) (is : Items) (w : CCDataWriter) (pad : Type 0) : Type 0 where
+-- calls of the model from s to the multiplexer that w is, with the frames fs and the items is; `there` are the packets that were there
+pub record Follows (s : Mux) (there : List Packet) (fs : List (List ℕ)) (is : Items) (w : CCDataWriter) (test : Tests) (stay : Staying) : Type 0 where
   pub calls : List Call
   pub last : run calls s .last ≡ means w
   pub frames : run calls s .frames ≡ fs
   pub packets : run calls s .packets ≡ is .packets
   pub pairs1 : others (run calls s .pairs1) ≡ is .pairs1
   pub pairs2 : others (run calls s .pairs2) ≡ is .pairs2
-  pub allowed : pad → Allowed calls s
+  pub allowed : (passes : Mux → Bool) → test passes → Allowed passes calls s
+  pub steady : (mode : Bool) (speed : Framerate) → stay mode speed → Stays mode (rate (speed .numer) (speed .denom)) calls s
   pub rates : AtRates calls
   pub writes : writesIn calls ≡ length fs
   pub quiet : is ≡ noItems → NoPush calls
@@ -58,7 +78,7 @@ pub record Follows (s : Mux) (there : List Packet) (fs : List (List ℕ)) (is : 
   pub sound : Sound w
 
 -- no call
-pub follows-none : (w : CCDataWriter) → Sound w → Follows (means w) (thereIn w) [] noItems w (Unit {0})
+pub follows-none : (w : CCDataWriter) → Sound w → Follows (means w) (thereIn w) [] noItems w noTest noStay
 unfolding run others
 follows-none w s =
     record {
@@ -68,7 +88,8 @@ follows-none w s =
       packets = refl;
       pairs1 = refl;
       pairs2 = refl;
-      allowed = λ p. tt;
+      allowed = λ passes p. tt;
+      steady = λ mode speed p. tt;
       rates = tt;
       writes = refl;
       quiet = λ e. tt;
@@ -96,9 +117,11 @@ items-none a b e =
     let r = append-none (a .pairs2) (b .pairs2) (ap (λ (x : Items). x .pairs2) e) in
     (items-same a noItems (p .0) (q .0) (r .0), items-same b noItems (p .1) (q .1) (r .1))
 
--- allowed under less
-pub repad : {s : Mux} {there : List Packet} {w : CCDataWriter} {fs : List (List ℕ)} {is : Items} {pad less : Type 0} → (less → pad) → Follows s there fs is w pad → Follows s there fs is w less
-repad f t =
+-- allowed and staying under less
+pub reask : {s : Mux} {there : List Packet} {w : CCDataWriter} {fs : List (List ℕ)} {is : Items} {test less : Tests} {stay fewer : Staying}
+    → ((passes : Mux → Bool) → less passes → test passes) → ((mode : Bool) (speed : Framerate) → fewer mode speed → stay mode speed)
+    → Follows s there fs is w test stay → Follows s there fs is w less fewer
+reask f g t =
     record {
       calls = t .calls;
       last = t .last;
@@ -106,7 +129,8 @@ repad f t =
       packets = t .packets;
       pairs1 = t .pairs1;
       pairs2 = t .pairs2;
-      allowed = λ p. t .allowed (f p);
+      allowed = λ passes p. t .allowed passes (f passes p);
+      steady = λ mode speed p. t .steady mode speed (g mode speed p);
       rates = t .rates;
       writes = t .writes;
       quiet = t .quiet;
@@ -120,9 +144,10 @@ unfolding run
 run-next c cs s s₁ e = ap (λ (x : Mux). thenRun (call c s) (run cs x)) e
 
 -- one call, and then those that follow
-pub follow : {w w₁ w₂ : CCDataWriter} {fs₁ fs₂ : List (List ℕ)} {is₁ is₂ : Items} {pad₁ pad₂ : Type 0}
-    → Moved w fs₁ is₁ w₁ pad₁ → Follows (means w₁) (thereIn w₁) fs₂ is₂ w₂ pad₂ → Follows (means w) (thereIn w) (fs₁ ++ fs₂) (andThen is₁ is₂) w₂ (pad₁ × pad₂)
-follow (stays f i e) t = rw (f, i, ← e) (repad (λ p. p .1) t)
+pub follow : {w w₁ w₂ : CCDataWriter} {fs₁ fs₂ : List (List ℕ)} {is₁ is₂ : Items} {test₁ test₂ : Tests} {stay₁ stay₂ : Staying}
+    → Moved w fs₁ is₁ w₁ test₁ stay₁ → Follows (means w₁) (thereIn w₁) fs₂ is₂ w₂ test₂ stay₂
+    → Follows (means w) (thereIn w) (fs₁ ++ fs₂) (andThen is₁ is₂) w₂ (λ passes. test₁ passes × test₂ passes) (λ mode speed. stay₁ mode speed × stay₂ mode speed)
+follow (unmoved f i e) t = rw (f, i, ← e) (reask (λ passes p. p .1) (λ mode speed p. p .1) t)
 follow {w} {w₁} {w₂} {fs₁} {fs₂} {is₁} {is₂} (moves c k) t =
     let a : Run = call c (means w) in
     let b : Run = run (t .calls) (means w₁) in
@@ -134,7 +159,8 @@ follow {w} {w₁} {w₂} {fs₁} {fs₂} {is₁} {is₂} (moves c k) t =
       packets = rw (e, k .packets, t .packets);
       pairs1 = rw (e, others-append (a .pairs1) (b .pairs1), k .pairs1, t .pairs1);
       pairs2 = rw (e, others-append (a .pairs2) (b .pairs2), k .pairs2, t .pairs2);
-      allowed = λ p. (k .allowed (p .0), rw (k .last) (t .allowed (p .1)));
+      allowed = λ passes p. (k .allowed passes (p .0), rw (k .last) (t .allowed passes (p .1)));
+      steady = λ mode speed p. (k .steady mode speed (p .0), rw (k .last) (t .steady mode speed (p .1)));
       rates = k .rates (t .calls) (t .rates);
       writes = k .writes (t .calls) ∙ ap (λ n. length fs₁ + n) (t .writes) ∙ sym (length-append fs₁ fs₂);
       quiet = λ z. let n = items-none is₁ is₂ z in k .quiet (n .0) (t .calls) (t .quiet (n .1));

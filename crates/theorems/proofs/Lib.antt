@@ -16,3 +16,4 @@ pub mod Given
 pub mod Types
 pub mod Feedable
 pub mod Drainable
+pub mod Sums

@@ -27,7 +27,7 @@ use Rattle.theorems.specs.Allowed.{PushPacket}
 use Rattle.theorems.specs.Writing.{Typed, ifAccepted}
 use Rattle.theorems.specs.Trip.{sendingOf}
 use Rattle.theorems.proofs.Passing.{passed-quiet}
-use Rattle.theorems.proofs.Following.{Moved, stays, moves}
+use Rattle.theorems.proofs.Following.{noTest, noStay, Moved, unmoved, moves}
 use Rattle.theorems.proofs.Answered.{given, stays-denied}
 
 -- a packet is an item
@@ -55,13 +55,13 @@ module _ (w : CCDataWriter) (d : DTVCCPacket) (r : WriterAnswer) (s : Sound w) (
       held = held-valid d (within-facts d v)
 
       -- an empty one is not stored
-      moves-empty : eqb (length (p .blocks)) 0 ≡ true → Moved w [] item (r .writer) (Unit {0})
+      moves-empty : eqb (length (p .blocks)) 0 ≡ true → Moved w [] item (r .writer) noTest noStay
       unfolding pushPacket
-      moves-empty e = let g = given a (means w) (rw (s .valid, v, e)) in rw (g .0, e) (stays refl refl (g .1 .1 ∙ stored-self w (sound-order w s)))
+      moves-empty e = let g = given a (means w) (rw (s .valid, v, e)) in rw (g .0, e) (unmoved refl refl (g .1 .1 ∙ stored-self w (sound-order w s)))
 
       module _ (some : eqb (length (p .blocks)) 0 ≡ false) where
         -- no place is left
-        moves-full : leb mostPackets (length (means w .packets)) ≡ true → Moved w [] item (r .writer) (Unit {0})
+        moves-full : leb mostPackets (length (means w .packets)) ≡ true → Moved w [] item (r .writer) noTest noStay
         unfolding pushPacket queued
         moves-full f = stays-denied a (ifNonempty p) Full (rw (s .valid, v, some, f))
 
@@ -72,7 +72,7 @@ module _ (w : CCDataWriter) (d : DTVCCPacket) (r : WriterAnswer) (s : Sound w) (
           put = rw (some, room)
 
           -- the packet is stored
-          moves-stored : Moved w [] item (r .writer) (Unit {0})
+          moves-stored : Moved w [] item (r .writer) noTest noStay
           unfolding call others
           moves-stored =
               let x : Mux = withPackets (means w .packets ++ (p ∷ [])) (means w) in
@@ -86,7 +86,8 @@ module _ (w : CCDataWriter) (d : DTVCCPacket) (r : WriterAnswer) (s : Sound w) (
                 packets = packets;
                 pairs1 = refl;
                 pairs2 = refl;
-                allowed = λ _. facts-valid p held;
+                allowed = λ passes p′. facts-valid p held;
+                steady = λ mode speed q. tt;
                 rates = λ cs t. t;
                 writes = λ cs. omega arith;
                 quiet = λ e cs t. absurd (packet-some p e);
@@ -95,7 +96,7 @@ module _ (w : CCDataWriter) (d : DTVCCPacket) (r : WriterAnswer) (s : Sound w) (
               }))
 
     -- in all
-    moves-by : Moved w [] item (r .writer) (Unit {0})
+    moves-by : Moved w [] item (r .writer) noTest noStay
     moves-by =
         by-test (validDTVCC d)
         (λ v. by-test (eqb (length (p .blocks)) 0) (moves-empty v)
@@ -103,5 +104,5 @@ module _ (w : CCDataWriter) (d : DTVCCPacket) (r : WriterAnswer) (s : Sound w) (
         (λ v. stays-denied a (ifNonempty p) BadValue (rw (s .valid, v)))
 
   -- by its contract
-  pub packet-moves : PushPacket w d r → Moved w [] (ifAccepted (r .answer) (ifNonempty p)) (r .writer) (Unit {0})
+  pub packet-moves : PushPacket w d r → Moved w [] (ifAccepted (r .answer) (ifNonempty p)) (r .writer) noTest noStay
   packet-moves a = moves-by a

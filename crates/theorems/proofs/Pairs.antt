@@ -24,7 +24,7 @@ use Rattle.theorems.specs.Allowed.{PushCea608}
 use Rattle.theorems.specs.Writing.{ifAccepted}
 use Rattle.theorems.specs.Trip.{sendingOf}
 use Rattle.theorems.proofs.Passing.{passed-quiet}
-use Rattle.theorems.proofs.Following.{Moved, stays, moves}
+use Rattle.theorems.proofs.Following.{noTest, noStay, Moved, unmoved, moves}
 use Rattle.theorems.proofs.Answered.{given, stays-denied}
 
 -- a push of a pair: it is 0x80,0x80 and dropped, it finds no place, or it is one of the items
@@ -61,8 +61,8 @@ pair-call (field2 x) s = (refl, (refl, refl))
 module _ (w : CCDataWriter) (s : Sound w) where
   -- by what the push does
   pair-by : (x : caption.Cea608) (r : WriterAnswer) → Answers (checked (validWriter w) (pushCea608 (cea608Of x) (means w))) (stored w) w r
-      → Pushed (cea608Of x) (means w) → Moved w [] (ifAccepted (r .answer) (onePair (cea608Of x))) (r .writer) (Unit {0})
-  pair-by x r a (dropped g n) = let k = given a (means w) (rw (s .valid, g)) in rw (k .0, n) (stays refl refl (k .1 .1 ∙ stored-self w (sound-order w s)))
+      → Pushed (cea608Of x) (means w) → Moved w [] (ifAccepted (r .answer) (onePair (cea608Of x))) (r .writer) noTest noStay
+  pair-by x r a (dropped g n) = let k = given a (means w) (rw (s .valid, g)) in rw (k .0, n) (unmoved refl refl (k .1 .1 ∙ stored-self w (sound-order w s)))
   pair-by x r a (over g) = stays-denied a (onePair (cea608Of x)) Full (rw (s .valid, g))
   pair-by x r a (placed m g p q n) =
       let k = given a m (rw (s .valid, g)) in
@@ -76,7 +76,8 @@ module _ (w : CCDataWriter) (s : Sound w) where
         packets = packets;
         pairs1 = p;
         pairs2 = q;
-        allowed = λ _. tt;
+        allowed = λ passes p′. tt;
+        steady = λ mode speed q′. tt;
         rates = λ cs t. t;
         writes = λ cs. omega arith;
         quiet = λ e cs t. absurd (n e);
@@ -85,5 +86,5 @@ module _ (w : CCDataWriter) (s : Sound w) where
       }))
 
   -- by its contract
-  pub pair-moves : (x : caption.Cea608) (r : WriterAnswer) → PushCea608 w x r → Moved w [] (ifAccepted (r .answer) (onePair (cea608Of x))) (r .writer) (Unit {0})
+  pub pair-moves : (x : caption.Cea608) (r : WriterAnswer) → PushCea608 w x r → Moved w [] (ifAccepted (r .answer) (onePair (cea608Of x))) (r .writer) noTest noStay
   pair-moves x r a = pair-by x r a (pushed-by (cea608Of x) (means w))

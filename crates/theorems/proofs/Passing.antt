@@ -10,8 +10,8 @@ use lib.Dec.{eqb, leb}
 use lib.ListN.{length, take, getD, length-append, length-map, List·getD-map}
 use lib.Seq.{length-take-le}
 use Rattle.model.specs.Packet.{Packet}
-use Rattle.model.specs.Rate.{Budgets}
-use Rattle.model.specs.Mux.{Mux, Sent, framed, writeFrame, turnsDue, turned, countDue}
+use Rattle.model.specs.Rate.{validCarry, Share}
+use Rattle.model.specs.Mux.{Mux, Sent, framed, writeFrame, writeShare, turnsDue, turned, countDue}
 use Rattle.model.specs.Run.{Run}
 use Rattle.model.proofs.Cases.{by-test}
 use Rattle.model_journey.proofs.Calls.{Quiet}
@@ -124,10 +124,10 @@ module _ (l : List Slot) (count : ℕ) (q : length l ≡ count) (slot : Slot) (a
   passed-by (one-begun gone p e) = passed-on gone p e
 
 -- a write
-module _ (w : CCDataWriter) (s : Sound w) (b : Budgets) where
+module _ (w : CCDataWriter) (s : Sound w) (h : Share) (c : validCarry (h .carry) ≡ true) where
   -- what the model leaves
   abbrev x : Mux
-  x = writeFrame b (means w) .next
+  x = writeShare h (means w) .next
 
   -- the slot that is begun last
   abbrev slot : Slot
@@ -146,9 +146,9 @@ module _ (w : CCDataWriter) (s : Sound w) (b : Budgets) where
       let k = sound-ok w s in
       let t : Mux = means w in
       let n = length-take-le (w .«packet_count») (w .packets) (omega (arith, k .few, k .places)) in
-      passed-by (take (w .«packet_count») (w .packets)) (w .«packet_count») n (w .sending) (w .sent) (k .held) (sentBy b t)
-      (begins (countDue b t - length (turned (turnsDue (b .pairs) t) t .out)) (t .sending) (t .packets))
+      passed-by (take (w .«packet_count») (w .packets)) (w .«packet_count») n (w .sending) (w .sent) (k .held) (sentBy (h .budgets) t)
+      (begins (countDue (h .budgets) t - length (turned (turnsDue (h .budgets .pairs) t) t .out)) (t .sending) (t .packets))
 
   -- in all
   pub passed-after : Passed (thereIn w) [] (thereIn (moved w x))
-  passed-after = rw (sending-after, means-frame w b (sound-ok w s) (sound-mux w s)) passed-model
+  passed-after = rw (sending-after, means-frame w h (sound-ok w s) (sound-mux w s) c) passed-model

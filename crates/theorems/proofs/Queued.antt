@@ -11,7 +11,7 @@ use Rattle.model.proofs.Cases.{by-test}
 use Rattle.model_journey.specs.Bounds.{Field, one, two, acceptedOf, Left}
 use Rattle.model_journey.specs.Bounds as journey
 use Rattle.model_journey.proofs.Turns.{others-append}
-use Rattle.model_journey.proofs.Leaves.{leaves}
+use Rattle.model_journey.proofs.Leaves.{leaves-paired}
 use Rattle.writer.specs.Writer.{means}
 use Rattle.writer.specs.declared.CCDataWriter.{CCDataWriter}
 use Rattle.theorems.specs.Items.{Items}
@@ -59,5 +59,5 @@ queue-fresh two = refl
 pub queue-others : {w₀ w : CCDataWriter} {fs : List (List ℕ)} {is : Items} → NewWriter w₀ → Calls w₀ fs is w → (f : Field) → others (journey.queueOf f (means w)) ≡ journey.queueOf f (means w)
 queue-others new c f =
     let k = from-fresh new c in
-    let l = leaves f (k .calls) freshMux (k .rates) 0 (omega arith) (omega arith) in
+    let l = leaves-paired f (k .calls) freshMux 0 (omega arith) (omega arith) in
     rw (k .last) at (others-left (queue-fresh f) (others-twice (acceptedOf f (run (k .calls) freshMux))) l)

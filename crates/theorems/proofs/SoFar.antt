@@ -10,7 +10,7 @@ use Rattle.model.specs.Said as said
 use Rattle.model.specs.Packet.{Packet}
 use Rattle.model.specs.Demux.{freshDemux, turn608On}
 use Rattle.model.specs.Mux.{freshMux}
-use Rattle.model.specs.Run.{run, Read, readFrames, others}
+use Rattle.model.specs.Run.{run, anyPadding, Read, readFrames, others}
 use Rattle.model.proofs.Cases.{by-test}
 use Rattle.model_journey.specs.Bounds.{one, two}
 use Rattle.model_journey.proofs.Gather as gather
@@ -63,7 +63,7 @@ begins-by : {w₀ w : CCDataWriter} {frames : List (List ℕ)} {accepted : Items
 unfolding others
 begins-by {w} {frames} {accepted} new c padded =
     let f = from-fresh new c in
-    let t = journey.carried (f .calls) freshMux [] (f .allowed padded) ready-fresh in
+    let t = journey.carried (f .calls) freshMux [] (f .allowed anyPadding padded) ready-fresh in
     let o : Read = readFrames (run (f .calls) freshMux .frames) (turn608On freshDemux) in
     let on : List Packet = gather.underway (o .last .pending) (means w .sending) in
     let one-on : length on ≡ min 1 (length (means w .sending)) = rw (f .last) at (gather.underway-one (t .ready .linked) (t .ready .rested)) in

@@ -7,7 +7,7 @@ use lib.ListN.{length, replicate}
 use Rattle.model.specs.Said as said
 use Rattle.model.specs.Demux.{quiet, freshDemux, turn608On}
 use Rattle.model.specs.Run as model
-use Rattle.model.specs.Run.{Read, readFrames}
+use Rattle.model.specs.Run.{anyPadding, Read, readFrames}
 use Rattle.model_journey.proofs.Trip as journey
 use Rattle.caption.specs.declared.Answer.{Answer}
 use Rattle.caption.specs.declared.Answer.the-variants.{Accepted}
@@ -84,7 +84,7 @@ pub carried : {w₀ w : CCDataWriter} {frames : List (List ℕ)} {accepted : Ite
     → Carried frames accepted (readFrames frames (turn608On freshDemux))
 carried {w} {frames} {accepted} new c padded empty =
     let f = from-fresh new c in
-    let t = journey.round-trip (f .calls) (f .allowed padded) (rw (f .last) (drained w (f .sound) empty)) in
+    let t = journey.round-trip (f .calls) (f .allowed anyPadding padded) (rw (f .last) (drained w (f .sound) empty)) in
     rw (← f .frames)
     (record { answers = t .answers; exactly = items-same _ accepted (t .packets ∙ f .packets) (t .pairs1 ∙ f .pairs1) (t .pairs2 ∙ f .pairs2) })
 

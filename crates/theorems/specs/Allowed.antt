@@ -16,6 +16,8 @@ use Rattle.writer.proofs.CCDataWriter.push_packet.Reads as push_packet
 use Rattle.writer.proofs.CCDataWriter.push_cea608.Reads as push_cea608
 use Rattle.writer.proofs.CCDataWriter.set_output_cea608_padding.Reads as set_output_cea608_padding
 use Rattle.writer.proofs.CCDataWriter.set_output_padding.Reads as set_output_padding
+use Rattle.writer.proofs.CCDataWriter.set_carrying.Reads as set_carrying
+use Rattle.writer.proofs.CCDataWriter.flush.Reads as flush
 use Rattle.writer.proofs.CCDataWriter.write.Reads as write
 use Rattle.parser.specs.declared.CCDataParser.{CCDataParser}
 use Rattle.parser.specs.declared.ParserAnswer.{ParserAnswer}
@@ -48,6 +50,14 @@ SetCea608Padding w on r = set_output_cea608_padding.Post (tt {0}) (w, (on, tt)) 
 -- `w.set_output_padding(on)`
 abbrev pub SetPadding : CCDataWriter → Bool → WriterAnswer → Type 0
 SetPadding w on r = set_output_padding.Post (tt {0}) (w, (on, tt)) r (w, (on, tt))
+
+-- `w.set_carrying(on)`
+abbrev pub SetCarrying : CCDataWriter → Bool → WriterAnswer → Type 0
+SetCarrying w on r = set_carrying.Post (tt {0}) (w, (on, tt)) r (w, (on, tt))
+
+-- `w.flush()`
+abbrev pub Flush : CCDataWriter → WriterAnswer → Type 0
+Flush w r = flush.Post (tt {0}) (w, tt) r (w, tt)
 
 -- `w.write(rate, &mut out)`, where `out` is as it was lent and `end` as it is at exit
 abbrev pub Write : Lfts 1 → CCDataWriter → Framerate → Lent → Lent → WriterCount → Type 0

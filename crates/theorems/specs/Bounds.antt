@@ -1,13 +1,14 @@
 -- How soon what is queued leaves. Assumes nothing.
 use mathlib.Core.Path.{_≡_}
+use mathlib.Core.Bool.{Bool}
 use mathlib.Core.List.{List, _++_}
 use Prim.Native.Nat.{ℕ, _+_, _*_, _≤_, min}
 use lib.ListN.{length, take, drop}
 use Rattle.model.specs.Said.{gave}
 use Rattle.model.specs.Frame.{Pair, seenAll, triplesIn, mostFrame, frameBytes}
-use Rattle.model.specs.Rate.{Budgets, budgets}
-use Rattle.model.specs.Mux.{unsent, writeFrame}
-use Rattle.model_journey.specs.Bounds.{Field, the, Left, packetTriplesIn}
+use Rattle.model.specs.Rate.{Share}
+use Rattle.model.specs.Mux.{unsent, shareAt, writeShare}
+use Rattle.model_journey.specs.Bounds.{Field, the, Left, pace, packetTriplesIn}
 use Rattle.caption.specs.declared.Counted.{Counted}
 use Rattle.caption.specs.declared.Counted.the-variants.{Count}
 use Rattle.caption.specs.declared.Framerate.{Framerate}
@@ -34,18 +35,19 @@ pub record SendsFour (w : CCDataWriter) (frame : List ℕ) (w′ : CCDataWriter)
   pub four : min 4 (unsentOf w) ≤ packetTriplesOf frame
   pub no-other : packetTriplesOf frame + unsentOf w′ ≡ unsentOf w
 
--- a write at an accepted rate, with room for the longest frame, is accepted: its answer counts the frame's bytes
+-- a write that gets a share of its rate [G2] [G6], with room for the longest frame, is accepted: its answer counts the frame's bytes
 abbrev pub AcceptsWrite : CCDataWriter → Framerate → List ℕ → Counted → Type 0
 AcceptsWrite w rate out answer =
-    (b : Budgets) → budgets (rate .numer) (rate .denom) ≡ gave b → mostFrame ≤ length out → answer ≡ Count (length (frameBytes (writeFrame b (means w) .frame)))
+    (h : Share) → shareAt (rate .numer) (rate .denom) (means w) ≡ gave h → mostFrame ≤ length out → answer ≡ Count (length (frameBytes (writeShare h (means w) .frame)))
 
 -- the pairs of a field among items
 abbrev pub pairsAt : Field → Items → List Pair
 pairsAt f is = the f (is .pairs1) (is .pairs2)
 
--- the pair at place i has left after 2i accepted writes [J3]: between w and w′ the frames fs were written and the items `is` accepted
-abbrev pub LeavesInTime : Field → CCDataWriter → List (List ℕ) → Items → CCDataWriter → Type 0
-LeavesInTime f w fs is w′ = (i : ℕ) → i ≤ length (queueAt f w) → 2 * i ≤ length fs → Left i (queueAt f w) (pairsAt f is) (queueAt f w′)
+-- the pair at place i has left after 2i accepted writes, or 4i with the carrying mode on [J3]: between w and w′ the frames fs were written and the
+-- items `is` accepted
+abbrev pub LeavesInTime : Bool → Field → CCDataWriter → List (List ℕ) → Items → CCDataWriter → Type 0
+LeavesInTime on f w fs is w′ = (i : ℕ) → i ≤ length (queueAt f w) → pace on * i ≤ length fs → Left i (queueAt f w) (pairsAt f is) (queueAt f w′)
 
 -- one list begins with another
 pub record BeginsWith {A : Type 0} (first all : List A) : Type 0 where
@@ -53,9 +55,10 @@ pub record BeginsWith {A : Type 0} (first all : List A) : Type 0 where
   pub whole : all ≡ first ++ rest
 
 -- likewise what is given of the frames fs: each field's pairs begin with those at the first i places
-abbrev pub GivenInTime : Field → CCDataWriter → List (List ℕ) → Items → Type 0
-GivenInTime f w fs given = (i : ℕ) → i ≤ length (queueAt f w) → 2 * i ≤ length fs → BeginsWith (take i (queueAt f w)) (pairsAt f given)
+abbrev pub GivenInTime : Bool → Field → CCDataWriter → List (List ℕ) → Items → Type 0
+GivenInTime on f w fs given = (i : ℕ) → i ≤ length (queueAt f w) → pace on * i ≤ length fs → BeginsWith (take i (queueAt f w)) (pairsAt f given)
 
--- so many accepted writes drain a multiplexer: twice as many as the pairs of either field, and a quarter of the packet triples
-abbrev pub DrainsInTime : CCDataWriter → List (List ℕ) → CCDataWriter → Type 0
-DrainsInTime w fs w′ = 2 * w .field1 .count ≤ length fs → 2 * w .field2 .count ≤ length fs → unsentOf w ≤ 4 * length fs → Drained w′
+-- so many accepted writes drain a multiplexer: twice as many as the pairs of either field, or four times with the carrying mode on, and a quarter of
+-- the packet triples
+abbrev pub DrainsInTime : Bool → CCDataWriter → List (List ℕ) → CCDataWriter → Type 0
+DrainsInTime on w fs w′ = pace on * w .field1 .count ≤ length fs → pace on * w .field2 .count ≤ length fs → unsentOf w ≤ 4 * length fs → Drained w′

@@ -4,3 +4,4 @@ pub mod Writing
 pub mod Reading
 pub mod Trip
 pub mod Bounds
+pub mod Sums

@@ -1,11 +1,13 @@
 -- Sequences of calls of the multiplexer's functions, each with a result that the function's contract allows. Assumes nothing.
 use mathlib.Core.Path.{_≡_}
-use mathlib.Core.Bool.{Bool, true, _||_}
+use mathlib.Core.Bool.{Bool, true}
 use mathlib.Core.List.{List, [], _∷_, _++_}
 use Prim.Native.Nat.{ℕ, _≤_}
 use lib.ListN.{length, take}
 use contract.Lifetimes.{Lfts}
 use denote.Ref.{now}
+use Rattle.model.specs.Mux.{Mux}
+use Rattle.model.specs.Run.{anyPadding}
 use Rattle.caption.specs.Pairs.{cea608Of}
 use Rattle.caption.specs.declared.Answer.{Answer}
 use Rattle.caption.specs.declared.Answer.the-variants as answer
@@ -16,11 +18,12 @@ use Rattle.caption.specs.declared.Framerate.{Framerate}
 use Rattle.packet.specs.Packet.{packetOf}
 use Rattle.packet.specs.declared.DTVCCPacket.{DTVCCPacket}
 use Rattle.slots.specs.Slot.{writtenLength}
+use Rattle.writer.specs.Writer.{means}
 use Rattle.writer.specs.declared.CCDataWriter.{CCDataWriter}
 use Rattle.writer.specs.declared.WriterAnswer.{WriterAnswer}
 use Rattle.writer.specs.declared.WriterCount.{WriterCount}
 use Rattle.theorems.specs.Items.{Items, noItems, andThen, ifNonempty, onePair}
-use Rattle.theorems.specs.Allowed.{Lent, PushPacket, PushCea608, SetCea608Padding, SetPadding, Write}
+use Rattle.theorems.specs.Allowed.{Lent, PushPacket, PushCea608, SetCea608Padding, SetPadding, SetCarrying, Write}
 
 -- the arrays of a packet have the places that their types give them
 pub record Typed (d : DTVCCPacket) : Type 0 where
@@ -51,21 +54,39 @@ pub data Calls : CCDataWriter → List (List ℕ) → Items → CCDataWriter →
       → Calls (r .writer) fs is w′ → Calls w fs is w′
   set-padding : {w w′ : CCDataWriter} {fs : List (List ℕ)} {is : Items} (on : Bool) (r : WriterAnswer) → SetPadding w on r
       → Calls (r .writer) fs is w′ → Calls w fs is w′
+  set-carrying : {w w′ : CCDataWriter} {fs : List (List ℕ)} {is : Items} (on : Bool) (r : WriterAnswer) → SetCarrying w on r
+      → Calls (r .writer) fs is w′ → Calls w fs is w′
   write : {w w′ : CCDataWriter} {fs : List (List ℕ)} {is : Items} (κs : Lfts 1) (rate : Framerate) (out end : Lent) (r : WriterCount) → Write κs w rate out end r
       → Calls (r .writer) fs is w′ → Calls w (frameIn (r .answer) (now end) ++ fs) is w′
 
--- whether a write that is accepted finds a padding on [J1]
-abbrev pub PaddingAt : Counted → CCDataWriter → Type 0
-PaddingAt answer w = (n : ℕ) → answer ≡ counted.Count n → w .«output_cea608_padding» || w .«output_padding» ≡ true
+-- whether a write that is accepted is of a multiplexer that passes a test
+abbrev pub TestedAt : (Mux → Bool) → Counted → CCDataWriter → Type 0
+TestedAt passes answer w = (n : ℕ) → answer ≡ counted.Count n → passes (means w) ≡ true
 
--- each write finds a padding on [J1]; that its rate is accepted is what the answer says, else it is refused with 8
+-- each accepted write is; that its rate is accepted is what the answer says, else it is refused with 8
+abbrev pub Tested : (Mux → Bool) → {w w′ : CCDataWriter} {fs : List (List ℕ)} {is : Items} → Calls w fs is w′ → Type 0
+Tested passes no-call = Unit {0}
+Tested passes (push-packet d r t a c) = Tested passes c
+Tested passes (push-cea608 x r a c) = Tested passes c
+Tested passes (set-cea608-padding on r a c) = Tested passes c
+Tested passes (set-padding on r a c) = Tested passes c
+Tested passes (set-carrying on r a c) = Tested passes c
+Tested passes (write {w} κs rate out end r a c) = TestedAt passes (r .answer) w × Tested passes c
+
+-- each finds a padding on [J0]
 abbrev pub Padded : {w w′ : CCDataWriter} {fs : List (List ℕ)} {is : Items} → Calls w fs is w′ → Type 0
-Padded no-call = Unit {0}
-Padded (push-packet d r t a c) = Padded c
-Padded (push-cea608 x r a c) = Padded c
-Padded (set-cea608-padding on r a c) = Padded c
-Padded (set-padding on r a c) = Padded c
-Padded (write {w} κs rate out end r a c) = PaddingAt (r .answer) w × Padded c
+Padded c = Tested anyPadding c
+
+-- The carrying mode stays on or off: it is set to what it is. With the mode on each accepted write is at one rate; pushes, refused calls and the
+-- paddings are free.
+abbrev pub Stays : Bool → Framerate → {w w′ : CCDataWriter} {fs : List (List ℕ)} {is : Items} → Calls w fs is w′ → Type 0
+Stays mode speed no-call = Unit {0}
+Stays mode speed (push-packet d r t a c) = Stays mode speed c
+Stays mode speed (push-cea608 x r a c) = Stays mode speed c
+Stays mode speed (set-cea608-padding on r a c) = Stays mode speed c
+Stays mode speed (set-padding on r a c) = Stays mode speed c
+Stays mode speed (set-carrying on r a c) = (on ≡ mode) × Stays mode speed c
+Stays mode speed (write κs rate out end r a c) = ((n : ℕ) → r .answer ≡ counted.Count n → mode ≡ true → rate ≡ speed) × Stays mode speed c
 
 -- nothing is queued, and every byte of the packet being sent has left
 pub record Drained (w : CCDataWriter) : Type 0 where

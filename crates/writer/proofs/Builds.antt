@@ -8,11 +8,11 @@ use lib.ListN.{length, take}
 use lib.Seq.{length-take-le}
 use Rattle.model.specs.Frame as model
 use Rattle.model.specs.Frame.{Triple, flat}
-use Rattle.model.specs.Rate.{Budgets}
-use Rattle.model.specs.Mux.{Mux, Turned, turned, turnsDue, countDue, Sent, padding, framed, writeFrame, validMux, mostQueued}
+use Rattle.model.specs.Rate.{Budgets, validCarry, Share}
+use Rattle.model.specs.Mux.{Mux, Turned, turned, turnsDue, countDue, Sent, padding, framed, writeFrame, writeShare, validMux, mostQueued}
 use Rattle.model.proofs.Cases.{by-cond}
 use Rattle.model.proofs.Frames.{flat-length}
-use Rattle.model.proofs.MuxStates.{write-valid}
+use Rattle.model.proofs.MuxStates.{write-valid, carry-valid}
 use Rattle.caption.specs.declared.Counted.the-variants.{Count}
 use Rattle.writer_frames.specs.Frame.{headed, appended}
 use Rattle.writer_frames.proofs.Stores.{appended-flat}
@@ -22,6 +22,7 @@ use Rattle.writer_turns.specs.declared.Turns.{Turns}
 use Rattle.writer_queues.proofs.Queues.{queue-length}
 use Rattle.writer_turns.proofs.Steps.{Leaves, leaves1, leaves2, fit}
 use Rattle.slots.specs.declared.Slot.{Slot}
+use Rattle.writer_shares.specs.Share.{carryIn}
 use Rattle.writer_sending.specs.Slots.{countOf, filled}
 use Rattle.writer_sending.proofs.Triples.{left-length, left-triples}
 use Rattle.writer_sending.proofs.Sends.{triples-queued}
@@ -40,10 +41,10 @@ abbrev pub laid : model.Frame → Frame
 laid f = appended (headed (f .count)) (flat (f .triples))
 
 -- a frame that is made is the model's, and leaves what the model leaves
-pub record Builds (b : Budgets) (w : CCDataWriter) (m : Made) : Type 0 where
+pub record Builds (h : Share) (w : CCDataWriter) (m : Made) : Type 0 where
   pub answer : m .answer ≡ Count (m .frame .len)
-  pub frame : m .frame ≡ laid (writeFrame b (means w) .frame)
-  pub writer : joined w m ≡ moved w (writeFrame b (means w) .next)
+  pub frame : m .frame ≡ laid (writeShare h (means w) .frame)
+  pub writer : joined w m ≡ moved w (writeShare h (means w) .next)
   pub few : m .next ≤ w .«packet_count»
 
 -- the turns that the model takes
@@ -70,27 +71,35 @@ module _ (b : Budgets) (s : Mux) (within : b .pairs ≤ b .triples) where
   count-least = let m = turns-most (b .pairs) s in by-cond (λ (n : ℕ). turnsDue (b .pairs) s ≤ n) (s .padOut) (λ _. omega arith) (λ _. omega arith)
 
 -- what a frame leaves means what the model leaves, and stays in order
-module _ (w : CCDataWriter) (b : Budgets) (ok : Ok w) (v : validMux (means w) ≡ true) where
+module _ (w : CCDataWriter) (h : Share) (ok : Ok w) (v : validMux (means w) ≡ true) (c : validCarry (h .carry) ≡ true) where
   -- the packet triples of the frame
   m : ℕ
-  m = countDue b (means w) - length (turned (turnsDue (b .pairs) (means w)) (means w) .out)
+  m = countDue (h .budgets) (means w) - length (turned (turnsDue (h .budgets .pairs) (means w)) (means w) .out)
+
+  -- the multiplexer that the model leaves is within its limits
+  pub next-valid : validMux (writeShare h (means w) .next) ≡ true
+  next-valid = carry-valid (means w .carrying) (h .carry) (writeFrame (h .budgets) (means w) .next) (write-valid (h .budgets) (means w) v) c
 
   -- it means that
-  pub means-frame : means (moved w (writeFrame b (means w) .next)) ≡ writeFrame b (means w) .next
+  pub means-frame : means (moved w (writeShare h (means w) .next)) ≡ writeShare h (means w) .next
   unfolding means writeFrame framed m
-  means-frame = moved.means-moved w ok m (writeFrame b (means w) .next) refl refl (write-valid b (means w) v)
+  means-frame = moved.means-moved w ok m (writeShare h (means w) .next) refl refl next-valid
 
   -- in order
-  pub order-frame : Order w → Order (moved w (writeFrame b (means w) .next))
+  pub order-frame : Order w → Order (moved w (writeShare h (means w) .next))
   unfolding means writeFrame framed m
-  order-frame = moved.order-moved w ok m (writeFrame b (means w) .next) refl refl (write-valid b (means w) v)
+  order-frame = moved.order-moved w ok m (writeShare h (means w) .next) refl refl next-valid
 
   -- with arrays of their lengths
-  pub shaped-frame : Shaped (moved w (writeFrame b (means w) .next))
+  pub shaped-frame : Shaped (moved w (writeShare h (means w) .next))
   unfolding means writeFrame framed m
-  shaped-frame = moved.shaped-moved w ok m (writeFrame b (means w) .next) refl refl (write-valid b (means w) v)
+  shaped-frame = moved.shaped-moved w ok m (writeShare h (means w) .next) refl refl next-valid
 
-module _ (w : CCDataWriter) (b : Budgets) (ok : Ok w) (within : b .pairs ≤ b .triples) (most : b .triples ≤ 31) where
+module _ (w : CCDataWriter) (h : Share) (ok : Ok w) (within : h .budgets .pairs ≤ h .budgets .triples) (most : h .budgets .triples ≤ 31) where
+  -- the budgets of the frame
+  abbrev b : Budgets
+  b = h .budgets
+
   -- the turns are the model's
   pub turns-are : turnsOf (w .«output_cea608_padding») (b .pairs) (w .field1 .count) (w .field2 .count) ≡ turnsDue (b .pairs) (means w)
   unfolding turnsDue means
@@ -171,24 +180,24 @@ module _ (w : CCDataWriter) (b : Budgets) (ok : Ok w) (within : b .pairs ≤ b .
       rw n at (filled-is slots (w .sending) (w .sent) frame (length (turns .out)) count (ok .slots) (ok .held) frame-length few-turns count-few (w .«output_padding»))
 
   -- so the frame and what is left are those of the model's turns and packet triples
-  built-are : builtFrom (b .pairs) (b .triples) w ≡ madeOf (taken (turnsOn (headed count)) turns) sent
+  built-are : builtFrom (b .pairs) (b .triples) (carryIn (h .carry)) w ≡ madeOf (taken (turnsOn (headed count)) turns) sent (carryIn (h .carry))
   unfolding built
   built-are =
       let c : count % 32 ≡ count = omega (arith, count-few) in
       rw (turns-are, count-are, c, taken-are, sent-are)
 
   -- the frame is the model's
-  frame-are : sent .frame ≡ laid (writeFrame b (means w) .frame)
+  frame-are : sent .frame ≡ laid (writeShare h (means w) .frame)
   unfolding means writeFrame framed
   frame-are = appended-flat (headed count) (turns .out) (sends .out ++ fillings)
 
   -- the state is what the model leaves
-  writer-are : joined w (madeOf (taken (turnsOn (headed count)) turns) sent) ≡ moved w (writeFrame b (means w) .next)
+  writer-are : joined w (madeOf (taken (turnsOn (headed count)) turns) sent (carryIn (h .carry))) ≡ moved w (writeShare h (means w) .next)
   unfolding means writeFrame framed
   writer-are =
       let k : w .«packet_count» - (w .«packet_count» - length (sends .packets)) ≡ length (sends .packets) = omega (arith, moved.fewer w ok (count - length (turns .out))) in
-      rw k (sym (moved.moved-is w ok (count - length (turns .out)) (writeFrame b (means w) .next) refl refl))
+      rw k (sym (moved.moved-is w ok (count - length (turns .out)) (writeShare h (means w) .next) refl refl))
 
   -- frame and state are what the model says
-  pub built-is : (m : Made) → m ≡ builtFrom (b .pairs) (b .triples) w → Builds b w m
+  pub built-is : (m : Made) → m ≡ builtFrom (b .pairs) (b .triples) (carryIn (h .carry)) w → Builds h w m
   built-is m e = rw (e, built-are) (record { answer = refl; frame = frame-are; writer = writer-are; few = omega arith })

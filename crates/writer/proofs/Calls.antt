@@ -1,27 +1,27 @@
 -- One law for each way out of a call. Assumes nothing.
 use mathlib.Core.Path.{_≡_, refl, sym, ap, _∙_}
-use mathlib.Core.Bool.{Bool, true, false, cond, _||_}
+use mathlib.Core.Bool.{Bool, true, false, cond}
 use mathlib.Core.List.{List, [], _∷_, _++_}
 use Prim.Native.Nat.{ℕ, _+_, _-_, _*_, _≤_, _<_, min}
 use native.Mathlib.Omega.{arith}
 use borrow.Author.Tests.{lt-ltb, le-ltb, le-leb, ltb-true, ltb-false}
-use lib.Dec.{eqb, leb, ltb}
+use lib.Dec.{leb, ltb}
 use lib.ListN.{length, take, drop, replicate, length-append, length-replicate}
 use lib.Seq.{sets-eq, take-at}
-use Rattle.model.specs.Said.{Said, Outcome, gave, refused, accepted, says, after, checked, measured, mapped, putInto, badValue, badRate}
+use Rattle.model.specs.Said.{Said, Outcome, gave, refused, accepted, says, after, checked, measured, mapped, putInto, badValue}
 use Rattle.model.specs.Frame as model
 use Rattle.model.specs.Frame.{Cea608, field1, field2, Pair, pair, Triple, tri, flat, frameBytes}
-use Rattle.model.specs.Rate.{Budgets, pairsAt, triplesAt, mostTriples, budgets}
-use Rattle.model.specs.Mux.{Mux, Turned, turned, turnsDue, countDue, Sent, send, padding, framed, writeFrame, writeAt, withPads, withQueues, flushMux, pushPair, pushCea608, mostQueued}
+use Rattle.model.specs.Rate.{Budgets, validCarry, Share, shareBy}
+use Rattle.model.specs.Mux.{Mux, Turned, turned, turnsDue, countDue, Sent, send, padding, framed, writeFrame, shareAt, writeShare, writeAt, withPads, withMode, withQueues, flushMux, pushPair, pushCea608, mostQueued}
 use Rattle.model.specs.Duration.{pairsDuration, bytesDuration, bytesLeft, field1Duration, field2Duration, packetDuration}
 use Rattle.model.proofs.Cases.{by-test, by-cond, Gives}
 use Rattle.model.proofs.Frames.{flat-length, frame-length}
-use Rattle.model.proofs.Rates.{accepted-sane}
+use Rattle.model.proofs.Carrying.{Shared, share-given}
 use Rattle.caption.specs.Answers.{saidRefusal, saidAnswer}
 use Rattle.caption.specs.declared.Answer.{Answer}
 use Rattle.caption.specs.declared.Answer.the-variants as answer
 use Rattle.caption.specs.declared.Refusal.{Refusal}
-use Rattle.caption.specs.declared.Refusal.the-variants.{BadValue, BadRate, OutShort}
+use Rattle.caption.specs.declared.Refusal.the-variants.{BadValue, OutShort}
 use Rattle.caption.specs.declared.Cea608.the-variants.{Field1, Field2}
 use Rattle.caption.specs.declared.Framerate.{Framerate}
 use Rattle.writer_frames.specs.Frame.{headed, emitted}
@@ -29,19 +29,22 @@ use Rattle.writer_frames.proofs.Stores.{emitted-whole}
 use Rattle.writer_queues.specs.Queue.{queueOf, queueOver, pushOutcome}
 use Rattle.writer.specs.Writer.{means, validWriter, stored, emptied}
 use Rattle.writer.specs.Calls.{Answers, written, Writes}
-use Rattle.writer.specs.Making.{joined, sourceOf, builtFrom, withPadding, withFields, pairOutcome, Makes}
+use Rattle.writer.specs.Making.{joined, sourceOf, builtFrom, withPadding, carryAfter, withCarrying, withFields, pairOutcome, Makes}
 use Rattle.writer_queues.proofs.Queues.{Sized, queue-length}
 use Rattle.writer_frames.specs.declared.Frame.{Frame}
 use Rattle.writer_queues.specs.declared.PairQueue.{PairQueue}
 use Rattle.caption.specs.declared.Counted.the-variants as counted
+use Rattle.writer_shares.specs.Share.{carryOf, carryIn, outcomeOf}
+use Rattle.writer_shares.specs.declared.Share.{Share as Got}
+use Rattle.writer_shares.specs.declared.Share.the-variants as got
 use Rattle.writer_sending.specs.Slots.{triplesLeft, lengthsIn}
 use Rattle.writer_sending.proofs.Queues.{sets-own}
 use Rattle.writer_sending.proofs.Triples.{left-length, left-triples}
 use Rattle.writer_sending.proofs.Sends.{lengths-queued}
 use Rattle.writer_sending.proofs.Fills.{send-few}
-use Rattle.writer.proofs.Valid.{Shaped, Ok, Order, valid-order, valid-ok, valid-mux}
+use Rattle.writer.proofs.Valid.{Shaped, Ok, Order, valid-order, valid-ok, valid-carry, valid-mux}
 use Rattle.writer.proofs.Builds.{laid, Builds, built-is, leaves, count-most, count-least, means-frame}
-use Rattle.writer.proofs.Stored.{Grows, grows-pads, grows-pair, stored-pads, stored-first, stored-second, means-stored, means-emptied}
+use Rattle.writer.proofs.Stored.{Grows, grows-pads, grows-mode, grows-pair, stored-pads, stored-mode, stored-first, stored-second, means-stored, means-emptied}
 use Rattle.writer.specs.declared.CCDataWriter.{CCDataWriter}
 use Rattle.writer_building.specs.Building.{unmadeOf, shownIn, madeAt}
 use Rattle.writer_building.specs.declared.Source.{Source}
@@ -95,6 +98,11 @@ module _ (w : CCDataWriter) (h : Shaped w) {v : Bool} (e : v ≡ validWriter w) 
   pub switched : (a b : Bool) (y : CCDataWriter) → y ≡ withPadding a b w
       → Answers (checked (validWriter w) (gave (withPads a b (means w)))) (stored w) w (record { answer = answer.Accepted; writer = y })
   switched a b y z = accepted-value w e (withPads a b (means w)) (stored w) y t (z ∙ sym (stored-pads w order a b)) (means-stored w order ok _ (grows-pads (means w) (valid-mux w h valid) a b))
+
+  -- the mode
+  pub mode-set : (on : Bool) (y : CCDataWriter) → y ≡ withCarrying on (carryAfter on w) w
+      → Answers (checked (validWriter w) (gave (withMode on (means w)))) (stored w) w (record { answer = answer.Accepted; writer = y })
+  mode-set on y z = accepted-value w e (withMode on (means w)) (stored w) y t (z ∙ sym (stored-mode w order on)) (means-stored w order ok _ (grows-mode (means w) (valid-mux w h valid) on))
 
   -- flush
   pub flushes : (y : CCDataWriter) → y ≡ emptied w (flushMux (means w)) → Answers (checked (validWriter w) (gave (flushMux (means w)))) (emptied w) w (record { answer = answer.Accepted; writer = y })
@@ -204,16 +212,6 @@ few-triples b s h =
     rw (length-append (t .out) (o .out ++ p), length-append (o .out) p)
     (omega (arith, leaves (turnsDue (b .pairs) s) s .few, count-least b s h, send-few (n - length (t .out)) (s .sending) (s .packets), padding-few (s .padOut) (n - length (t .out) - length (o .out))))
 
--- a rate is refused for one reason alone
-rate-refused : (numer denom : ℕ) {why : Said} → budgets numer denom ≡ refused why → _≡_ {A = Outcome Budgets} (refused why) (refused badRate)
-unfolding budgets
-rate-refused numer denom e = by (eqb numer 0 || (eqb (pairsAt numer denom) 0 || ltb mostTriples (triplesAt numer denom))) _ e
-  where
-    -- by the test of the rate
-    by : (bad : Bool) (b : Budgets) {why : Said} → cond bad (refused badRate) (gave b) ≡ refused why → _≡_ {A = Outcome Budgets} (refused why) (refused badRate)
-    by true b e = sym e
-    by false b e = (cc)
-
 -- writing a frame
 module _ (w : CCDataWriter) (rate : Framerate) (out : List ℕ) where
   -- on a refusal all stays as it was
@@ -226,54 +224,64 @@ module _ (w : CCDataWriter) (rate : Framerate) (out : List ℕ) where
   wrote-value z = wrote-refused BadValue (rw z)
 
   module _ (within : validWriter w ≡ true) where
-    -- a rate without budgets
-    wrote-rate : budgets (rate .numer) (rate .denom) ≡ refused badRate → Writes rate out w (record { answer = counted.Refused BadRate; writer = w }) out
+    -- there is no share of the rate
+    wrote-unshared : (why : Refusal) → shareAt (rate .numer) (rate .denom) (means w) ≡ refused (saidRefusal why) → Writes rate out w (record { answer = counted.Refused why; writer = w }) out
     unfolding written writeAt
-    wrote-rate b = wrote-refused BadRate (rw (within, b))
+    wrote-unshared why z = wrote-refused why (rw (within, z))
 
-    module _ (shaped : Shaped w) (b : Budgets) (given : budgets (rate .numer) (rate .denom) ≡ gave b) (f : Made) (found : f ≡ builtFrom (b .pairs) (b .triples) w) where
-      -- what an accepted rate's budgets are
-      sane : (b .pairs ≤ b .triples) × (b .triples ≤ 31)
-      sane = let s = accepted-sane (rate .numer) (rate .denom) given in (omega (arith, s .apart), s .few-triples)
+    module _ (shaped : Shaped w) (h : Share) (given : shareAt (rate .numer) (rate .denom) (means w) ≡ gave h) (f : Made)
+        (found : f ≡ builtFrom (h .budgets .pairs) (h .budgets .triples) (carryIn (h .carry)) w) where
+      -- the parts that the model carries are within their limits
+      carries : validCarry (means w .carry) ≡ true
+      unfolding means
+      carries = valid-carry w shaped within
+
+      -- what an accepted write gets
+      shared : Shared h
+      shared = share-given (means w .carrying) (rate .numer) (rate .denom) (means w .carry) carries given
+
+      -- what its budgets are
+      sane : (h .budgets .pairs ≤ h .budgets .triples) × (h .budgets .triples ≤ 31)
+      sane = (omega (arith, shared .accepted .apart), shared .accepted .most)
 
       -- what was built is the model's
-      made : Builds b w f
-      made = built-is w b (valid-ok w shaped within) (sane .0) (sane .1) f found
+      made : Builds h w f
+      made = built-is w h (valid-ok w shaped within) (sane .0) (sane .1) f found
 
       -- the bytes of the frame
       abbrev bytes : List ℕ
-      bytes = frameBytes (writeFrame b (means w) .frame)
+      bytes = frameBytes (writeShare h (means w) .frame)
 
       -- their number
       length-is : f .frame .len ≡ length bytes
-      length-is = rw (made .frame) (laid-length (writeFrame b (means w) .frame))
+      length-is = rw (made .frame) (laid-length (writeShare h (means w) .frame))
 
       -- no more triples than a frame may have
-      triples-most : length (writeFrame b (means w) .frame .triples) ≤ 31
-      triples-most = omega (arith, few-triples b (means w) (sane .0), count-most b (means w) (sane .0), sane)
+      triples-most : length (writeShare h (means w) .frame .triples) ≤ 31
+      triples-most = omega (arith, few-triples (h .budgets) (means w) (sane .0), count-most (h .budgets) (means w) (sane .0), sane)
 
       -- an output that is too short
       wrote-short : length out < f .frame .len → Writes rate out w (record { answer = counted.Refused (OutShort (f .frame .len)); writer = w }) out
       unfolding written writeAt putInto
-      wrote-short h =
+      wrote-short e =
           rw length-is (wrote-refused (OutShort (length bytes)) (rw (within, given, lt-ltb (length out) (length bytes) (omega (arith, length-is)))))
 
       -- the write is accepted
-      wrote : f .frame .len ≤ length out → written rate out w ≡ gave (record { frame = bytes; out = bytes ++ drop (length bytes) out; next = writeFrame b (means w) .next })
+      wrote : f .frame .len ≤ length out → written rate out w ≡ gave (record { frame = bytes; out = bytes ++ drop (length bytes) out; next = writeShare h (means w) .next })
       unfolding written writeAt putInto
-      wrote h = rw (within, given, le-ltb (length out) (length bytes) (omega (arith, length-is)))
+      wrote e = rw (within, given, le-ltb (length out) (length bytes) (omega (arith, length-is)))
 
       -- the frame is in the output
       wrote-done : f .frame .len ≤ length out → Writes rate out w (record { answer = f .answer; writer = joined w f }) (emitted (f .frame) out)
-      wrote-done h =
-          let few : f .frame .len ≤ 95 = omega (arith, length-is, frame-length (writeFrame b (means w) .frame), triples-most) in
-          let d : take (f .frame .len) (f .frame .bytes) ≡ bytes = rw (made .frame) (laid-bytes (writeFrame b (means w) .frame) triples-most) in
-          let o : emitted (f .frame) out ≡ bytes ++ drop (length bytes) out = sym (emitted-whole (f .frame) out few h) ∙ rw (d, length-is) in
+      wrote-done e =
+          let few : f .frame .len ≤ 95 = omega (arith, length-is, frame-length (writeShare h (means w) .frame), triples-most) in
+          let d : take (f .frame .len) (f .frame .bytes) ≡ bytes = rw (made .frame) (laid-bytes (writeShare h (means w) .frame) triples-most) in
+          let o : emitted (f .frame) out ≡ bytes ++ drop (length bytes) out = sym (emitted-whole (f .frame) out few e) ∙ rw (d, length-is) in
           record {
-            answer = rw (wrote h, made .answer, length-is);
-            means = rw (wrote h, made .writer) (means-frame w b (valid-ok w shaped within) (valid-mux w shaped within));
-            places = rw (wrote h) (made .writer);
-            output = rw (wrote h) o;
+            answer = rw (wrote e, made .answer, length-is);
+            means = rw (wrote e, made .writer) (means-frame w h (valid-ok w shaped within) (valid-mux w shaped within) (shared .valid));
+            places = rw (wrote e) (made .writer);
+            output = rw (wrote e) o;
           }
 
 -- nothing is put in
@@ -295,24 +303,33 @@ module _ (w : CCDataWriter) (rate : Framerate) (room : ℕ) where
 
   module _ (within : validWriter w ≡ true) (shaped : Shaped w) where
     -- by the room that there is
-    in-room : (b : Budgets) → budgets (rate .numer) (rate .denom) ≡ gave b → (m : Made) → m ≡ builtFrom (b .pairs) (b .triples) w → Makes rate room w (shownIn room (sourceOf w) m)
-    in-room b e m f =
+    in-room : (h : Share) → shareAt (rate .numer) (rate .denom) (means w) ≡ gave h → (m : Made) → m ≡ builtFrom (h .budgets .pairs) (h .budgets .triples) (carryIn (h .carry)) w
+        → Makes rate room w (shownIn room (sourceOf w) m)
+    in-room h e m f =
         by-test (ltb room (m .frame .len))
-        (λ t. rw t (unmade (OutShort (m .frame .len)) (λ out l. wrote-short w rate out within shaped b e m f (rw l (ltb-true room (m .frame .len) t)))))
+        (λ t. rw t (unmade (OutShort (m .frame .len)) (λ out l. wrote-short w rate out within shaped h e m f (rw l (ltb-true room (m .frame .len) t)))))
         (λ t. rw t (record {
-          few = made w rate [] within shaped b e m f .few;
-          wrote = λ out l. wrote-done w rate out within shaped b e m f (rw l (ltb-false room (m .frame .len) t));
+          few = made w rate [] within shaped h e m f .few;
+          wrote = λ out l. wrote-done w rate out within shaped h e m f (rw l (ltb-false room (m .frame .len) t));
         }))
 
-    -- by the rate
-    at-rate : (o : Outcome Budgets) → budgets (rate .numer) (rate .denom) ≡ o → Makes rate room w (madeAt room (w .packets) (sourceOf w) o)
+    -- by what is got of the rate
+    with-share : (g : Got) → outcomeOf g ≡ shareAt (rate .numer) (rate .denom) (means w) → Makes rate room w (madeAt room (w .packets) (sourceOf w) g)
     unfolding madeAt
-    at-rate (gave b) e = in-room b e (builtFrom (b .pairs) (b .triples) w) refl
-    at-rate (refused why) e = unmade BadRate (λ out l. wrote-rate w rate out within (e ∙ rate-refused (rate .numer) (rate .denom) e))
+    with-share (got.Of pairs triples carry) e =
+        in-room (record { budgets = record { pairs = pairs; triples = triples }; carry = carryOf carry }) (sym e) (builtFrom pairs triples carry w) refl
+    with-share (got.Refused why) e = unmade why (λ out l. wrote-unshared w rate out within why (sym e))
+
+    -- of parts within their limits it is the model's
+    as-shared : (g : Got) → outcomeOf g ≡ checked (validCarry (carryOf (w .carry))) (shareBy (w .carrying) (rate .numer) (rate .denom) (carryOf (w .carry)))
+        → outcomeOf g ≡ shareAt (rate .numer) (rate .denom) (means w)
+    unfolding means
+    as-shared g e = rw (valid-carry w shaped within) at e
 
   -- by the state
-  pub makes : {v : Bool} → v ≡ validWriter w → Shaped w → (s : Source) → s ≡ sourceOf w → (m : Made)
-      → m ≡ cond v (madeAt room (w .packets) s (budgets (rate .numer) (rate .denom))) (unmadeOf s BadValue) → Makes rate room w m
-  makes {v} e shaped s q m z =
-      by-test v (λ t. rw (z, t, q) (at-rate (sym e ∙ t) shaped (budgets (rate .numer) (rate .denom)) refl))
+  pub makes : {v : Bool} → v ≡ validWriter w → Shaped w → (s : Source) → s ≡ sourceOf w
+      → (g : Got) → outcomeOf g ≡ checked (validCarry (carryOf (w .carry))) (shareBy (w .carrying) (rate .numer) (rate .denom) (carryOf (w .carry)))
+      → (m : Made) → m ≡ cond v (madeAt room (w .packets) s g) (unmadeOf s BadValue) → Makes rate room w m
+  makes {v} e shaped s q g k m z =
+      by-test v (λ t. rw (z, t, q) (with-share (sym e ∙ t) shaped g (as-shared (sym e ∙ t) shaped g k)))
       (λ f. rw (z, f, q) (unmade BadValue (λ out l. wrote-value w rate out (sym e ∙ f))))

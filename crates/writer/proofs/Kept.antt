@@ -3,18 +3,18 @@
 use mathlib.Core.Path.{_≡_, refl, sym, ap, _∙_}
 use mathlib.Core.Bool.{Bool, true}
 use Rattle.model.specs.Lists.{every}
-use Rattle.model.specs.Rate.{Budgets}
-use Rattle.model.specs.Mux.{Mux, validMux, withPads, writeFrame, flushMux}
+use Rattle.model.specs.Rate.{validCarry, Share}
+use Rattle.model.specs.Mux.{Mux, validMux, withPads, withMode, writeShare, flushMux}
 use Rattle.model.proofs.Cases.{both, and-both}
 use Rattle.model.proofs.MuxStates as model
-use Rattle.model.proofs.MuxStates.{fresh-mux, flush-mux, write-valid}
+use Rattle.model.proofs.MuxStates.{fresh-mux, flush-mux}
 use Rattle.writer_queues.specs.Queue.{pairBytes, queueOver}
 use Rattle.slots.specs.Row.{validSending}
 use Rattle.writer.specs.Writer.{means, inOrder, validWriter, fresh, stored, emptied, moved}
-use Rattle.writer.specs.Making.{withPadding}
+use Rattle.writer.specs.Making.{withPadding, carryAfter, withCarrying}
 use Rattle.writer.proofs.Valid.{Shaped, Ok, Order, order-facts, facts-order, facts-valid, valid-order, valid-ok, valid-mux}
-use Rattle.writer.proofs.Builds.{means-frame, order-frame, shaped-frame}
-use Rattle.writer.proofs.Stored.{Grows, stored-pads, means-stored, order-stored, shaped-stored, means-emptied, order-emptied}
+use Rattle.writer.proofs.Builds.{next-valid, means-frame, order-frame, shaped-frame}
+use Rattle.writer.proofs.Stored.{Grows, stored-pads, stored-switched, stored-mode, means-stored, order-stored, shaped-stored, means-emptied, order-emptied}
 use Rattle.writer.proofs.Laws.{means-fresh}
 use Rattle.writer.specs.declared.CCDataWriter.{CCDataWriter}
 
@@ -32,7 +32,7 @@ fresh-sound =
       shaped = record { packets = refl; first = refl; second = refl };
     }
 
--- the switches of a state within its limits, set twice
+-- the switches of a state within its limits, set one after another
 module _ (w : CCDataWriter) (v : validWriter w ≡ true) (a b : Bool) where
   -- its places are in order, and mean a multiplexer within its limits
   parts : Order w × (validMux (means w) ≡ true)
@@ -52,6 +52,14 @@ module _ (w : CCDataWriter) (v : validWriter w ≡ true) (a b : Bool) where
       let x : CCDataWriter = stored w (withPads a b (means w)) in
       let o : Order x = order-facts x (both (inOrder x) (validMux (means x)) pads-valid .0) in
       stored-pads x o a c ∙ ap (withPadding a c) (stored-pads w (parts .0) a b) ∙ sym (stored-pads w (parts .0) a c)
+
+  -- the mode is set behind them
+  pub mode-again : (on : Bool) → stored (stored w (withPads a b (means w))) (withMode on (means (stored w (withPads a b (means w))))) ≡ stored w (withMode on (withPads a b (means w)))
+  unfolding validWriter
+  mode-again on =
+      let x : CCDataWriter = stored w (withPads a b (means w)) in
+      let o : Order x = order-facts x (both (inOrder x) (validMux (means x)) pads-valid .0) in
+      stored-mode x o on ∙ ap (λ (y : CCDataWriter). withCarrying on (carryAfter on y) y) (stored-pads w (parts .0) a b) ∙ sym (stored-switched w (parts .0) a b on)
 
 -- each call of a state that is sound
 module _ (w : CCDataWriter) (s : Sound w) where
@@ -84,7 +92,7 @@ module _ (w : CCDataWriter) (s : Sound w) where
       (record { packets = s .shaped .packets; first = s .shaped .first; second = s .shaped .second }) (means-emptied w) (flush-mux (means w))
 
   -- a frame
-  pub moved-sound : (b : Budgets) → Sound (moved w (writeFrame b (means w) .next))
-  moved-sound b =
-      sound-by (moved w (writeFrame b (means w) .next)) (writeFrame b (means w) .next) (order-frame w b sound-ok sound-mux sound-order)
-      (shaped-frame w b sound-ok sound-mux) (means-frame w b sound-ok sound-mux) (write-valid b (means w) sound-mux)
+  pub moved-sound : (h : Share) → validCarry (h .carry) ≡ true → Sound (moved w (writeShare h (means w) .next))
+  moved-sound h c =
+      sound-by (moved w (writeShare h (means w) .next)) (writeShare h (means w) .next) (order-frame w h sound-ok sound-mux c sound-order)
+      (shaped-frame w h sound-ok sound-mux c) (means-frame w h sound-ok sound-mux c) (next-valid w h sound-ok sound-mux c)

@@ -9,15 +9,17 @@ use borrow.Author.Tests.{le-ltb}
 use lib.ListN.{length, getD, drop}
 use Rattle.model.specs.Said.{gave, putInto}
 use Rattle.model.specs.Frame.{frameBytes}
-use Rattle.model.specs.Rate.{Budgets, budgets}
-use Rattle.model.specs.Mux.{freshMux, started, writeFrame, writeAt}
+use Rattle.model.specs.Rate.{validCarry, Share}
+use Rattle.model.specs.Mux.{Mux, freshMux, started, validMux, shareAt, writeShare, writeAt}
 use Rattle.model.proofs.Frames.{frame-length}
-use Rattle.model.proofs.Rates.{accepted-sane}
+use Rattle.model.proofs.Cases.{both}
+use Rattle.model.proofs.Carrying.{Shared, share-given}
+use Rattle.model.proofs.MuxStates.{mux-facts}
 use Rattle.caption.proofs.Answers.{answerOf, refused-again}
 use Rattle.caption.specs.declared.Framerate.{Framerate}
 use Rattle.writer_queues.specs.Queue.{pairsOf, queueOf, pairBytes, queueOver}
 use Rattle.slots.specs.Slot.{writtenBytes}
-use Rattle.writer.specs.Writer.{means, validWriter, fresh}
+use Rattle.writer.specs.Writer.{means, inOrder, validWriter, fresh}
 use Rattle.writer.specs.Calls.{saidMicros, written}
 use Rattle.writer.proofs.Builds.{count-most}
 use Rattle.writer.proofs.Calls.{few-triples}
@@ -44,12 +46,22 @@ pub means-fresh : means fresh ≡ freshMux
 unfolding means fresh writtenBytes started queueOf pairsOf queueOver pairBytes
 means-fresh = refl
 
--- a write of a valid state at an accepted rate, with 95 bytes of room, gives the model's frame
-pub write-given : (w : CCDataWriter) → validWriter w ≡ true → (rate : Framerate) (out : List ℕ) {b : Budgets} → budgets (rate .numer) (rate .denom) ≡ gave b → 95 ≤ length out
-    → written rate out w ≡ (let f = frameBytes (writeFrame b (means w) .frame) in gave (record { frame = f; out = f ++ drop (length f) out; next = writeFrame b (means w) .next }))
+-- the parts that a state within its limits carries are within theirs
+pub carry-within : (w : CCDataWriter) → validWriter w ≡ true → validCarry (means w .carry) ≡ true
+unfolding validWriter
+carry-within w v = mux-facts (means w) (both (inOrder w) (validMux (means w)) v .1) .carry
+
+-- what a write of it gets
+pub share-within : (w : CCDataWriter) → validWriter w ≡ true → (rate : Framerate) {h : Share} → shareAt (rate .numer) (rate .denom) (means w) ≡ gave h → Shared h
+share-within w v rate e = share-given (means w .carrying) (rate .numer) (rate .denom) (means w .carry) (carry-within w v) e
+
+-- a write of it that gets a share of the rate, with 95 bytes of room, gives the model's frame
+pub write-given : (w : CCDataWriter) → validWriter w ≡ true → (rate : Framerate) (out : List ℕ) {h : Share} → shareAt (rate .numer) (rate .denom) (means w) ≡ gave h → 95 ≤ length out
+    → written rate out w ≡ (let f = frameBytes (writeShare h (means w) .frame) in gave (record { frame = f; out = f ++ drop (length f) out; next = writeShare h (means w) .next }))
 unfolding written writeAt putInto
-write-given w v rate out {b} e room =
-    let s = accepted-sane (rate .numer) (rate .denom) e in
+write-given w v rate out {h} e room =
+    let s = share-within w v rate e .accepted in
+    let b = h .budgets in
     let within : b .pairs ≤ b .triples = omega (arith, s .apart) in
-    let n = frame-length (writeFrame b (means w) .frame) in
-    rw (v, e, le-ltb (length out) (length (frameBytes (writeFrame b (means w) .frame))) (omega (arith, n, few-triples b (means w) within, count-most b (means w) within, s .few-triples)))
+    let n = frame-length (writeShare h (means w) .frame) in
+    rw (v, e, le-ltb (length out) (length (frameBytes (writeShare h (means w) .frame))) (omega (arith, n, few-triples b (means w) within, count-most b (means w) within, s .most)))

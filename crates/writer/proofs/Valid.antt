@@ -1,6 +1,6 @@
 -- The places in order are those of a multiplexer within its limits: the test of the places is the whole test. Assumes nothing.
-use mathlib.Core.Path.{_≡_, refl, _∙_}
-use mathlib.Core.Bool.{Bool, true, false, _&&_, _||_}
+use mathlib.Core.Path.{_≡_, refl, sym, ap, _∙_}
+use mathlib.Core.Bool.{Bool, true, false, _&&_, _||_, false≢true}
 use mathlib.Core.List.{List, [], _∷_}
 use Prim.Native.Nat.{ℕ, zero, suc, _*_, _%_, _≤_, _<_}
 use native.Mathlib.Omega.{arith}
@@ -9,10 +9,12 @@ use lib.Dec.{eqb, leb}
 use lib.ListN.{length, take, getD, length-map}
 use lib.Seq.{length-take-le}
 use Rattle.model.specs.Lists.{every}
+use Rattle.model.specs.Rate.{validCarry}
 use Rattle.model.specs.Mux.{storable, validMux}
 use Rattle.model.proofs.Cases.{by-test, both, and-both}
-use Rattle.model.proofs.MuxStates.{facts-mux}
+use Rattle.model.proofs.MuxStates.{mux-facts, facts-mux}
 use Rattle.writer_queues.proofs.Queues.{Sized, queue-length}
+use Rattle.writer_shares.specs.Share.{carryOf}
 use Rattle.slots.specs.Slot.{noSlot, writtenLength, writtenBytes, readSlot, writtenSlot}
 use Rattle.slots.specs.Walk.{Carries}
 use Rattle.slots.proofs.Written.{carried, carried-storable}
@@ -36,6 +38,11 @@ all-storable : (l : List Slot) → every writtenSlot l ≡ true → every storab
 unfolding every
 all-storable [] e = refl
 all-storable (s ∷ l) e = let t = both (writtenSlot s) (every writtenSlot l) e in and-both _ _ (carried-storable s (t .0)) (all-storable l (t .1))
+
+-- a test and one that passes
+and-true : (b : Bool) → b && true ≡ b
+and-true true = refl
+and-true false = refl
 
 -- a packet being sent that passes its test is within the limits
 pub held-facts : (s : Slot) (sent : ℕ) → validSending s sent ≡ true → Held s sent
@@ -101,10 +108,10 @@ module _ (w : CCDataWriter) where
           second = record { few = omega (arith, o .second, h .second); flat = h .second };
         }
 
-    -- so the multiplexer that they mean is
-    pub order-mux : Order w → validMux (means w) ≡ true
+    -- so the multiplexer that they mean is, if the carried parts are
+    pub order-mux : Order w → validCarry (carryOf (w .carry)) ≡ true → validMux (means w) ≡ true
     unfolding means
-    order-mux o =
+    order-mux o c =
         let ok = order-ok o in
         let n : length (readSlots (take (w .«packet_count») (w .packets))) ≡ w .«packet_count» =
         length-map (take (w .«packet_count») (w .packets)) readSlot ∙ length-take-le (w .«packet_count») (w .packets) (o .packets) in
@@ -114,12 +121,21 @@ module _ (w : CCDataWriter) where
           sending = omega (arith, left-length (w .sending) (w .sent) (ok .held), ok .held .most);
           queue1 = omega (arith, queue-length (w .field1) (ok .first), ok .first .few);
           queue2 = omega (arith, queue-length (w .field2) (ok .second), ok .second .few);
+          carry = c;
         })
 
-    -- the test of the places is the whole test
-    pub order-valid : inOrder w ≡ validWriter w
+    -- parts that break a limit are those of a multiplexer that does
+    carry-mux : validCarry (carryOf (w .carry)) ≡ false → validMux (means w) ≡ false
+    unfolding means
+    carry-mux f = by-test (validMux (means w)) (λ e. absurd (false≢true (sym f ∙ mux-facts (means w) e .carry))) (λ e. e)
+
+    -- the test of the places and of the parts is the whole test
+    pub order-valid : inOrder w && validCarry (carryOf (w .carry)) ≡ validWriter w
     unfolding validWriter
-    order-valid = by-test (inOrder w) (λ e. rw (e, order-mux (order-facts e))) (λ e. rw e)
+    order-valid =
+        by-test (inOrder w)
+        (λ e. by-test (validCarry (carryOf (w .carry))) (λ f. rw (e, f, order-mux (order-facts e) f)) (λ f. rw (e, f, carry-mux f)))
+        (λ e. rw e)
 
     -- too many pairs of field 1
     pub over-first : 64 < w .field1 .count → false ≡ validWriter w
@@ -135,21 +151,31 @@ module _ (w : CCDataWriter) where
         simp (few, over, and-false (leb (w .«packet_count») (length (w .packets)))) refl
         ∙ order-valid
 
+    -- parts that break a limit
+    pub over-carry : false ≡ validCarry (carryOf (w .carry)) → false ≡ validWriter w
+    over-carry e = by-test (inOrder w) (λ o. rw (o, ← e) refl ∙ order-valid) (λ o. rw o refl ∙ order-valid)
+
     -- the slots decide
-    pub by-slots : {r : Bool} → w .field1 .count ≤ 64 → w .field2 .count ≤ 64 → r ≡ validSlots (w .sending) (w .sent) (w .packets) (w .«packet_count») → r ≡ validWriter w
+    pub by-slots : {r : Bool} → w .field1 .count ≤ 64 → w .field2 .count ≤ 64 → true ≡ validCarry (carryOf (w .carry)) → r ≡ validSlots (w .sending) (w .sent) (w .packets) (w .«packet_count») → r ≡ validWriter w
     unfolding inOrder validSlots
-    by-slots b d f =
+    by-slots b d c f =
         let few1 = le-leb (2 * w .field1 .count) (length (w .field1 .bytes)) (omega (arith, h .first)) in
         let few2 = le-leb (2 * w .field2 .count) (length (w .field2 .bytes)) (omega (arith, h .second)) in
         f
         ∙ simp (few1, few2, h .packets) refl
+        ∙ sym (and-true (inOrder w))
+        ∙ ap (λ (v : Bool). inOrder w && v) c
         ∙ order-valid
 
     -- a state within its limits, by its parts
     module _ (e : validWriter w ≡ true) where
       -- its places are in order
       pub valid-order : Order w
-      valid-order = order-facts (order-valid ∙ e)
+      valid-order = order-facts (both (inOrder w) (validCarry (carryOf (w .carry))) (order-valid ∙ e) .0)
+
+      -- the carried parts are within their limits
+      pub valid-carry : validCarry (carryOf (w .carry)) ≡ true
+      valid-carry = both (inOrder w) (validCarry (carryOf (w .carry))) (order-valid ∙ e) .1
 
       -- the limits as facts
       pub valid-ok : Ok w
@@ -157,7 +183,7 @@ module _ (w : CCDataWriter) where
 
       -- the multiplexer that it means is within its limits
       pub valid-mux : validMux (means w) ≡ true
-      valid-mux = order-mux valid-order
+      valid-mux = order-mux valid-order valid-carry
 
   -- places in order that mean a multiplexer within its limits
   pub facts-valid : Order w → validMux (means w) ≡ true → validWriter w ≡ true

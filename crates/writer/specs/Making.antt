@@ -1,11 +1,12 @@
 -- How a frame is made and a packet stored, part by part. No public contract reaches this file. Assumes nothing.
-use mathlib.Core.Bool.{Bool, true, false, _&&_}
+use mathlib.Core.Bool.{Bool, true, false, cond, _&&_}
 use mathlib.Core.Path.{_≡_}
 use mathlib.Core.List.{List}
 use Prim.Native.Nat.{ℕ, _+_, _-_, _≤_, _<_}
 use lib.ListN.{length, take, drop, set}
 use lib.Seq.{sets}
 use Rattle.model.specs.Said.{Outcome, checked}
+use Rattle.model.specs.Rate.{noCarry}
 use Rattle.model.specs.Mux.{Mux, pushPacket, pushCea608}
 use Rattle.caption.specs.Pairs.{cea608Of}
 use Rattle.caption.specs.declared.Cea608.{Cea608}
@@ -17,6 +18,8 @@ use Rattle.packet.specs.declared.DTVCCPacket.{DTVCCPacket}
 use Rattle.writer_queues.specs.declared.PairQueue.{PairQueue}
 use Rattle.writer_frames.specs.Frame.{emitted}
 use Rattle.slots.specs.declared.Slot.{Slot}
+use Rattle.writer_shares.specs.Share.{carryIn}
+use Rattle.writer_shares.specs.declared.Carry.{Carry}
 use Rattle.writer_storing.specs.declared.Placed.{Placed}
 use Rattle.writer_building.specs.Building.{built}
 use Rattle.writer_building.specs.declared.Source.{Source}
@@ -36,6 +39,8 @@ joined w m =
     record {
       «output_cea608_padding» = w .«output_cea608_padding»;
       «output_padding» = w .«output_padding»;
+      carrying = w .carrying;
+      carry = m .carry;
       «packet_count» = w .«packet_count» - m .next;
       packets = sets (w .packets) 0 (drop (m .next) (take (w .«packet_count») (w .packets)));
       sending = m .slot;
@@ -51,6 +56,7 @@ sourceOf w =
     record {
       pad = w .«output_cea608_padding»;
       padding = w .«output_padding»;
+      carry = w .carry;
       field1 = w .field1;
       field2 = w .field2;
       «field2_next» = w .«field2_next»;
@@ -60,8 +66,8 @@ sourceOf w =
     }
 
 -- the frame at budgets of `pairs` and `triples`, and what it leaves
-abbrev pub builtFrom : ℕ → ℕ → CCDataWriter → Made
-builtFrom pairs triples w = built pairs triples (w .packets) (sourceOf w)
+abbrev pub builtFrom : ℕ → ℕ → Carry → CCDataWriter → Made
+builtFrom pairs triples carry w = built pairs triples carry (w .packets) (sourceOf w)
 
 -- with the two switches of padding set [W12]
 abbrev pub withPadding : Bool → Bool → CCDataWriter → CCDataWriter
@@ -69,6 +75,29 @@ withPadding a b w =
     record {
       «output_cea608_padding» = a;
       «output_padding» = b;
+      carrying = w .carrying;
+      carry = w .carry;
+      «packet_count» = w .«packet_count»;
+      packets = w .packets;
+      sending = w .sending;
+      sent = w .sent;
+      field1 = w .field1;
+      field2 = w .field2;
+      «field2_next» = w .«field2_next»;
+    }
+
+-- the parts once the mode is set [W15]
+abbrev pub carryAfter : Bool → CCDataWriter → Carry
+carryAfter on w = cond (on && w .carrying) (w .carry) (carryIn noCarry)
+
+-- with the mode set, and parts carried
+abbrev pub withCarrying : Bool → Carry → CCDataWriter → CCDataWriter
+withCarrying on c w =
+    record {
+      «output_cea608_padding» = w .«output_cea608_padding»;
+      «output_padding» = w .«output_padding»;
+      carrying = on;
+      carry = c;
       «packet_count» = w .«packet_count»;
       packets = w .packets;
       sending = w .sending;
@@ -84,6 +113,8 @@ withFields p q w =
     record {
       «output_cea608_padding» = w .«output_cea608_padding»;
       «output_padding» = w .«output_padding»;
+      carrying = w .carrying;
+      carry = w .carry;
       «packet_count» = w .«packet_count»;
       packets = w .packets;
       sending = w .sending;
@@ -99,6 +130,8 @@ withPackets n l w =
     record {
       «output_cea608_padding» = w .«output_cea608_padding»;
       «output_padding» = w .«output_padding»;
+      carrying = w .carrying;
+      carry = w .carry;
       «packet_count» = n;
       packets = l;
       sending = w .sending;
@@ -108,12 +141,14 @@ withPackets n l w =
       «field2_next» = w .«field2_next»;
     }
 
--- without what is queued and what is being sent [W13]
+-- without what is queued and what is being sent, the sums to start afresh [W13]
 abbrev pub flushed : CCDataWriter → CCDataWriter
 flushed w =
     record {
       «output_cea608_padding» = w .«output_cea608_padding»;
       «output_padding» = w .«output_padding»;
+      carrying = w .carrying;
+      carry = carryIn noCarry;
       «packet_count» = 0;
       packets = w .packets;
       sending = record { len = 0; bytes = w .sending .bytes };

@@ -10,6 +10,7 @@ use Rattle.model.specs.Lists.{every}
 use Rattle.model.specs.Mux.{Mux, freshMux, validMux, started}
 use Rattle.writer_queues.specs.Queue.{queueOf, queueOver}
 use Rattle.writer_queues.specs.declared.PairQueue.{PairQueue}
+use Rattle.writer_shares.specs.Share.{carryOf, carryIn}
 use Rattle.slots.specs.Slot.{slotWith, slotOf, writtenLength, writtenBytes, readSlot, writtenSlot}
 use Rattle.slots.specs.declared.Slot.{Slot}
 use Rattle.slots.specs.Row.{validSending}
@@ -21,6 +22,8 @@ means w =
     record {
       pad608 = w .«output_cea608_padding»;
       padOut = w .«output_padding»;
+      carrying = w .carrying;
+      carry = carryOf (w .carry);
       packets = map readSlot (take (w .«packet_count») (w .packets));
       sending = drop (w .sent / 2) (started (writtenBytes (w .sending)));
       queue1 = queueOf (w .field1);
@@ -40,12 +43,14 @@ inOrder w =
 unfoldable pub validWriter : CCDataWriter → Bool
 validWriter w = inOrder w && validMux (means w)
 
--- a multiplexer in places: its pairs over those of two queues, its packets in these slots, and of the slot being sent so many bytes have left
+-- a multiplexer in places: its switches and carried parts, its pairs over those of two queues, its packets in these slots, and of the slot being sent so many bytes have left
 abbrev pub laidIn : PairQueue → PairQueue → Slot → ℕ → List Slot → Mux → CCDataWriter
 laidIn q1 q2 slot sent slots x =
     record {
       «output_cea608_padding» = x .pad608;
       «output_padding» = x .padOut;
+      carrying = x .carrying;
+      carry = carryIn (x .carry);
       «packet_count» = length (x .packets);
       packets = slots;
       sending = slot;

@@ -13,21 +13,22 @@ use writer_building::Source;
 use writer_queues::PairQueue;
 use writer_sending::move_down;
 use writer_sending::packets_duration;
+use writer_shares::Carry;
 use writer_storing::place;
 ghost use mathlib.Core.Path.{_≡_};
 ghost use mathlib.Core.Bool.{cond, _&&_};
 ghost use Rattle.model.specs.Said.{gave, measured, checked};
-ghost use Rattle.model.specs.Mux.{freshMux, withPads, flushMux, pushPacket, pushCea608};
+ghost use Rattle.model.specs.Mux.{freshMux, withPads, withMode, flushMux, pushPacket, pushCea608};
 ghost use Rattle.model.specs.Duration.{field1Duration, field2Duration, packetDuration};
 ghost use Rattle.caption.specs.Answers.{saidTruth};
 ghost use Rattle.caption.specs.Pairs.{cea608Of};
 ghost use Rattle.packet.specs.Packet.{packetOf, validDTVCC};
 ghost use Rattle.writer.specs.Writer.{means, validWriter, fresh, stored, emptied};
 ghost use Rattle.writer.specs.Calls.{saidMicros, Answers, Writes};
-ghost use Rattle.writer.specs.Making.{refusedOf, sourceOf, withFields, pairOutcome};
+ghost use Rattle.writer.specs.Making.{refusedOf, sourceOf, carryAfter, withFields, pairOutcome};
 
-// The multiplexer: the two switches, the queue of packets, the packet being sent and how many of its bytes have left, each field's queue,
-// and whether field 2 has the next turn.
+// The multiplexer: the two paddings, the queue of packets, the packet being sent and how many of its bytes have left, each field's queue, whether
+// field 2 has the next turn, and the carrying mode with the carried parts.
 pub struct CCDataWriter {
     pub output_cea608_padding: bool,
     pub output_padding: bool,
@@ -38,6 +39,8 @@ pub struct CCDataWriter {
     pub field1: PairQueue,
     pub field2: PairQueue,
     pub field2_next: bool,
+    pub carrying: bool,
+    pub carry: Carry,
 }
 
 // What a call answers, and the state after it.
@@ -66,7 +69,7 @@ struct Pushed {
 }
 
 impl CCDataWriter {
-    // A multiplexer with nothing queued, and no padding [W4] [W12].
+    // A multiplexer with nothing queued, and every switch off [W4] [W12] [W15].
     pub fn new() -> CCDataWriter
         ensures { λ r. ⌜ (means r ≡ freshMux) × (r ≡ fresh) ⌝ }
     {
@@ -88,6 +91,8 @@ impl CCDataWriter {
             field1: queue,
             field2: queue,
             field2_next: false,
+            carrying: false,
+            carry: Carry::NONE,
         }
     }
 
@@ -104,8 +109,12 @@ impl CCDataWriter {
         if MOST_QUEUED < field2.count {
             return false;
         }
-        let packets = self.packets;
-        slots_written(slot, self.sent, packets, self.packet_count)
+        let carry = self.carry;
+        if carry.is_valid() {
+            let packets = self.packets;
+            return slots_written(slot, self.sent, packets, self.packet_count);
+        }
+        false
     }
 
     // Whether to output padding CEA-608 bytes where not enough has been pushed [W12].
@@ -158,6 +167,33 @@ impl CCDataWriter {
         Truth::Refused(Refusal::BadValue)
     }
 
+    // Whether budgets are carried from frame to frame, and not rounded in each. Turned on from off or turned off it starts the sums afresh [W15].
+    pub fn set_carrying(self, carrying: bool) -> WriterAnswer
+        ensures { λ r. ⌜ Answers (checked (validWriter self) (gave (withMode carrying (means self)))) (stored self) self r ⌝ }
+    {
+        if self.is_valid() {
+            let carry = self.carry_in(carrying);
+            let mut writer = self;
+            writer.carrying = carrying;
+            writer.carry = carry;
+            return WriterAnswer {
+                answer: Answer::Accepted,
+                writer,
+            };
+        }
+        self.refused()
+    }
+
+    // Whether budgets are carried [W15].
+    pub fn carrying(self) -> Truth
+        ensures { λ r. ⌜ saidTruth r ≡ measured (validWriter self) (cond (self .carrying) 1 0) ⌝ }
+    {
+        if self.is_valid() {
+            return Truth::Is(self.carrying);
+        }
+        Truth::Refused(Refusal::BadValue)
+    }
+
     // Pushes a packet: it is written into the first free slot. One without blocks is taken and not kept, on a full queue too [W10].
     pub fn push_packet(self, packet: DTVCCPacket) -> WriterAnswer
         ensures { λ r. ⌜ Answers (checked (validWriter self && validDTVCC packet) (pushPacket (packetOf packet) (means self))) (stored self) self r ⌝ }
@@ -185,7 +221,7 @@ impl CCDataWriter {
         self.push_pair(valid, cea608)
     }
 
-    // Drops what is queued, and the packet being sent [W13].
+    // Drops what is queued and the packet being sent, and starts the sums afresh [W13].
     pub fn flush(self) -> WriterAnswer
         ensures { λ r. ⌜ Answers (checked (validWriter self) (gave (flushMux (means self)))) (emptied self) self r ⌝ }
     {
@@ -196,12 +232,14 @@ impl CCDataWriter {
             empty1.count = 0;
             let mut empty2 = self.field2;
             empty2.count = 0;
+            let none = Carry::NONE;
             let mut writer = self;
             writer.packet_count = 0;
             writer.sending = sending;
             writer.sent = 0;
             writer.field1 = empty1;
             writer.field2 = empty2;
+            writer.carry = none;
             return WriterAnswer {
                 answer: Answer::Accepted,
                 writer,
@@ -249,15 +287,18 @@ impl CCDataWriter {
         ensures { λ r. ⌜ Writes rate (now (out .entry)) self r (now (out .exit)) ⌝ }
     {
         let valid = self.is_valid();
+        let parts = self.carry;
+        let share = parts.share(self.carrying, rate);
         let source = self.source();
         let waiting = self.packets;
-        let made = source.make(waiting, valid, rate, out.len());
+        let made = source.make(waiting, valid, share, out.len());
         let frame = made.frame;
         frame.emit(out);
         let slots = self.packets;
         let packets = move_down(slots, self.packet_count, made.next);
         let left = self.packet_count - made.next;
         let answer = made.answer;
+        let carry = made.carry;
         let sending = made.slot;
         let field1 = made.field1;
         let field2 = made.field2;
@@ -271,8 +312,23 @@ impl CCDataWriter {
             field1,
             field2,
             field2_next: made.field2_next,
+            carrying: self.carrying,
+            carry,
         };
         WriterCount { answer, writer }
+    }
+
+    // The parts once the mode is set: they stay where it was on and is turned on, else there are none.
+    fn carry_in(self, carrying: bool) -> Carry
+        ensures { λ r. ⌜ r ≡ carryAfter carrying self ⌝ }
+    {
+        if carrying {
+            if self.carrying {
+                let carry = self.carry;
+                return carry;
+            }
+        }
+        Carry::NONE
     }
 
     // The queues after a pair, which goes to its field's.
@@ -322,6 +378,7 @@ impl CCDataWriter {
         let answer = pushed.answer;
         let field1 = pushed.field1;
         let field2 = pushed.field2;
+        let carry = self.carry;
         let packets = self.packets;
         let sending = self.sending;
         WriterAnswer {
@@ -336,6 +393,8 @@ impl CCDataWriter {
                 field1,
                 field2,
                 field2_next: self.field2_next,
+                carrying: self.carrying,
+                carry,
             },
         }
     }
@@ -354,12 +413,14 @@ impl CCDataWriter {
     fn source(self) -> Source
         ensures { λ r. ⌜ r ≡ sourceOf self ⌝ }
     {
+        let carry = self.carry;
         let field1 = self.field1;
         let field2 = self.field2;
         let slot = self.sending;
         Source {
             pad: self.output_cea608_padding,
             padding: self.output_padding,
+            carry,
             field1,
             field2,
             field2_next: self.field2_next,

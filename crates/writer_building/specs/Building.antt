@@ -5,12 +5,13 @@ use mathlib.Core.List.{List}
 use Prim.Native.Nat.{ℕ, _*_, _%_, min, max}
 use lib.Dec.{ltb}
 use lib.ListN.{take, replicate}
-use Rattle.model.specs.Said.{Outcome, gave, refused}
-use Rattle.model.specs.Rate.{Budgets}
 use Rattle.model.specs.Mux.{mostQueued}
 use Rattle.caption.specs.declared.Counted.the-variants.{Count, Refused}
 use Rattle.caption.specs.declared.Refusal.{Refusal}
-use Rattle.caption.specs.declared.Refusal.the-variants.{BadRate, OutShort}
+use Rattle.caption.specs.declared.Refusal.the-variants.{OutShort}
+use Rattle.writer_shares.specs.declared.Carry.{Carry}
+use Rattle.writer_shares.specs.declared.Share.{Share}
+use Rattle.writer_shares.specs.declared.Share.the-variants as share
 use Rattle.writer_frames.specs.Frame.{headed}
 use Rattle.writer_turns.specs.Turn.{fits, takenFrom}
 use Rattle.writer_turns.specs.declared.Turns.{Turns}
@@ -29,11 +30,12 @@ abbrev pub takes : ℕ → Bool → Turns → Turns
 takes n pad t = cond (fits t n) (takenFrom n pad t) t
 
 -- the frame and what is left, once the turns and the packet triples of it have left
-abbrev pub madeOf : Turns → Sending → Made
-madeOf t s =
+abbrev pub madeOf : Turns → Sending → Carry → Made
+madeOf t s carry =
     record {
       answer = Count (s .frame .len);
       frame = s .frame;
+      carry = carry;
       field1 = t .field1;
       field2 = t .field2;
       «field2_next» = t .«field2_next»;
@@ -43,13 +45,13 @@ madeOf t s =
     }
 
 -- the turns, then packet triples up to the count, then padding
-unfoldable pub built : ℕ → ℕ → List Slot → Source → Made
-built pairs triples packets s =
+unfoldable pub built : ℕ → ℕ → Carry → List Slot → Source → Made
+built pairs triples carry packets s =
     let slots = take (s .queued) packets in
     let due = turnsOf (s .pad) pairs (s .field1 .count) (s .field2 .count) in
     let count = countOf (s .padding) triples due slots (s .slot) (s .sent) in
     let turns = takes due (s .pad) (record { field1 = s .field1; field2 = s .field2; «field2_next» = s .«field2_next»; frame = headed (count % 32) }) in
-    madeOf turns (filled slots (s .slot) (s .sent) (turns .frame) count (s .padding))
+    madeOf turns (filled slots (s .slot) (s .sent) (turns .frame) count (s .padding)) carry
 
 -- where no frame is written all is left [A2]
 abbrev pub unmadeOf : Source → Refusal → Made
@@ -57,6 +59,7 @@ unmadeOf s why =
     record {
       answer = Refused why;
       frame = record { bytes = replicate 95 0; len = 0 };
+      carry = s .carry;
       field1 = s .field1;
       field2 = s .field2;
       «field2_next» = s .«field2_next»;
@@ -69,7 +72,7 @@ unmadeOf s why =
 abbrev pub shownIn : ℕ → Source → Made → Made
 shownIn room s m = cond (ltb room (m .frame .len)) (unmadeOf s (OutShort (m .frame .len))) m
 
--- the frame at a rate's budgets, for an output of `room` bytes; none without budgets [R8]
-unfoldable pub madeAt : ℕ → List Slot → Source → Outcome Budgets → Made
-madeAt room packets s (gave b) = shownIn room s (built (b .pairs) (b .triples) packets s)
-madeAt room packets s (refused why) = unmadeOf s BadRate
+-- the frame with its share, for an output of `room` bytes; none where there is no share
+unfoldable pub madeAt : ℕ → List Slot → Source → Share → Made
+madeAt room packets s (share.Of pairs triples carry) = shownIn room s (built pairs triples carry packets s)
+madeAt room packets s (share.Refused why) = unmadeOf s why

@@ -1,9 +1,7 @@
 // A frame put together: the turns of the two fields, the packet triples and the padding, and what they leave.
 use basics::MOST_QUEUED;
 use basics::lesser;
-use caption::Budgets;
 use caption::Counted;
-use caption::Framerate;
 use caption::Refusal;
 use slots::Slot;
 use writer_frames::Frame;
@@ -11,19 +9,21 @@ use writer_queues::PairQueue;
 use writer_sending::Sending;
 use writer_sending::count_of;
 use writer_sending::fill;
+use writer_shares::Carry;
+use writer_shares::Share;
 use writer_turns::Turns;
 ghost use mathlib.Core.Path.{_≡_};
 ghost use mathlib.Core.Bool.{cond};
 ghost use Prim.Native.Nat.{max};
-ghost use Rattle.model.specs.Rate.{budgets};
 ghost use Rattle.caption.specs.declared.Refusal.the-variants.{BadValue};
 ghost use Rattle.writer_building.specs.Building.{turnsOf, madeOf, built, unmadeOf, madeAt};
 
-// What a frame is made of beside the slots: the two switches, the queues of pairs and whose turn is next, how many packets wait, and the packet
-// being sent with how many of its bytes have left.
+// What a frame is made of beside the slots: the two paddings, the carried parts, the queues of pairs and whose turn is next, how many packets wait,
+// and the packet being sent with how many of its bytes have left.
 pub struct Source {
     pub pad: bool,
     pub padding: bool,
+    pub carry: Carry,
     pub field1: PairQueue,
     pub field2: PairQueue,
     pub field2_next: bool,
@@ -32,11 +32,12 @@ pub struct Source {
     pub sent: usize,
 }
 
-// What writing a frame answers, the frame, and what it leaves of the state: each field's queue, whose turn is next, the packet being sent and
-// how many of its bytes have left; `next` packets of the queue were begun.
+// What writing a frame answers, the frame, and what it leaves of the state: the carried parts, each field's queue, whose turn is next, the packet
+// being sent and how many of its bytes have left; `next` packets of the queue were begun.
 pub struct Made {
     pub answer: Counted,
     pub frame: Frame,
+    pub carry: Carry,
     pub field1: PairQueue,
     pub field2: PairQueue,
     pub field2_next: bool,
@@ -63,8 +64,8 @@ fn turns_of(pad: bool, pairs: usize, n1: usize, n2: usize) -> usize
 }
 
 // The frame after its turns and its packet triples, and what they leave.
-fn made_of(t: Turns, s: Sending) -> Made
-    ensures { λ r. ⌜ r ≡ madeOf t s ⌝ }
+fn made_of(t: Turns, s: Sending, carry: Carry) -> Made
+    ensures { λ r. ⌜ r ≡ madeOf t s carry ⌝ }
 {
     let frame = s.frame;
     let field1 = t.field1;
@@ -73,6 +74,7 @@ fn made_of(t: Turns, s: Sending) -> Made
     Made {
         answer: Counted::Count(frame.len),
         frame,
+        carry,
         field1,
         field2,
         field2_next: t.field2_next,
@@ -84,8 +86,8 @@ fn made_of(t: Turns, s: Sending) -> Made
 
 impl Source {
     // The frame at budgets of `pairs` and `triples`, and what it leaves.
-    fn build(self, packets: [Slot; 16], pairs: usize, triples: usize) -> Made
-        ensures { λ r. ⌜ r ≡ built pairs triples packets self ⌝ }
+    fn build(self, packets: [Slot; 16], pairs: usize, triples: usize, carry: Carry) -> Made
+        ensures { λ r. ⌜ r ≡ built pairs triples carry packets self ⌝ }
     {
         let field1 = self.field1;
         let field2 = self.field2;
@@ -118,13 +120,14 @@ impl Source {
             count,
             self.padding,
         );
-        made_of(t, s)
+        made_of(t, s, carry)
     }
 
     // What is made where no frame is written: all is left.
     fn unmade(self, why: Refusal) -> Made
         ensures { λ r. ⌜ r ≡ unmadeOf self why ⌝ }
     {
+        let carry = self.carry;
         let field1 = self.field1;
         let field2 = self.field2;
         let slot = self.slot;
@@ -134,6 +137,7 @@ impl Source {
                 bytes: [0; 95],
                 len: 0,
             },
+            carry,
             field1,
             field2,
             field2_next: self.field2_next,
@@ -143,22 +147,29 @@ impl Source {
         }
     }
 
-    // The frame at a rate, for an output of `room` bytes, and what it leaves; of a source that is not `valid` none is made.
-    pub fn make(self, packets: [Slot; 16], valid: bool, rate: Framerate, room: usize) -> Made
-        ensures { λ r. ⌜ r ≡ cond valid (madeAt room packets self (budgets (rate .numer) (rate .denom))) (unmadeOf self BadValue) ⌝ }
+    // The frame with its share of a rate, for an output of `room` bytes, and what it leaves; of a source that is not `valid` none is made.
+    pub fn make(self, packets: [Slot; 16], valid: bool, share: Share, room: usize) -> Made
+        ensures { λ r. ⌜ r ≡ cond valid (madeAt room packets self share) (unmadeOf self BadValue) ⌝ }
     {
         if valid {
-            let budgets = rate.budgets();
-            let Budgets::Of { pairs, triples } = budgets else {
-                return self.unmade(Refusal::BadRate);
-            };
-            let made = self.build(packets, pairs, triples);
-            let frame = made.frame;
-            let needed = frame.len;
-            if room < needed {
-                return self.unmade(Refusal::OutShort { needed });
+            match share {
+                Share::Of {
+                    pairs,
+                    triples,
+                    carry,
+                } => {
+                    let made = self.build(packets, pairs, triples, carry);
+                    let frame = made.frame;
+                    let needed = frame.len;
+                    if room < needed {
+                        return self.unmade(Refusal::OutShort { needed });
+                    }
+                    return made;
+                }
+                Share::Refused(why) => {
+                    return self.unmade(why);
+                }
             }
-            return made;
         }
         self.unmade(Refusal::BadValue)
     }

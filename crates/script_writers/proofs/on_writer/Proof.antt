@@ -61,15 +61,28 @@ returns-4 : tie.Need-returns-4
 unfolding writerRows
 returns-4 c = search (needs, passes, finds)
 
-on-writer-pushing-requires : tie.Need-on-writer-pushing-requires
-on-writer-pushing-requires c κs = search needs
+asks-requires-5 : tie.Need-asks-requires-5
+asks-requires-5 c κs = search needs
+
+set-carry-requires : tie.Need-set-carry-requires
+set-carry-requires c κs = search needs
 
 same-length-5 : tie.Need-same-length-5
 same-length-5 c = search needs
 
 returns-5 : tie.Need-returns-5
 unfolding writerRows
-returns-5 c = search (needs, passes)
+returns-5 c = search (needs, passes, finds)
+
+on-writer-pushing-requires : tie.Need-on-writer-pushing-requires
+on-writer-pushing-requires c κs = search needs
+
+same-length-6 : tie.Need-same-length-6
+same-length-6 c = search needs
+
+returns-6 : tie.Need-returns-6
+unfolding writerRows
+returns-6 c = search (needs, passes)
 
 pub on-writer-spec : {M : Type 1} → statement M
 on-writer-spec =
@@ -92,6 +105,10 @@ on-writer-spec =
     set-writer-requires
     same-length-4
     returns-4
-    on-writer-pushing-requires
+    asks-requires-5
+    set-carry-requires
     same-length-5
-    returns-5)
+    returns-5
+    on-writer-pushing-requires
+    same-length-6
+    returns-6)

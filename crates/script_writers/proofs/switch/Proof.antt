@@ -1,4 +1,4 @@
--- The first switch keeps the limits, so that the second is refused where the first was. Assumes nothing.
+-- Each switch keeps the limits, so that all are refused where the first was. Assumes nothing.
 use Rattle.script_writers.proofs.Written.{did-switch}
 use borrow.Author.Needs.{needs}
 use Rattle.script_writers.proofs.switch.Statement.{statement}
@@ -13,6 +13,9 @@ set-output-cea608-padding-requires c κs = search needs
 set-output-padding-requires : tie.Need-set-output-padding-requires
 set-output-padding-requires c κs = search needs
 
+set-carrying-requires : tie.Need-set-carrying-requires
+set-carrying-requires c κs = search needs
+
 told-writer-requires : tie.Need-told-writer-requires
 told-writer-requires c κs = search needs
 
@@ -20,12 +23,16 @@ same-length : tie.Need-same-length
 same-length c = search needs
 
 returns : tie.Need-returns
-returns c =
-    let w = c .before .before .before .before .before .before .before .before .before .before .args .before in
-    let first = c .before .before .before .before .before .before .set-output-cea608-padding .ensures in
-    let then = c .before .before .before .set-output-padding .ensures in
-    rw (← c .before .before .before .before .before .before .before .byte-at .ensures)
-    (record { did = did-switch _ _ w _ _ first then _ (c .before .before .told-writer .ensures .did); says = search needs })
+returns c = let third = c .before .before .before in
+    let second = third .before .before .before in
+    let first = second .before .before in
+    let byte = first .before in
+    let w = byte .before .before .before .args .before in
+    rw (← byte .byte-at .ensures)
+    (record {
+      did = did-switch _ _ _ w _ _ _ (first .set-output-cea608-padding .ensures) (second .set-output-padding .ensures) (third .set-carrying .ensures) _ (c .before .before .told-writer .ensures .did);
+      says = search needs;
+    })
 
 pub switch-spec : {M : Type 1} → statement M
 switch-spec =
@@ -34,6 +41,7 @@ switch-spec =
     byte-at-requires
     set-output-cea608-padding-requires
     set-output-padding-requires
+    set-carrying-requires
     told-writer-requires
     same-length
     returns)

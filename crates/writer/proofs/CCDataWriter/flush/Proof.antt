@@ -1,7 +1,6 @@
 -- `writer::CCDataWriter::flush` meets its contract. Assumes nothing.
 use mathlib.Core.Path.{sym}
-use Rattle.slots.proofs.Row.{length-mapped}
-use Rattle.writer.proofs.Valid.{Shaped}
+use Rattle.writer.proofs.Shape.{shaped}
 use Rattle.writer.proofs.Stored.{flushed-is}
 use Rattle.writer.proofs.Calls.{refused-value, flushes}
 use borrow.Author.Needs.{needs}
@@ -13,7 +12,7 @@ is-valid-requires c κs = search needs
 
 returns : tie.Need-returns
 returns c = let s = c .before .before .before .before .before in
-    let h : Shaped (s .args .self) = record { packets = search (needs, length-mapped, s .good); first = search needs; second = search needs } in
+    let h = shaped (s .args .self) (s .good .0, tt) in
     flushes (s .args .self) h (c .before .before .before .before .is-valid .ensures) (c .before .before .before .if1 .taken) _ (sym (flushed-is (s .args .self)))
 
 refused-requires : tie.Need-refused-requires

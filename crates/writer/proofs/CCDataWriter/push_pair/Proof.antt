@@ -7,7 +7,7 @@ queue-pair-requires : tie.Need-queue-pair-requires
 queue-pair-requires c κs = search needs
 
 returns : tie.Need-returns
-returns c = c .before .before .before .before .queue-pair .ensures
+returns c = c .before .before .before .before .before .queue-pair .ensures
 
 pub push-pair-spec : {M : Type 1} → statement M
 push-pair-spec = tie.close (tie.spec queue-pair-requires returns)

@@ -1,17 +1,9 @@
 -- `writer::CCDataWriter::queue_pair` meets its contract: one law of `Calls` for each way out. Assumes nothing.
-use Rattle.slots.proofs.Row.{length-mapped}
-use Rattle.writer.proofs.Valid.{Shaped}
+use Rattle.writer.proofs.Shape.{shaped}
 use Rattle.writer.proofs.Calls.{pushed-first, pushed-second, refused-value}
 use borrow.Author.Needs.{needs}
 use Rattle.writer.proofs.CCDataWriter.queue_pair.Statement.{statement}
 use Rattle.writer.proofs.CCDataWriter.queue_pair.Tie as tie
-use Rattle.writer.proofs.CCDataWriter.queue_pair.Reads as reads
-use Rattle.writer.proofs.CCDataWriter.queue_pair.Lts as lts
-use Rattle.writer_queues.proofs.PairQueue.push.Reads as push-reads
-
--- the arrays of the state have their lengths
-shaped : (s : lts.Start (push-reads.Asked, push-reads.Learnt) reads.Pre reads.Post) → Shaped (s .args .self)
-shaped s = record { packets = search (needs, length-mapped, s .good); first = search needs; second = search needs }
 
 enum-known-cea608 : tie.Need-enum-known-cea608
 enum-known-cea608 c = search needs
@@ -23,7 +15,7 @@ returns : tie.Need-returns
 returns c = let s = c .before .before .before .before .before .before .before .before in
     let k = c .before .before .before .cea608 .given in
     let p = c .before .push .ensures in
-    rw (k .1) (pushed-first (s .args .self) (shaped s) (s .pre) (c .before .before .before .before .before .if1 .taken) (k .0 .0) (k .0 .1 .0) _ _ (p .0) (p .1))
+    rw (k .1) (pushed-first (s .args .self) (shaped (s .args .self) (s .good .0, tt)) (s .pre) (c .before .before .before .before .before .if1 .taken) (k .0 .0) (k .0 .1 .0) _ _ (p .0) (p .1))
 
 enum-known-cea608-2 : tie.Need-enum-known-cea608-2
 enum-known-cea608-2 c = search needs
@@ -35,7 +27,7 @@ returns-2 : tie.Need-returns-2
 returns-2 c = let s = c .before .before .before .before .before .before .before .before in
     let k = c .before .before .before .cea6082 .given in
     let p = c .before .push2 .ensures in
-    rw (k .1) (pushed-second (s .args .self) (shaped s) (s .pre) (c .before .before .before .before .before .if1 .taken) (k .0 .0) (k .0 .1 .0) _ _ (p .0) (p .1))
+    rw (k .1) (pushed-second (s .args .self) (shaped (s .args .self) (s .good .0, tt)) (s .pre) (c .before .before .before .before .before .if1 .taken) (k .0 .0) (k .0 .1 .0) _ _ (p .0) (p .1))
 
 returns-3 : tie.Need-returns-3
 returns-3 c = let s = c .before .before .before in refused-value (s .args .self) (s .pre) _ _ (c .if1 .left)

@@ -25,7 +25,7 @@ made-of-requires c κs = search needs
 returns : tie.Need-returns
 returns c = let t = c .before .before .before in
     let n = t .before .before in
-    built-by _ _ _ _ _ _ _ _ _ _ (n .before .turns-of .ensures) (n .count-of .ensures) (t .before .start .ensures) (t .take .ensures) (c .before .fill .ensures) (c .made-of .ensures)
+    built-by _ _ _ _ _ _ _ _ _ _ _ (n .before .turns-of .ensures) (n .count-of .ensures) (t .before .start .ensures) (t .take .ensures) (c .before .fill .ensures) (c .made-of .ensures)
 
 pub build-spec : {M : Type 1} → statement M
 build-spec =

@@ -1,0 +1,28 @@
+-- What the frames of the carrying mode add up to: rules G of docs/RULES.md. Assumes nothing.
+use mathlib.Core.Path.{_≡_}
+use mathlib.Core.List.{List}
+use Prim.Native.Nat.{ℕ}
+use lib.ListN.{length}
+use Rattle.model.specs.Rate.{rate}
+use Rattle.model_journey.specs.Sums.{Kind, dueOf, Afresh, shownIn}
+use Rattle.caption.specs.declared.Framerate.{Framerate}
+use Rattle.writer_shares.specs.Share.{carryOf}
+use Rattle.writer.specs.declared.CCDataWriter.{CCDataWriter}
+use Rattle.writer.specs.declared.WriterAnswer.{WriterAnswer}
+use Rattle.theorems.specs.Items.{Items}
+use Rattle.theorems.specs.Allowed.{NewWriter, Flush}
+use Rattle.theorems.specs.Writing.{Calls}
+
+-- a state that any calls have reached, flushes among them
+pub data Reached : CCDataWriter → Type 0 where
+  fresh : {w : CCDataWriter} → NewWriter w → Reached w
+  called : {w w′ : CCDataWriter} {fs : List (List ℕ)} {is : Items} → Reached w → Calls w fs is w′ → Reached w′
+  flushed : {w : CCDataWriter} → Reached w → (r : WriterAnswer) → Flush w r → Reached (r .writer)
+
+-- a sum starts afresh at a rate: nothing is carried, or another numer or denom [G5]
+abbrev pub StartsAfresh : Framerate → CCDataWriter → Type 0
+StartsAfresh speed w = Afresh (rate (speed .numer) (speed .denom)) (carryOf (w .carry))
+
+-- what frames show of a kind of budget adds up to what so many are due at a rate, rounded down once [G4]
+abbrev pub AddsUp : Kind → Framerate → List (List ℕ) → Type 0
+AddsUp k speed fs = shownIn k fs ≡ dueOf k (rate (speed .numer) (speed .denom)) (length fs)
