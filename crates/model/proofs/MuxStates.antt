@@ -11,7 +11,7 @@ use Rattle.model.specs.Lists.{every}
 use Rattle.model.specs.Packet.{Packet, validPacket}
 use Rattle.model.specs.Frame.{Triple, Pair, pair, Cea608, field1, field2, frameBytes, mostFrame}
 use Rattle.model.specs.Rate.{Budgets, Carry, noCarry, validCarry}
-use Rattle.model.specs.Mux.{Mux, freshMux, withPads, withCarry, withMode, flushMux, storable, validMux, queued, pushPacket, isNull, pushPair, pushCea608, Turned, turnsDue, turn1, turn2, turned, packetTriples, countDue, Sent, send, padding, framed, writeFrame}
+use Rattle.model.specs.Mux.{Mux, freshMux, withPads, withCarry, withMode, Switch, paddings, carryingMode, withSwitch, flushMux, storable, validMux, queued, pushPacket, isNull, pushPair, pushCea608, Turned, turnsDue, turn1, turn2, turned, packetTriples, countDue, Sent, send, padding, framed, writeFrame}
 use Rattle.model.specs.Run.{Accepted}
 use Rattle.model.proofs.Cases.{by-test, by-cond, both, and-both, Gives, gives-mapped}
 use Rattle.model.proofs.Lists.{every-append}
@@ -74,8 +74,13 @@ carry-valid on c s e v =
     facts-mux (withCarry on c s) (record { packets = f .packets; stored = f .stored; sending = f .sending; queue1 = f .queue1; queue2 = f .queue2; carry = v })
 
 -- so does the mode
-pub mode-valid : (on : Bool) (s : Mux) → validMux s ≡ true → validMux (withMode on s) ≡ true
+mode-valid : (on : Bool) (s : Mux) → validMux s ≡ true → validMux (withMode on s) ≡ true
 mode-valid on s e = carry-valid on _ s e (by-cond (λ (c : Carry). validCarry c ≡ true) (on && s .carrying) (λ _. mux-facts s e .carry) (λ _. none-valid))
+
+-- whatever is set
+pub switch-valid : (x : Switch) (s : Mux) → validMux s ≡ true → validMux (withSwitch x s) ≡ true
+switch-valid (paddings a b) s e = pads-valid a b s e
+switch-valid (carryingMode on) s e = mode-valid on s e
 
 -- and flush
 pub flush-mux : (s : Mux) → validMux (flushMux s) ≡ true

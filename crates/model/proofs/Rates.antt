@@ -9,7 +9,7 @@ use lib.Dec.{eqb, leb, ltb}
 use borrow.Author.Tests.{eqb-false, ltb-false, leb-true, leb-false}
 use Rattle.model.specs.Said.{Outcome, gave}
 use Rattle.model.specs.Rate.{Rate, namedRates, Budgets, rounded, pairsAt, triplesAt, budgets}
-use Rattle.model.proofs.Cases.{by-test, by-cond, Gives, gives-at}
+use Rattle.model.proofs.Cases.{by-test, by-cond, Gives}
 
 -- x ≤ round(k · d / n) exactly if 2 n x ≤ 2 k d + n: all that is needed of the division
 module _ (k n d x : ℕ) (pos : 0 < n) where
@@ -77,10 +77,6 @@ budgets-rated numer denom =
     let some : 0 < numer = omega (arith, eqb-false numer 0 (w .0)) in
     let s = sane numer denom some (eqb-false (pairsAt numer denom) 0 (w .1)) (ltb-false 31 (triplesAt numer denom) (w .2)) in
     record { some = some; slow = omega (arith, most 60 numer denom 1 some (s .some-pair)); sane = s })
-
--- the budgets of an accepted rate
-pub accepted-sane : (numer denom : ℕ) {b : Budgets} → budgets numer denom ≡ gave b → Sane b
-accepted-sane numer denom e = gives-at (Rated numer denom) (budgets numer denom) e (budgets-rated numer denom) .sane
 
 -- so many pairs and triples are given
 abbrev given : ℕ → ℕ → Outcome Budgets

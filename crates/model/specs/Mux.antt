@@ -62,6 +62,16 @@ withCarry on c s =
 abbrev pub withMode : Bool → Mux → Mux
 withMode on s = withCarry on (cond (on && s .carrying) (s .carry) noCarry) s
 
+-- what is set: the two paddings, or the carrying mode
+pub data Switch : Type 0 where
+  paddings : Bool → Bool → Switch
+  carryingMode : Bool → Switch
+
+-- the multiplexer with it set
+abbrev pub withSwitch : Switch → Mux → Mux
+withSwitch (paddings a b) s = withPads a b s
+withSwitch (carryingMode on) s = withMode on s
+
 -- A flush drops what is queued and being sent, and sets the carried parts to 0; the switches and the next turn stay [W13].
 abbrev pub flushMux : Mux → Mux
 flushMux s =

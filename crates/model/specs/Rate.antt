@@ -91,10 +91,13 @@ carriedOn numer denom c =
       carry = record { numer = numer; denom = denom; pairs = leftOver 60 numer denom (c .pairs); triples = leftOver 600 numer denom (c .triples) };
     }
 
--- in the carrying mode: 8 as without it, and also if 600 · denom exceeds 31 · numer [G6]
+-- in the carrying mode, of a rate that has budgets: 8 if 600 · denom exceeds 31 · numer [G6]
+abbrev pub carriedAt : ℕ → ℕ → Carry → Outcome Share
+carriedAt numer denom c = cond (ltb (mostTriples * numer) (600 * denom)) (refused badRate) (gave (carriedOn numer denom (goingOn numer denom c)))
+
+-- of any rate: 8 as without the mode, and then that
 unfoldable pub carriedShare : ℕ → ℕ → Carry → Outcome Share
-carriedShare numer denom c =
-    andThen (budgets numer denom) (λ _. cond (ltb (mostTriples * numer) (600 * denom)) (refused badRate) (gave (carriedOn numer denom (goingOn numer denom c))))
+carriedShare numer denom c = andThen (budgets numer denom) (λ _. carriedAt numer denom c)
 
 -- by the mode; without it the budgets are the rounded ones, and the parts stay as they are
 unfoldable pub shareBy : Bool → ℕ → ℕ → Carry → Outcome Share

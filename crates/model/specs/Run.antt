@@ -10,14 +10,13 @@ use Rattle.model.specs.Packet.{Packet, validPacket}
 use Rattle.model.specs.Frame.{Pair, Cea608, field1, field2, frameBytes}
 use Rattle.model.specs.Demux.{Demux, Item, draw, takeFrame}
 use Rattle.model.specs.Rate.{Rate, Budgets, mostTriples, Share}
-use Rattle.model.specs.Mux.{Mux, Framed, withPads, withMode, pushPacket, pushPair, pushCea608, isNull, shareAt, writeShare}
+use Rattle.model.specs.Mux.{Mux, Framed, Switch, paddings, carryingMode, withSwitch, pushPacket, pushPair, pushCea608, isNull, shareAt, writeShare}
 
 -- what is done to a multiplexer, in any order; no flush [J0]. A write is with its share
 pub data Call : Type 0 where
   pushes : Packet → Call
   pushes608 : Cea608 → Call
-  pads : Bool → Bool → Call
-  carries : Bool → Call
+  sets : Switch → Call
   writes : Share → Call
 
 -- the frames that calls make, the nonempty packets and each field's pairs that are accepted, and the multiplexer at the end
@@ -46,8 +45,7 @@ call (pushes608 (field1 x)) s =
     record { frames = []; packets = []; pairs1 = onlyIf (isGiven (pushPair x (s .queue1))) x; pairs2 = []; last = after s (pushCea608 (field1 x) s) }
 call (pushes608 (field2 x)) s =
     record { frames = []; packets = []; pairs1 = []; pairs2 = onlyIf (isGiven (pushPair x (s .queue2))) x; last = after s (pushCea608 (field2 x) s) }
-call (pads a b) s = record { frames = []; packets = []; pairs1 = []; pairs2 = []; last = withPads a b s }
-call (carries on) s = record { frames = []; packets = []; pairs1 = []; pairs2 = []; last = withMode on s }
+call (sets x) s = record { frames = []; packets = []; pairs1 = []; pairs2 = []; last = withSwitch x s }
 call (writes h) s =
     let w : Framed = writeShare h s in
     record { frames = frameBytes (w .frame) ∷ []; packets = []; pairs1 = []; pairs2 = []; last = w .next }
@@ -83,8 +81,7 @@ anyPadding s = s .pad608 || s .padOut
 abbrev pub AllowedCall : (Mux → Bool) → Call → Mux → Type 0
 AllowedCall passes (pushes p) s = validPacket p ≡ true
 AllowedCall passes (pushes608 x) s = Unit {0}
-AllowedCall passes (pads a b) s = Unit {0}
-AllowedCall passes (carries on) s = Unit {0}
+AllowedCall passes (sets x) s = Unit {0}
 AllowedCall passes (writes h) s = Accepted (h .budgets) × (passes s ≡ true)
 
 -- each call is allowed at the multiplexer that it meets
@@ -92,12 +89,16 @@ abbrev pub Allowed : (Mux → Bool) → List Call → Mux → Type 0
 Allowed passes [] s = Unit {0}
 Allowed passes (c ∷ cs) s = AllowedCall passes c s × Allowed passes cs (call c s .last)
 
--- The mode stays on or off: it is set to what it is. A write gets its share at a rate; with the mode on that is always the rate r.
+-- the mode stays on or off: it is set to what it is
+abbrev pub StaysSwitch : Bool → Switch → Type 0
+StaysSwitch on (paddings a b) = Unit {0}
+StaysSwitch on (carryingMode x) = x ≡ on
+
+-- A write gets its share at a rate; with the mode on that is always the rate r.
 abbrev pub StaysCall : Bool → Rate → Call → Mux → Type 0
 StaysCall on r (pushes p) s = Unit {0}
 StaysCall on r (pushes608 x) s = Unit {0}
-StaysCall on r (pads a b) s = Unit {0}
-StaysCall on r (carries x) s = x ≡ on
+StaysCall on r (sets x) s = StaysSwitch on x
 StaysCall on r (writes h) s = (q : Rate) × (shareAt (q .numer) (q .denom) s ≡ gave h) × (on ≡ true → q ≡ r)
 
 -- each call leaves it so

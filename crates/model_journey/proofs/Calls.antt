@@ -10,8 +10,8 @@ use borrow.Author.Tests.{eqb-false}
 use Rattle.model.specs.Said.{Outcome, gave, refused, isGiven, after, mapped}
 use Rattle.model.specs.Packet.{Packet}
 use Rattle.model.specs.Frame.{Pair, Cea608, field1, field2}
-use Rattle.model.specs.Mux.{Mux, withPackets, withQueues, queued, pushPacket, isNull, pushPair, pushCea608, mostPackets, mostQueued}
-use Rattle.model.specs.Run.{pushes, pushes608, pads, carries, Run, onlyIf, call, run, others}
+use Rattle.model.specs.Mux.{Mux, Switch, paddings, carryingMode, withPackets, withQueues, queued, pushPacket, isNull, pushPair, pushCea608, mostPackets, mostQueued}
+use Rattle.model.specs.Run.{pushes, pushes608, sets, Run, onlyIf, call, run, StaysSwitch, others}
 use Rattle.model.proofs.Cases.{by-test}
 use Rattle.model.proofs.Packets.{Valid}
 use Rattle.model_journey.specs.Bounds.{Field, one, two, the, queueOf, acceptedOf}
@@ -75,16 +75,12 @@ pub record Quiet (s : Mux) (k : Run) : Type 0 where
   pub packets : s .packets ++ k .packets ≡ k .last .packets
   pub pairs : (f : Field) → Grown (queueOf f s) (acceptedOf f k) (queueOf f (k .last))
 
--- the switches are set
-pub quiet-pads : (a b : Bool) (s : Mux) → Quiet s (call (pads a b) s)
+-- a switch is set
+pub quiet-switch : (x : Switch) (s : Mux) → Quiet s (call (sets x) s)
 unfolding call
-quiet-pads a b s =
+quiet-switch (paddings a b) s =
     record { frames = refl; sending = refl; next1 = refl; packets = append-nil (s .packets); pairs = elim [ one ↦ grown-none (s .queue1) | two ↦ grown-none (s .queue2) ] }
-
--- the mode is set
-pub quiet-mode : (on : Bool) (s : Mux) → Quiet s (call (carries on) s)
-unfolding call
-quiet-mode on s =
+quiet-switch (carryingMode on) s =
     record { frames = refl; sending = refl; next1 = refl; packets = append-nil (s .packets); pairs = elim [ one ↦ grown-none (s .queue1) | two ↦ grown-none (s .queue2) ] }
 
 -- the queues of pairs grow
@@ -143,7 +139,14 @@ unfolding call pushCea608
 sum-608 (field1 x) s = rw (after1 s (pushPair x (s .queue1))) (record { carrying = refl; carry = refl })
 sum-608 (field2 x) s = rw (after2 s (pushPair x (s .queue2))) (record { carrying = refl; carry = refl })
 
--- and so does turning the mode on where it is on
-pub sum-mode : (on : Bool) (s : Mux) → on ≡ true → s .carrying ≡ true → SameSum s (call (carries on) s .last)
+-- and so do the paddings, and turning the mode on where it is on
+pub sum-switch : (x : Switch) (s : Mux) → StaysSwitch true x → s .carrying ≡ true → SameSum s (call (sets x) s .last)
 unfolding call
-sum-mode on s e m = record { carrying = e ∙ sym m; carry = rw (e, m) }
+sum-switch (paddings a b) s e m = record { carrying = refl; carry = refl }
+sum-switch (carryingMode on) s e m = record { carrying = e ∙ sym m; carry = rw (e, m) }
+
+-- the mode stays what it is
+pub mode-switch : (on : Bool) (x : Switch) (s : Mux) → StaysSwitch on x → s .carrying ≡ on → call (sets x) s .last .carrying ≡ on
+unfolding call
+mode-switch on (paddings a b) s e m = m
+mode-switch on (carryingMode x) s e m = e

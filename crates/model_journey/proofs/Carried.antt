@@ -10,7 +10,7 @@ use Rattle.model.specs.Frame.{Pair, Cea608, field1, field2, frameBytes}
 use Rattle.model.specs.Demux.{Demux, takeFrame}
 use Rattle.model.specs.Rate.{Share}
 use Rattle.model.specs.Mux.{Mux, writeShare}
-use Rattle.model.specs.Run.{Call, pushes, pushes608, pads, carries, writes, Run, call, run, anyPadding, AllowedCall, Allowed, Read, emptied, readFrames, ofField1, ofField2, others}
+use Rattle.model.specs.Run.{Call, pushes, pushes608, sets, writes, Run, call, run, anyPadding, AllowedCall, Allowed, Read, emptied, readFrames, ofField1, ofField2, others}
 use Rattle.model.proofs.Packets.{valid-facts}
 use Rattle.model_journey.specs.Bounds.{Field, one, two, queueOf, acceptedOf}
 use Rattle.model_journey.proofs.Turns.{ofField, others-append}
@@ -18,7 +18,7 @@ use Rattle.model_journey.proofs.Gather.{AllStored, none, also, underway
 use Rattle.model_journey.proofs.Count.{fits, counted}
 use Rattle.model_journey.proofs.Taking.{holding}
 use Rattle.model_journey.proofs.Round.{Ready, round}
-use Rattle.model_journey.proofs.Calls.{none-accepted, thenRun, accepted-append, Quiet, quiet-none, quiet-pads, quiet-mode, quiet-608, quiet-push, stored-push}
+use Rattle.model_journey.proofs.Calls.{none-accepted, thenRun, accepted-append, Quiet, quiet-none, quiet-switch, quiet-608, quiet-push, stored-push}
 
 -- What was there and what came in is, in order, what went out and what is there now.
 pub record Kept {A : Type 0} (before into out now : List A) : Type 0 where
@@ -84,8 +84,7 @@ unfolding call
 call-carried (pushes p) s g w h = quiet-carried (quiet-push p s) (stored-push p s (valid-facts p w)) h
 call-carried (pushes608 (field1 x)) s g w h = quiet-carried (quiet-608 (field1 x) s) none h
 call-carried (pushes608 (field2 x)) s g w h = quiet-carried (quiet-608 (field2 x) s) none h
-call-carried (pads a b) s g w h = quiet-carried (quiet-pads a b s) none h
-call-carried (carries on) s g w h = quiet-carried (quiet-mode on s) none h
+call-carried (sets x) s g w h = quiet-carried (quiet-switch x s) none h
 call-carried (writes b) s g w h = write-carried b s g w h
 
 -- the frames of the one read, and then those of the other

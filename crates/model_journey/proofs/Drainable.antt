@@ -6,8 +6,8 @@ use Prim.Native.Nat.{ℕ, zero, suc, _+_, _*_, _≤_}
 use native.Mathlib.Omega.{arith}
 use lib.ListN.{length, replicate}
 use Rattle.model.specs.Rate.{Share}
-use Rattle.model.specs.Mux.{Mux, withPads, unsent, framed, writeFrame, writeShare}
-use Rattle.model.specs.Run.{Call, pads, writes, call, run, Accepted, anyPadding, Allowed, Drained}
+use Rattle.model.specs.Mux.{Mux, withPads, paddings, unsent, framed, writeFrame, writeShare}
+use Rattle.model.specs.Run.{Call, sets, writes, call, run, Accepted, anyPadding, Allowed, Drained}
 use Rattle.model_journey.specs.Bounds.{budgetsIn, writesIn, pairedIn, AtRates, NoPush}
 use Rattle.model_journey.proofs.Drains.{drains-paired}
 
@@ -56,7 +56,7 @@ module _ (h : Share) (a : Accepted (h .budgets)) (some : 1 ≤ h .budgets .pairs
 
   -- with both paddings turned on, so many writes more drain any run
   pub drainable : (cs : List Call) (s : Mux) → Allowed anyPadding cs s
-      → (n : ℕ) × Allowed anyPadding (cs ++ (pads true true ∷ writing n)) s × Drained (run (cs ++ (pads true true ∷ writing n)) s .last)
+      → (n : ℕ) × Allowed anyPadding (cs ++ (sets (paddings true true) ∷ writing n)) s × Drained (run (cs ++ (sets (paddings true true) ∷ writing n)) s .last)
   unfolding run call
   drainable cs s w =
       let t : Mux = run cs s .last in
@@ -64,6 +64,6 @@ module _ (h : Share) (a : Accepted (h .budgets)) (some : 1 ≤ h .budgets .pairs
       let k = writes-in n in
       let p = paired-in n in (
         n,
-        allowed-append cs (pads true true ∷ writing n) s w (tt, allowed-writing n (withPads true true t) refl),
-        rw (last-append cs (pads true true ∷ writing n) s) (drains-paired (writing n) (withPads true true t) (no-push n) (at-rates n) (omega arith) (omega arith) (omega arith)),
+        allowed-append cs (sets (paddings true true) ∷ writing n) s w (tt, allowed-writing n (withPads true true t) refl),
+        rw (last-append cs (sets (paddings true true) ∷ writing n) s) (drains-paired (writing n) (withPads true true t) (no-push n) (at-rates n) (omega arith) (omega arith) (omega arith)),
       )

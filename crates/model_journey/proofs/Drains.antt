@@ -7,8 +7,8 @@ use native.Mathlib.Omega.{arith}
 use lib.ListN.{length, length-append}
 use Rattle.model.specs.Packet.{Packet}
 use Rattle.model.specs.Rate.{Rate, Budgets}
-use Rattle.model.specs.Mux.{Mux, withPads, withMode, triplesQueued, unsent, writeFrame, writeShare}
-use Rattle.model.specs.Run.{Call, pushes, pushes608, pads, carries, writes, call, run, Stays, Drained}
+use Rattle.model.specs.Mux.{Mux, withPads, withMode, paddings, carryingMode, triplesQueued, unsent, writeFrame, writeShare}
+use Rattle.model.specs.Run.{Call, pushes, pushes608, sets, writes, call, run, Stays, Drained}
 use Rattle.model_journey.specs.Bounds.{Field, one, two, queueOf, budgetsIn, writesIn, pairedIn, AtRates, NoPush, DrainsInTime}
 use Rattle.model_journey.proofs.Turns.{mine, mine-most}
 use Rattle.model_journey.proofs.Sending.{remains}
@@ -47,8 +47,8 @@ drain [] s n r k u =
       no-pair1 = empty (s .queue1) (omega (arith, k one, mine-most one (s .next1)));
       no-pair2 = empty (s .queue2) (omega (arith, k two, mine-most two (s .next1)));
     }
-drain (pads a b ∷ cs) s n r k u = drain cs (withPads a b s) n r (elim [ one ↦ k one | two ↦ k two ]) u
-drain (carries on ∷ cs) s n r k u = drain cs (withMode on s) n r (elim [ one ↦ k one | two ↦ k two ]) u
+drain (sets (paddings a b) ∷ cs) s n r k u = drain cs (withPads a b s) n r (elim [ one ↦ k one | two ↦ k two ]) u
+drain (sets (carryingMode on) ∷ cs) s n r k u = drain cs (withMode on s) n r (elim [ one ↦ k one | two ↦ k two ]) u
 drain (writes h ∷ cs) s n r k u =
     let b : Budgets = h .budgets in
     let left : ℕ = pairedIn (budgetsIn cs) in

@@ -8,7 +8,7 @@ use lib.ListN.{length}
 use Rattle.model.specs.Frame.{Triple, Seen, seenAll}
 use Rattle.model.specs.Rate.{Budgets, Share}
 use Rattle.model.specs.Mux.{Mux, freshMux, Sent, turnsDue, turned, unsent, countDue, padding, framed, writeFrame, writeShare}
-use Rattle.model.specs.Run.{Call, pushes, pushes608, pads, carries, writes, call, run, Accepted}
+use Rattle.model.specs.Run.{Call, pushes, pushes608, sets, writes, call, run, Accepted}
 use Rattle.model_journey.specs.Bounds.{packetTriplesIn, SendsFour}
 use Rattle.model_journey.proofs.Parts.{In608, end6, one6, two6, void6, seen-append}
 use Rattle.model_journey.proofs.Padding.{padding-none}
@@ -16,7 +16,7 @@ use Rattle.model_journey.proofs.Turns.{turns-seen, turns-count}
 use Rattle.model_journey.proofs.Sending.{numbers, sentBy, remains}
 use Rattle.model_journey.proofs.Triples.{Follow, stop, sent-only}
 use Rattle.model_journey.proofs.Count.{turns-most}
-use Rattle.model_journey.proofs.Calls.{quiet-608, quiet-push}
+use Rattle.model_journey.proofs.Calls.{quiet-switch, quiet-608, quiet-push}
 
 -- a 608 part has no packet triple
 none-608 : {xs : List Seen} → In608 xs → (ys : List Seen) → packetTriplesIn (xs ++ ys) ≡ packetTriplesIn ys
@@ -67,8 +67,7 @@ unfolding run call
 follow-run [] s f = f
 follow-run (pushes p ∷ cs) s f = follow-run cs (call (pushes p) s .last) (rw (quiet-push p s .sending) f)
 follow-run (pushes608 x ∷ cs) s f = follow-run cs (call (pushes608 x) s .last) (rw (quiet-608 x s .sending) f)
-follow-run (pads a b ∷ cs) s f = follow-run cs (call (pads a b) s .last) f
-follow-run (carries on ∷ cs) s f = follow-run cs (call (carries on) s .last) f
+follow-run (sets x ∷ cs) s f = follow-run cs (call (sets x) s .last) (rw (quiet-switch x s .sending) f)
 follow-run (writes h ∷ cs) s f = follow-run cs (writeShare h s .next) (follow-write h s f)
 
 -- each write sends at least four packet triples, or all that are left [J4]: after any calls on a fresh multiplexer

@@ -10,10 +10,10 @@ use lib.Seq.{take-append-le}
 use Rattle.model.specs.Frame.{Pair}
 use Rattle.model.specs.Rate.{Rate, Budgets}
 use Rattle.model.specs.Mux.{Mux, turnsDue, framed, writeFrame, writeShare}
-use Rattle.model.specs.Run.{Call, pushes, pushes608, pads, carries, writes, Run, call, run, Stays, others}
+use Rattle.model.specs.Run.{Call, pushes, pushes608, sets, writes, Run, call, run, Stays, others}
 use Rattle.model_journey.specs.Bounds.{Field, one, two, queueOf, acceptedOf, budgetsIn, pairedIn, Left, LeavesInTime}
 use Rattle.model_journey.proofs.Turns.{others-append, mine, mine-most, turns-serve}
-use Rattle.model_journey.proofs.Calls.{none-accepted, thenRun, accepted-append, Quiet, quiet-pads, quiet-mode, quiet-608, quiet-push}
+use Rattle.model_journey.proofs.Calls.{none-accepted, thenRun, accepted-append, Quiet, quiet-switch, quiet-608, quiet-push}
 use Rattle.model_journey.proofs.Paces.{paced}
 
 -- a frame whose budget has a pair has a turn if a field has a pair
@@ -85,8 +85,7 @@ module _ (f : Field) where
   goes [] s i h k = record { gone = []; cut = rw (none-accepted f) (append-nil _); enough = omega (arith, mine-most f (s .next1)) }
   goes (pushes p ∷ cs) s i h k = quiet-left (run cs (call (pushes p) s .last)) i (pairedIn (budgetsIn cs)) (quiet-push p s) (goes cs _ i) h k
   goes (pushes608 x ∷ cs) s i h k = quiet-left (run cs (call (pushes608 x) s .last)) i (pairedIn (budgetsIn cs)) (quiet-608 x s) (goes cs _ i) h k
-  goes (pads a b ∷ cs) s i h k = quiet-left (run cs (call (pads a b) s .last)) i (pairedIn (budgetsIn cs)) (quiet-pads a b s) (goes cs _ i) h k
-  goes (carries on ∷ cs) s i h k = quiet-left (run cs (call (carries on) s .last)) i (pairedIn (budgetsIn cs)) (quiet-mode on s) (goes cs _ i) h k
+  goes (sets x ∷ cs) s i h k = quiet-left (run cs (call (sets x) s .last)) i (pairedIn (budgetsIn cs)) (quiet-switch x s) (goes cs _ i) h k
   goes (writes b ∷ cs) s i h k =
       let v = moved f (b .budgets) s in
       let s′ = writeShare b s .next in

@@ -8,10 +8,10 @@ use native.Mathlib.Omega.{arith}
 use lib.ListN.{length}
 use Rattle.model.specs.Rate.{Rate, Budgets, Carry, goingOn, Share, carriedOn}
 use Rattle.model.specs.Mux.{Mux}
-use Rattle.model.specs.Run.{Call, pushes, pushes608, pads, carries, writes, call, PairBeside, OneOfTwo, StaysCall, Stays}
+use Rattle.model.specs.Run.{Call, pushes, pushes608, sets, writes, call, PairBeside, OneOfTwo, StaysCall, Stays}
 use Rattle.model.proofs.Carrying.{whole, least, Carries, share-on, share-off, going-on}
 use Rattle.model_journey.specs.Bounds.{budgetsIn, writesIn, pairedIn, pace}
-use Rattle.model_journey.proofs.Calls.{sum-push, sum-608, sum-mode}
+use Rattle.model_journey.proofs.Calls.{sum-push, sum-608, sum-switch, mode-switch}
 
 -- each write has a pair
 abbrev AllPaired : List Budgets → Type 0
@@ -24,8 +24,7 @@ unfolding call
 off-paired r [] s m st = tt
 off-paired r (pushes p ∷ cs) s m st = off-paired r cs _ (sum-push p s .carrying ∙ m) (st .1)
 off-paired r (pushes608 x ∷ cs) s m st = off-paired r cs _ (sum-608 x s .carrying ∙ m) (st .1)
-off-paired r (pads a b ∷ cs) s m st = off-paired r cs _ m (st .1)
-off-paired r (carries x ∷ cs) s m st = off-paired r cs _ (st .0) (st .1)
+off-paired r (sets x ∷ cs) s m st = off-paired r cs _ (mode-switch false x s (st .0) m) (st .1)
 off-paired r (writes h ∷ cs) s m st = (share-off (st .0 .0 .numer) (st .0 .0 .denom) (s .carry) (rw m at (st .0 .1)) .rated .sane .some-pair, off-paired r cs _ m (st .1))
 
 -- what a write gets while the mode stays on
@@ -44,8 +43,7 @@ unfolding call
 first-paired n r [] s m st h = tt
 first-paired n r (pushes p ∷ cs) s m st h = let e = sum-push p s in first-paired n r cs _ (e .carrying ∙ m) (st .1) (rw (e .carry) h)
 first-paired n r (pushes608 x ∷ cs) s m st h = let e = sum-608 x s in first-paired n r cs _ (e .carrying ∙ m) (st .1) (rw (e .carry) h)
-first-paired n r (pads a b ∷ cs) s m st h = first-paired n r cs _ m (st .1) h
-first-paired n r (carries x ∷ cs) s m st h = first-paired n r cs _ (st .0) (st .1) (rw (sum-mode x s (st .0) m .carry) h)
+first-paired n r (sets x ∷ cs) s m st h = let e = sum-switch x s (st .0) m in first-paired n r cs _ (e .carrying ∙ m) (st .1) (rw (e .carry) h)
 first-paired zero r (writes b ∷ cs) s m st h =
     let k = on-share r b s m (st .0) in
     rw (k .is) (omega (arith, pair-due (r .numer) (r .denom) (goingOn (r .numer) (r .denom) (s .carry)) (k .some) (omega (arith, zero-mul (r .numer)))))
@@ -62,8 +60,7 @@ unfolding call
 on-paired r [] s m st = tt
 on-paired r (pushes p ∷ cs) s m st = on-paired r cs _ (sum-push p s .carrying ∙ m) (st .1)
 on-paired r (pushes608 x ∷ cs) s m st = on-paired r cs _ (sum-608 x s .carrying ∙ m) (st .1)
-on-paired r (pads a b ∷ cs) s m st = on-paired r cs _ m (st .1)
-on-paired r (carries x ∷ cs) s m st = on-paired r cs _ (st .0) (st .1)
+on-paired r (sets x ∷ cs) s m st = on-paired r cs _ (mode-switch true x s (st .0) m) (st .1)
 on-paired r (writes b ∷ cs) s m st =
     let k = on-share r b s m (st .0) in
     let c : Carry = goingOn (r .numer) (r .denom) (s .carry) in

@@ -12,7 +12,7 @@ use borrow.Author.Tests.{eqb-true, eqb-false, ne-eqb}
 use Rattle.model.specs.Frame.{Triple, field1, field2, Seen, seenAll, flat, triplesIn, frameBytes}
 use Rattle.model.specs.Rate.{Rate, rate, Budgets, Carry, noCarry, goingOn, Share, carriedOn}
 use Rattle.model.specs.Mux.{Mux, turnsDue, turned, countDue, padding, framed, writeFrame, writeShare}
-use Rattle.model.specs.Run.{Call, pushes, pushes608, pads, carries, writes, call, run, Accepted, Allowed, Stays}
+use Rattle.model.specs.Run.{Call, pushes, pushes608, sets, writes, call, run, Accepted, Allowed, Stays}
 use Rattle.model.proofs.Cases.{by-test, by-cond, both}
 use Rattle.model.proofs.Frames.{unflat}
 use Rattle.model.proofs.Carrying.{whole, below, going-on}
@@ -23,7 +23,7 @@ use Rattle.model_journey.proofs.Padding.{padding-seen}
 use Rattle.model_journey.proofs.Turns.{turns-seen, turns-count}
 use Rattle.model_journey.proofs.Sending.{sentBy}
 use Rattle.model_journey.proofs.Triples.{Follow, sent-only}
-use Rattle.model_journey.proofs.Calls.{SameSum, sum-push, sum-608, sum-mode, quiet-608, quiet-push}
+use Rattle.model_journey.proofs.Calls.{SameSum, sum-push, sum-608, sum-switch, mode-switch, quiet-switch, quiet-608, quiet-push}
 use Rattle.model_journey.proofs.Four.{follow-write}
 use Rattle.model_journey.proofs.Paces.{on-share}
 
@@ -67,8 +67,7 @@ module _ (k : Kind) (r : Rate) where
   all-whole [] s m st = rw (zero-mul (r .numer), zero-mul (r .denom), mul-zero (due k)) (omega arith)
   all-whole (pushes p ∷ cs) s m st = from-same cs (sum-push p s) (all-whole cs _ (sum-push p s .carrying ∙ m) (st .1))
   all-whole (pushes608 x ∷ cs) s m st = from-same cs (sum-608 x s) (all-whole cs _ (sum-608 x s .carrying ∙ m) (st .1))
-  all-whole (pads a b ∷ cs) s m st = all-whole cs _ m (st .1)
-  all-whole (carries x ∷ cs) s m st = from-same cs (sum-mode x s (st .0) m) (all-whole cs _ (st .0) (st .1))
+  all-whole (sets x ∷ cs) s m st = let e = sum-switch x s (st .0) m in from-same cs e (all-whole cs _ (e .carrying ∙ m) (st .1))
   all-whole (writes h ∷ cs) s m st =
       let a = on-share r h s m (st .0) in
       let c : Carry = goingOn (r .numer) (r .denom) (s .carry) in
@@ -84,8 +83,7 @@ module _ (k : Kind) (r : Rate) where
   all-below [] s m st h = h
   all-below (pushes p ∷ cs) s m st h = let e = sum-push p s in all-below cs _ (e .carrying ∙ m) (st .1) (rw (e .carry) h)
   all-below (pushes608 x ∷ cs) s m st h = let e = sum-608 x s in all-below cs _ (e .carrying ∙ m) (st .1) (rw (e .carry) h)
-  all-below (pads a b ∷ cs) s m st h = all-below cs _ m (st .1) h
-  all-below (carries x ∷ cs) s m st h = all-below cs _ (st .0) (st .1) (rw (sum-mode x s (st .0) m .carry) h)
+  all-below (sets x ∷ cs) s m st h = let e = sum-switch x s (st .0) m in all-below cs _ (e .carrying ∙ m) (st .1) (rw (e .carry) h)
   all-below (writes b ∷ cs) s m st h =
       let a = on-share r b s m (st .0) in
       let c : Carry = goingOn (r .numer) (r .denom) (s .carry) in
@@ -97,8 +95,7 @@ module _ (k : Kind) (r : Rate) where
   no-write [] s m st z = refl
   no-write (pushes p ∷ cs) s m st z = no-write cs _ (sum-push p s .carrying ∙ m) (st .1) z
   no-write (pushes608 x ∷ cs) s m st z = no-write cs _ (sum-608 x s .carrying ∙ m) (st .1) z
-  no-write (pads a b ∷ cs) s m st z = no-write cs _ m (st .1) z
-  no-write (carries x ∷ cs) s m st z = no-write cs _ (st .0) (st .1) z
+  no-write (sets x ∷ cs) s m st z = no-write cs _ (mode-switch true x s (st .0) m) (st .1) z
   no-write (writes h ∷ cs) s m st z = absurd (omega (arith, on-share r h s m (st .0) .some))
 
   -- nothing is left over where a sum starts afresh
@@ -175,8 +172,7 @@ run-shown k [] s a f = refl
 run-shown k (pushes p ∷ cs) s a f = run-shown k cs _ (a .1) (rw (quiet-push p s .sending) f)
 run-shown k (pushes608 (field1 x) ∷ cs) s a f = run-shown k cs _ (a .1) (rw (quiet-608 (field1 x) s .sending) f)
 run-shown k (pushes608 (field2 x) ∷ cs) s a f = run-shown k cs _ (a .1) (rw (quiet-608 (field2 x) s .sending) f)
-run-shown k (pads x y ∷ cs) s a f = run-shown k cs _ (a .1) f
-run-shown k (carries on ∷ cs) s a f = run-shown k cs _ (a .1) f
+run-shown k (sets x ∷ cs) s a f = run-shown k cs _ (a .1) (rw (quiet-switch x s .sending) f)
 run-shown k (writes h ∷ cs) s a f =
     rw (write-shown k h s (a .0 .0) (a .0 .1) f) (ap (λ n. budgetOf k (h .budgets) + n) (run-shown k cs (writeShare h s .next) (a .1) (follow-write h s f)))
 

@@ -7,7 +7,7 @@ use lib.ListN.{length}
 use Rattle.model.specs.Frame.{Pair, Seen, first, second, start, more, void608, void708, seenAll}
 use Rattle.model.specs.Rate.{Budgets}
 use Rattle.model.specs.Mux.{Mux, Framed, unsent}
-use Rattle.model.specs.Run.{Call, pushes, pushes608, pads, carries, writes, Run, run, Accepted, Drained, others}
+use Rattle.model.specs.Run.{Call, pushes, pushes608, sets, writes, Run, run, Accepted, Drained, others}
 
 -- one of the two fields
 pub data Field : Type 0 where
@@ -31,8 +31,7 @@ abbrev pub budgetsIn : List Call → List Budgets
 budgetsIn [] = []
 budgetsIn (pushes p ∷ cs) = budgetsIn cs
 budgetsIn (pushes608 x ∷ cs) = budgetsIn cs
-budgetsIn (pads a b ∷ cs) = budgetsIn cs
-budgetsIn (carries on ∷ cs) = budgetsIn cs
+budgetsIn (sets x ∷ cs) = budgetsIn cs
 budgetsIn (writes h ∷ cs) = h .budgets ∷ budgetsIn cs
 
 -- how many writes there are
@@ -49,8 +48,7 @@ abbrev pub AtRates : List Call → Type 0
 AtRates [] = Unit {0}
 AtRates (pushes p ∷ cs) = AtRates cs
 AtRates (pushes608 x ∷ cs) = AtRates cs
-AtRates (pads a b ∷ cs) = AtRates cs
-AtRates (carries on ∷ cs) = AtRates cs
+AtRates (sets x ∷ cs) = AtRates cs
 AtRates (writes h ∷ cs) = Accepted (h .budgets) × AtRates cs
 
 -- nothing is pushed; the switches may change
@@ -58,8 +56,7 @@ abbrev pub NoPush : List Call → Type 0
 NoPush [] = Unit {0}
 NoPush (pushes p ∷ cs) = ⊥
 NoPush (pushes608 x ∷ cs) = ⊥
-NoPush (pads a b ∷ cs) = NoPush cs
-NoPush (carries on ∷ cs) = NoPush cs
+NoPush (sets x ∷ cs) = NoPush cs
 NoPush (writes h ∷ cs) = NoPush cs
 
 -- The pairs at the first i places of the queue q have left: what was queued and then what came is, in order, what went and then q′, which is

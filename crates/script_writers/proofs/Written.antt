@@ -1,12 +1,12 @@
 -- What is left of the multiplexer, by what its calls promise. Assumes nothing.
-use mathlib.Core.Path.{_≡_, _∙_}
+use mathlib.Core.Path.{_≡_, sym, ap, _∙_}
 use mathlib.Core.Bool.{Bool, true, false}
 use mathlib.Core.List.{List, [], _∷_}
 use Prim.Native.Nat.{ℕ}
 use lib.ListN.{getD, drop}
 use Rattle.model.specs.Said.{Outcome, accepted, gave, says, checked, mapped, after, measured}
 use Rattle.model.specs.Duration.{field1Duration, field2Duration, packetDuration}
-use Rattle.model.specs.Mux.{Mux, withPads, withMode}
+use Rattle.model.specs.Mux.{Mux, withPads, withMode, paddings, carryingMode}
 use Rattle.model.proofs.Cases.{by-test}
 use Rattle.caption.specs.declared.Counted.{Counted}
 use Rattle.caption.specs.declared.Framerate.{Framerate}
@@ -19,7 +19,8 @@ use Rattle.writer.specs.declared.WriterAnswer.{WriterAnswer}
 use Rattle.writer.specs.declared.WriterCount.{WriterCount}
 use Rattle.writer.specs.Writer.{means, validWriter, stored}
 use Rattle.writer.specs.Calls.{Answers, Writes, saidMicros}
-use Rattle.writer.proofs.Kept.{pads-valid, pads-again, mode-again}
+use Rattle.writer.specs.Making.{switched}
+use Rattle.writer.proofs.Kept.{switch-is, switch-valid, switches-are}
 use Rattle.program_text.specs.Laid.{Laid}
 use Rattle.program_records.specs.Reading.{highestFirst}
 use Rattle.script_answers.specs.Script.{answerLine, lentLine, countOf, together}
@@ -63,12 +64,13 @@ module _ (a b on : Bool) (w : CCDataWriter) (f s t : WriterAnswer)
   -- within the limits
   switched-within : validWriter w ≡ true → (saidAnswer (t .answer) ≡ says all) × (t .writer ≡ after w (mapped (stored w) all))
   switched-within e =
-      let first : f .writer ≡ stored w (withPads a (w .«output_padding») (means w)) = rw e at (x .places) in
-      let good : validWriter (f .writer) ≡ true = rw first (pads-valid w e a (w .«output_padding»)) in
-      let second : s .writer ≡ stored w (withPads a b (means w)) = rw good at (y .places) ∙ rw first (pads-again w e a (w .«output_padding») b) in
-      let fine : validWriter (s .writer) ≡ true = rw second (pads-valid w e a b) in (
+      let first : f .writer ≡ switched (paddings a (w .«output_padding»)) w = rw e at (x .places) ∙ switch-is w e (paddings a (w .«output_padding»)) in
+      let good : validWriter (f .writer) ≡ true = rw first (switch-valid w e (paddings a (w .«output_padding»))) in
+      let second : s .writer ≡ switched (paddings (f .writer .«output_cea608_padding») b) (f .writer) = rw good at (y .places) ∙ switch-is (f .writer) good (paddings (f .writer .«output_cea608_padding») b) in
+      let fine : validWriter (s .writer) ≡ true = rw second (switch-valid (f .writer) good (paddings (f .writer .«output_cea608_padding») b)) in
+      let third : t .writer ≡ switched (carryingMode on) (s .writer) = rw fine at (z .places) ∙ switch-is (s .writer) fine (carryingMode on) in (
         rw fine at (z .answer) ∙ rw e,
-        rw fine at (z .places) ∙ rw (second, e) (mode-again w e a b on),
+        third ∙ ap (switched (carryingMode on)) (second ∙ ap (λ (v : CCDataWriter). switched (paddings (v .«output_cea608_padding») b) v) first) ∙ sym (switches-are w e a b on) ∙ rw e,
       )
 
   -- outside them

@@ -17,7 +17,6 @@ use Rattle.packet.specs.Packet.{packetOf, validDTVCC}
 use Rattle.writer.specs.declared.CCDataWriter.{CCDataWriter}
 use Rattle.writer.specs.Writer.{means, validWriter, fresh, stored, emptied, moved}
 use Rattle.writer.specs.Calls.{written}
-use Rattle.writer.specs.Making.{withCarrying}
 use Rattle.program_records.specs.Reading.{highestFirst}
 use Rattle.script_answers.specs.Script.{answerLine, lentLine, measures}
 use Rattle.script_answers.specs.Steps.{Effect, lays, becomes, stays, lentOut}
@@ -88,8 +87,19 @@ setsWriter a w =
 abbrev pub setsCarry : List ℕ → CCDataWriter → Effect CCDataWriter
 setsCarry a w =
     becomes
-    (withCarrying (w .carrying)
-    (record { numer = highestFirst (drop 0 a); denom = highestFirst (drop 4 a); pairs = highestFirst (drop 8 a); triples = highestFirst (drop 12 a) }) w)
+    (record {
+      «output_cea608_padding» = w .«output_cea608_padding»;
+      «output_padding» = w .«output_padding»;
+      «packet_count» = w .«packet_count»;
+      packets = w .packets;
+      sending = w .sending;
+      sent = w .sent;
+      field1 = w .field1;
+      field2 = w .field2;
+      «field2_next» = w .«field2_next»;
+      carrying = w .carrying;
+      carry = record { numer = highestFirst (drop 0 a); denom = highestFirst (drop 4 a); pairs = highestFirst (drop 8 a); triples = highestFirst (drop 12 a) };
+    })
 
 -- those that frames and durations come out by
 unfoldable pub leavingRows : CCDataWriter → List (Row CCDataWriter)

@@ -10,7 +10,7 @@ use denote.Ref.{now}
 use Rattle.model.specs.Said.{gave, checked, isGiven}
 use Rattle.model.specs.Frame.{mostFrame, frameBytes}
 use Rattle.model.specs.Rate.{rounded, budgets, carriedShare, shareBy}
-use Rattle.model.specs.Mux.{Mux, withPads, framed, writeFrame, shareAt, writeShare}
+use Rattle.model.specs.Mux.{Mux, withPads, paddings, framed, writeFrame, shareAt, writeShare}
 use Rattle.model.proofs.Cases.{by-test}
 use Rattle.model_journey.specs.Bounds.{pace}
 use Rattle.caption.specs.Pairs.{cea608Of}
@@ -22,7 +22,7 @@ use Rattle.writer.specs.Writer.{means, validWriter, stored, moved}
 use Rattle.writer.specs.Calls.{Answers}
 use Rattle.writer.proofs.Laws.{share-within, write-given}
 use Rattle.writer.proofs.Builds.{means-frame}
-use Rattle.writer.proofs.Stored.{Grows, grows-pads, means-stored}
+use Rattle.writer.proofs.Stored.{Grows, grows-switch, means-stored}
 use Rattle.writer.proofs.Kept.{Sound, sound-ok, sound-order, sound-mux, stored-sound, moved-sound}
 use Rattle.writer.specs.declared.CCDataWriter.{CCDataWriter}
 use Rattle.writer.specs.declared.WriterAnswer.{WriterAnswer}
@@ -117,7 +117,7 @@ draining : {w₀ w : CCDataWriter} {fs₀ : List (List ℕ)} {is₀ : Items} (κ
 draining {w} κs new before =
     let s = from-fresh new before .sound in
     let x : Mux = withPads true (w .«output_padding») (means w) in
-    let g : Grows (means w) x = grows-pads (means w) (sound-mux w s) true (w .«output_padding») in
+    let g : Grows (means w) x = grows-switch (means w) (sound-mux w s) (paddings true (w .«output_padding»)) in
     let on : WriterAnswer = record { answer = Accepted; writer = stored w x } in
     let kept = means-stored w (sound-order w s) (sound-ok w s) x g in
     let allowed : Answers (checked (validWriter w) (gave x)) (stored w) w on = record { answer = rw (s .valid); means = rw (s .valid) kept; places = rw (s .valid) } in

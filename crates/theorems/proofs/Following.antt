@@ -19,19 +19,19 @@ use Rattle.writer.specs.declared.CCDataWriter.{CCDataWriter}
 use Rattle.theorems.specs.Items.{Items, noItems, andThen}
 use Rattle.theorems.proofs.Passing.{thereIn, Passed, passed-none, passed-then}
 
--- what is asked of the multiplexers that writes are of, by a test; and what is asked of the mode and of the rates for these to stay
+-- what is asked of calls for a test of the multiplexers that they write from
 abbrev pub Tests : Type 1
 Tests = (Mux → Bool) → Type 0
 
--- the other
+-- what is asked of them for the mode and the rate to stay
 abbrev pub Staying : Type 1
 Staying = Bool → Framerate → Type 0
 
--- nothing is asked
+-- nothing, for any test
 abbrev pub noTest : Tests
 noTest passes = Unit {0}
 
--- nothing is asked
+-- nothing, for any mode and rate
 abbrev pub noStay : Staying
 noStay mode speed = Unit {0}
 

@@ -3,7 +3,7 @@ use mathlib.Core.Path.{_≡_, refl, ap, _∙_}
 use mathlib.Core.List.{List, [], _++_}
 use Prim.Native.Nat.{ℕ}
 use denote.Ref.{now}
-use Rattle.model.specs.Mux.{freshMux}
+use Rattle.model.specs.Mux.{freshMux, paddings, carryingMode}
 use Rattle.writer.specs.Writer.{means, fresh}
 use Rattle.writer.proofs.Kept.{Sound, fresh-sound}
 use Rattle.writer.specs.declared.CCDataWriter.{CCDataWriter}
@@ -13,7 +13,7 @@ use Rattle.theorems.specs.Writing.{Calls, no-call, push-packet, push-cea
 use Rattle.theorems.specs.Trip.{sendingOf}
 use Rattle.theorems.proofs.Passing.{thereIn}
 use Rattle.theorems.proofs.Following.{Tests, Staying, noTest, noStay, Follows, Moved, moved-sound, follows-none, follow, reask}
-use Rattle.theorems.proofs.Answered.{pads-moves, mode-moves}
+use Rattle.theorems.proofs.Answered.{switch-moves}
 use Rattle.theorems.proofs.Packets.{packet-moves}
 use Rattle.theorems.proofs.Pairs.{pair-moves}
 use Rattle.theorems.proofs.Frames.{write-does, write-moves}
@@ -29,10 +29,10 @@ pub follows : {w w′ : CCDataWriter} {fs : List (List ℕ)} {is : Items} (c : C
 follows {w} no-call s = follows-none w s
 follows {w} (push-packet d r t a c) s = then s (packet-moves w d r s t a) (λ k. follows c k)
 follows {w} (push-cea608 x r a c) s = then s (pair-moves w s x r a) (λ k. follows c k)
-follows {w} (set-cea608-padding on r a c) s = then s (pads-moves w r on (w .«output_padding») s a) (λ k. follows c k)
-follows {w} (set-padding on r a c) s = then s (pads-moves w r (w .«output_cea608_padding») on s a) (λ k. follows c k)
+follows {w} (set-cea608-padding on r a c) s = then s (switch-moves w r (paddings on (w .«output_padding»)) s a) (λ k. follows c k)
+follows {w} (set-padding on r a c) s = then s (switch-moves w r (paddings (w .«output_cea608_padding») on) s a) (λ k. follows c k)
 follows {w} (set-carrying on r a c) s =
-    let m = mode-moves w r on s a in
+    let m = switch-moves w r (carryingMode on) s a in
     reask (λ passes p. (tt, p)) (λ mode speed p. p) (follow m (follows c (moved-sound m s)))
 follows {w} (write κs rate out end r a c) s = let m = write-moves w rate (now end) r s (write-does κs w rate out end r s a) in follow m (follows c (moved-sound m s))
 

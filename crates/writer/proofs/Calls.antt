@@ -12,7 +12,7 @@ use Rattle.model.specs.Said.{Said, Outcome, gave, refused, accepted, says, afte
 use Rattle.model.specs.Frame as model
 use Rattle.model.specs.Frame.{Cea608, field1, field2, Pair, pair, Triple, tri, flat, frameBytes}
 use Rattle.model.specs.Rate.{Budgets, validCarry, Share, shareBy}
-use Rattle.model.specs.Mux.{Mux, Turned, turned, turnsDue, countDue, Sent, send, padding, framed, writeFrame, shareAt, writeShare, writeAt, withPads, withMode, withQueues, flushMux, pushPair, pushCea608, mostQueued}
+use Rattle.model.specs.Mux.{Mux, Turned, turned, turnsDue, countDue, Sent, send, padding, framed, writeFrame, shareAt, writeShare, writeAt, Switch, withSwitch, withQueues, flushMux, pushPair, pushCea608, mostQueued}
 use Rattle.model.specs.Duration.{pairsDuration, bytesDuration, bytesLeft, field1Duration, field2Duration, packetDuration}
 use Rattle.model.proofs.Cases.{by-test, by-cond, Gives}
 use Rattle.model.proofs.Frames.{flat-length, frame-length}
@@ -29,7 +29,7 @@ use Rattle.writer_frames.proofs.Stores.{emitted-whole}
 use Rattle.writer_queues.specs.Queue.{queueOf, queueOver, pushOutcome}
 use Rattle.writer.specs.Writer.{means, validWriter, stored, emptied}
 use Rattle.writer.specs.Calls.{Answers, written, Writes}
-use Rattle.writer.specs.Making.{joined, sourceOf, builtFrom, withPadding, carryAfter, withCarrying, withFields, pairOutcome, Makes}
+use Rattle.writer.specs.Making.{joined, sourceOf, builtFrom, switched, withFields, pairOutcome, Makes}
 use Rattle.writer_queues.proofs.Queues.{Sized, queue-length}
 use Rattle.writer_frames.specs.declared.Frame.{Frame}
 use Rattle.writer_queues.specs.declared.PairQueue.{PairQueue}
@@ -44,7 +44,7 @@ use Rattle.writer_sending.proofs.Sends.{lengths-queued}
 use Rattle.writer_sending.proofs.Fills.{send-few}
 use Rattle.writer.proofs.Valid.{Shaped, Ok, Order, valid-order, valid-ok, valid-carry, valid-mux}
 use Rattle.writer.proofs.Builds.{laid, Builds, built-is, leaves, count-most, count-least, means-frame}
-use Rattle.writer.proofs.Stored.{Grows, grows-pads, grows-mode, grows-pair, stored-pads, stored-mode, stored-first, stored-second, means-stored, means-emptied}
+use Rattle.writer.proofs.Stored.{Grows, grows-switch, grows-pair, stored-switch, stored-first, stored-second, means-stored, means-emptied}
 use Rattle.writer.specs.declared.CCDataWriter.{CCDataWriter}
 use Rattle.writer_building.specs.Building.{unmadeOf, shownIn, madeAt}
 use Rattle.writer_building.specs.declared.Source.{Source}
@@ -94,15 +94,10 @@ module _ (w : CCDataWriter) (h : Shaped w) {v : Bool} (e : v ≡ validWriter w) 
   ok : Ok w
   ok = valid-ok w h valid
 
-  -- the switches
-  pub switched : (a b : Bool) (y : CCDataWriter) → y ≡ withPadding a b w
-      → Answers (checked (validWriter w) (gave (withPads a b (means w)))) (stored w) w (record { answer = answer.Accepted; writer = y })
-  switched a b y z = accepted-value w e (withPads a b (means w)) (stored w) y t (z ∙ sym (stored-pads w order a b)) (means-stored w order ok _ (grows-pads (means w) (valid-mux w h valid) a b))
-
-  -- the mode
-  pub mode-set : (on : Bool) (y : CCDataWriter) → y ≡ withCarrying on (carryAfter on w) w
-      → Answers (checked (validWriter w) (gave (withMode on (means w)))) (stored w) w (record { answer = answer.Accepted; writer = y })
-  mode-set on y z = accepted-value w e (withMode on (means w)) (stored w) y t (z ∙ sym (stored-mode w order on)) (means-stored w order ok _ (grows-mode (means w) (valid-mux w h valid) on))
+  -- a switch is set
+  pub switch-set : (x : Switch) (y : CCDataWriter) → y ≡ switched x w
+      → Answers (checked (validWriter w) (gave (withSwitch x (means w)))) (stored w) w (record { answer = answer.Accepted; writer = y })
+  switch-set x y z = accepted-value w e (withSwitch x (means w)) (stored w) y t (z ∙ sym (stored-switch w order x)) (means-stored w order ok _ (grows-switch (means w) (valid-mux w h valid) x))
 
   -- flush
   pub flushes : (y : CCDataWriter) → y ≡ emptied w (flushMux (means w)) → Answers (checked (validWriter w) (gave (flushMux (means w)))) (emptied w) w (record { answer = answer.Accepted; writer = y })

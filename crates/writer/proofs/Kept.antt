@@ -4,17 +4,18 @@ use mathlib.Core.Path.{_≡_, refl, sym, ap, _∙_}
 use mathlib.Core.Bool.{Bool, true}
 use Rattle.model.specs.Lists.{every}
 use Rattle.model.specs.Rate.{validCarry, Share}
-use Rattle.model.specs.Mux.{Mux, validMux, withPads, withMode, writeShare, flushMux}
+use Rattle.model.specs.Mux.{Mux, validMux, withPads, withMode, Switch, paddings, carryingMode, withSwitch, writeShare, flushMux}
 use Rattle.model.proofs.Cases.{both, and-both}
 use Rattle.model.proofs.MuxStates as model
 use Rattle.model.proofs.MuxStates.{fresh-mux, flush-mux}
+use Rattle.writer_shares.specs.Share.{carryOf}
 use Rattle.writer_queues.specs.Queue.{pairBytes, queueOver}
 use Rattle.slots.specs.Row.{validSending}
 use Rattle.writer.specs.Writer.{means, inOrder, validWriter, fresh, stored, emptied, moved}
-use Rattle.writer.specs.Making.{withPadding, carryAfter, withCarrying}
+use Rattle.writer.specs.Making.{carryAfter, switched}
 use Rattle.writer.proofs.Valid.{Shaped, Ok, Order, order-facts, facts-order, facts-valid, valid-order, valid-ok, valid-mux}
 use Rattle.writer.proofs.Builds.{next-valid, means-frame, order-frame, shaped-frame}
-use Rattle.writer.proofs.Stored.{Grows, stored-pads, stored-switched, stored-mode, means-stored, order-stored, shaped-stored, means-emptied, order-emptied}
+use Rattle.writer.proofs.Stored.{Grows, stored-with, stored-switch, means-stored, order-stored, shaped-stored, means-emptied, order-emptied}
 use Rattle.writer.proofs.Laws.{means-fresh}
 use Rattle.writer.specs.declared.CCDataWriter.{CCDataWriter}
 
@@ -32,34 +33,27 @@ fresh-sound =
       shaped = record { packets = refl; first = refl; second = refl };
     }
 
--- the switches of a state within its limits, set one after another
-module _ (w : CCDataWriter) (v : validWriter w ≡ true) (a b : Bool) where
+-- the switches of a state within its limits
+module _ (w : CCDataWriter) (v : validWriter w ≡ true) where
   -- its places are in order, and mean a multiplexer within its limits
   parts : Order w × (validMux (means w) ≡ true)
   unfolding validWriter
   parts = let t = both (inOrder w) (validMux (means w)) v in (order-facts w (t .0), t .1)
 
+  -- where they stand once one is set
+  pub switch-is : (x : Switch) → stored w (withSwitch x (means w)) ≡ switched x w
+  switch-is x = stored-switch w (parts .0) x
+
   -- it stays within its limits
-  pub pads-valid : validWriter (stored w (withPads a b (means w))) ≡ true
+  pub switch-valid : (x : Switch) → validWriter (switched x w) ≡ true
   unfolding validWriter inOrder means
-  pads-valid =
-      ap validWriter (stored-pads w (parts .0) a b) ∙ and-both (inOrder w) (validMux (withPads a b (means w))) (facts-order w (parts .0)) (model.pads-valid a b (means w) (parts .1))
+  switch-valid (paddings a b) = and-both (inOrder w) (validMux (withPads a b (means w))) (facts-order w (parts .0)) (model.switch-valid (paddings a b) (means w) (parts .1))
+  switch-valid (carryingMode on) = and-both (inOrder w) (validMux (withMode on (means w))) (facts-order w (parts .0)) (model.switch-valid (carryingMode on) (means w) (parts .1))
 
-  -- the second time counts
-  pub pads-again : (c : Bool) → stored (stored w (withPads a b (means w))) (withPads a c (means (stored w (withPads a b (means w))))) ≡ stored w (withPads a c (means w))
-  unfolding validWriter
-  pads-again c =
-      let x : CCDataWriter = stored w (withPads a b (means w)) in
-      let o : Order x = order-facts x (both (inOrder x) (validMux (means x)) pads-valid .0) in
-      stored-pads x o a c ∙ ap (withPadding a c) (stored-pads w (parts .0) a b) ∙ sym (stored-pads w (parts .0) a c)
-
-  -- the mode is set behind them
-  pub mode-again : (on : Bool) → stored (stored w (withPads a b (means w))) (withMode on (means (stored w (withPads a b (means w))))) ≡ stored w (withMode on (withPads a b (means w)))
-  unfolding validWriter
-  mode-again on =
-      let x : CCDataWriter = stored w (withPads a b (means w)) in
-      let o : Order x = order-facts x (both (inOrder x) (validMux (means x)) pads-valid .0) in
-      stored-mode x o on ∙ ap (λ (y : CCDataWriter). withCarrying on (carryAfter on y) y) (stored-pads w (parts .0) a b) ∙ sym (stored-switched w (parts .0) a b on)
+  -- all set, one after another
+  pub switches-are : (a b on : Bool) → stored w (withMode on (withPads a b (means w))) ≡ switched (carryingMode on) (switched (paddings a b) w)
+  unfolding means
+  switches-are a b on = stored-with w (parts .0) a b on (carryOf (carryAfter on w))
 
 -- each call of a state that is sound
 module _ (w : CCDataWriter) (s : Sound w) where

@@ -1,6 +1,6 @@
 -- The places of what a switch, a push or a flush leaves mean what it leaves in the model, and stay in order. Assumes nothing.
 use mathlib.Core.Path.{_≡_, refl, sym, ap, _∙_}
-use mathlib.Core.Bool.{Bool, true, _&&_}
+use mathlib.Core.Bool.{Bool, true}
 use mathlib.Core.List.{List, [], _∷_, _++_, map, append-nil}
 use Prim.Native.Nat.{ℕ, _+_, _%_, _≤_}
 use native.Mathlib.Omega.{arith}
@@ -12,22 +12,24 @@ use Rattle.model.specs.Lists.{every}
 use Rattle.model.specs.Said.{gave, refused, mapped}
 use Rattle.model.specs.Packet.{Packet, packetLength, writtenPacket, validPacket}
 use Rattle.model.specs.Frame.{Pair, Cea608, field1, field2}
-use Rattle.model.specs.Mux.{Mux, withPads, withMode, withQueues, withPackets, flushMux, storable, validMux, queued, pushPacket, pushPair, pushCea608, mostPackets, started}
+use Rattle.model.specs.Rate.{Carry}
+use Rattle.model.specs.Mux.{Mux, withPads, withCarry, Switch, paddings, carryingMode, withSwitch, withQueues, withPackets, flushMux, storable, validMux, queued, pushPacket, pushPair, pushCea608, mostPackets, started}
 use Rattle.model.proofs.Cases.{by-test, both, and-both, Gives}
 use Rattle.model.proofs.Lists.{every-append}
 use Rattle.model.proofs.Packets.{Valid, valid-facts, Shape, shape}
-use Rattle.model.proofs.MuxStates.{MuxLimits, mux-facts, pads-valid, mode-valid, push608-valid, push-valid}
+use Rattle.model.proofs.MuxStates.{MuxLimits, mux-facts, switch-valid, push608-valid, push-valid}
 use Rattle.writer_queues.specs.Queue.{pairsOf, queueOf, pairBytes, queueOver}
 use Rattle.writer_queues.proofs.Queues.{over-same, over-queue, over-sized}
 use Rattle.writer_turns.proofs.Steps.{not-not}
 use Rattle.basics.proofs.Runs.{sets-front}
+use Rattle.writer_shares.specs.Share.{carryOf, carryIn}
 use Rattle.slots.specs.Slot.{slotOf, writtenBytes, readSlot, writtenSlot}
 use Rattle.slots.proofs.Written.{slot-reads, facts-written}
 use Rattle.slots.specs.declared.Slot.{Slot}
 use Rattle.slots.specs.Row.{validSending}
 use Rattle.writer.specs.Writer.{means, stored, emptied}
 use Rattle.writer.specs.Making as making
-use Rattle.writer.specs.Making.{withPadding, carryAfter, withCarrying, withFields}
+use Rattle.writer.specs.Making.{withSwitches, carryAfter, switched, withFields}
 use Rattle.writer_sending.proofs.Sends.{readSlots}
 use Rattle.writer.proofs.Valid.{Shaped, Ok, Order}
 use Rattle.writer.specs.declared.CCDataWriter.{CCDataWriter}
@@ -40,13 +42,10 @@ pub record Grows (s x : Mux) : Type 0 where
   pub valid : validMux x ≡ true
 
 module _ (s : Mux) (v : validMux s ≡ true) where
-  -- the switches
-  pub grows-pads : (a b : Bool) → Grows s (withPads a b s)
-  grows-pads a b = record { more = []; packets = sym (append-nil (s .packets)); sending = refl; valid = pads-valid a b s v }
-
-  -- the mode
-  pub grows-mode : (on : Bool) → Grows s (withMode on s)
-  grows-mode on = record { more = []; packets = sym (append-nil (s .packets)); sending = refl; valid = mode-valid on s v }
+  -- a switch
+  pub grows-switch : (x : Switch) → Grows s (withSwitch x s)
+  grows-switch (paddings a b) = record { more = []; packets = sym (append-nil (s .packets)); sending = refl; valid = switch-valid (paddings a b) s v }
+  grows-switch (carryingMode on) = record { more = []; packets = sym (append-nil (s .packets)); sending = refl; valid = switch-valid (carryingMode on) s v }
 
   -- a pair
   pub grows-pair : (y : Cea608) → Gives (Grows s) (pushCea608 y s)
@@ -143,25 +142,17 @@ module _ (w : CCDataWriter) (o : Order w) where
   stored-self =
       rw (same-slots, packets-length, over-same (w .field1) (o .first), over-same (w .field2) (o .second), not-not (w .«field2_next»))
 
-  -- with other switches
-  pub stored-pads : (a b : Bool) → stored w (withPads a b (means w)) ≡ withPadding a b w
+  -- with other paddings, another mode and other parts
+  pub stored-with : (a b on : Bool) (c : Carry) → stored w (withCarry on c (withPads a b (means w))) ≡ withSwitches a b on (carryIn c) w
   unfolding means
-  stored-pads a b =
+  stored-with a b on c =
       rw (same-slots, packets-length, over-same (w .field1) (o .first), over-same (w .field2) (o .second), not-not (w .«field2_next»))
 
-  -- with other paddings, and the mode set
-  pub stored-switched : (a b on : Bool) → stored w (withMode on (withPads a b (means w))) ≡ withCarrying on (carryAfter on w) (withPadding a b w)
+  -- with a switch set
+  pub stored-switch : (x : Switch) → stored w (withSwitch x (means w)) ≡ switched x w
   unfolding means
-  stored-switched a b on =
-      let slots = same-slots in
-      by-test (on && w .carrying)
-      (λ e. rw (e, slots, packets-length, over-same (w .field1) (o .first), over-same (w .field2) (o .second), not-not (w .«field2_next»)))
-      (λ e. rw (e, slots, packets-length, over-same (w .field1) (o .first), over-same (w .field2) (o .second), not-not (w .«field2_next»)))
-
-  -- with the mode set
-  pub stored-mode : (on : Bool) → stored w (withMode on (means w)) ≡ withCarrying on (carryAfter on w) w
-  unfolding means
-  stored-mode on = stored-switched (w .«output_cea608_padding») (w .«output_padding») on
+  stored-switch (paddings a b) = stored-with a b (w .carrying) (carryOf (w .carry))
+  stored-switch (carryingMode on) = stored-with (w .«output_cea608_padding») (w .«output_padding») on (carryOf (carryAfter on w))
 
   -- with another queue of field 1
   pub stored-first : (q : List Pair) → stored w (withQueues q (queueOf (w .field2)) (means w)) ≡ withFields (queueOver (w .field1) q) (w .field2) w

@@ -7,7 +7,7 @@ use lib.ListN.{length, take, drop, set}
 use lib.Seq.{sets}
 use Rattle.model.specs.Said.{Outcome, checked}
 use Rattle.model.specs.Rate.{noCarry}
-use Rattle.model.specs.Mux.{Mux, pushPacket, pushCea608}
+use Rattle.model.specs.Mux.{Mux, Switch, paddings, carryingMode, pushPacket, pushCea608}
 use Rattle.caption.specs.Pairs.{cea608Of}
 use Rattle.caption.specs.declared.Cea608.{Cea608}
 use Rattle.caption.specs.declared.Framerate.{Framerate}
@@ -18,7 +18,7 @@ use Rattle.packet.specs.declared.DTVCCPacket.{DTVCCPacket}
 use Rattle.writer_queues.specs.declared.PairQueue.{PairQueue}
 use Rattle.writer_frames.specs.Frame.{emitted}
 use Rattle.slots.specs.declared.Slot.{Slot}
-use Rattle.writer_shares.specs.Share.{carryIn}
+use Rattle.writer_shares.specs.Share.{carryOf, carryIn}
 use Rattle.writer_shares.specs.declared.Carry.{Carry}
 use Rattle.writer_storing.specs.declared.Placed.{Placed}
 use Rattle.writer_building.specs.Building.{built}
@@ -69,14 +69,12 @@ sourceOf w =
 abbrev pub builtFrom : ℕ → ℕ → Carry → CCDataWriter → Made
 builtFrom pairs triples carry w = built pairs triples carry (w .packets) (sourceOf w)
 
--- with the two switches of padding set [W12]
-abbrev pub withPadding : Bool → Bool → CCDataWriter → CCDataWriter
-withPadding a b w =
+-- with the paddings and the mode set, and parts carried
+abbrev pub withSwitches : Bool → Bool → Bool → Carry → CCDataWriter → CCDataWriter
+withSwitches a b on c w =
     record {
       «output_cea608_padding» = a;
       «output_padding» = b;
-      carrying = w .carrying;
-      carry = w .carry;
       «packet_count» = w .«packet_count»;
       packets = w .packets;
       sending = w .sending;
@@ -84,28 +82,18 @@ withPadding a b w =
       field1 = w .field1;
       field2 = w .field2;
       «field2_next» = w .«field2_next»;
+      carrying = on;
+      carry = c;
     }
 
 -- the parts once the mode is set [W15]
 abbrev pub carryAfter : Bool → CCDataWriter → Carry
-carryAfter on w = cond (on && w .carrying) (w .carry) (carryIn noCarry)
+carryAfter on w = carryIn (cond (on && w .carrying) (carryOf (w .carry)) noCarry)
 
--- with the mode set, and parts carried
-abbrev pub withCarrying : Bool → Carry → CCDataWriter → CCDataWriter
-withCarrying on c w =
-    record {
-      «output_cea608_padding» = w .«output_cea608_padding»;
-      «output_padding» = w .«output_padding»;
-      carrying = on;
-      carry = c;
-      «packet_count» = w .«packet_count»;
-      packets = w .packets;
-      sending = w .sending;
-      sent = w .sent;
-      field1 = w .field1;
-      field2 = w .field2;
-      «field2_next» = w .«field2_next»;
-    }
+-- with a switch set [W12] [W15]
+abbrev pub switched : Switch → CCDataWriter → CCDataWriter
+switched (paddings a b) w = withSwitches a b (w .carrying) (w .carry) w
+switched (carryingMode on) w = withSwitches (w .«output_cea608_padding») (w .«output_padding») on (carryAfter on w) w
 
 -- the two queues of pairs
 abbrev pub withFields : PairQueue → PairQueue → CCDataWriter → CCDataWriter

@@ -8,7 +8,7 @@ use lib.Dec.{eqb, ltb}
 use borrow.Author.Tests.{eq-eqb, ne-eqb, eqb-true, eqb-false, lt-ltb, le-ltb}
 use Rattle.model.specs.Said.{Outcome, gave, refused, saysWith, checked, badRate, badValue}
 use Rattle.model.specs.Rate as model
-use Rattle.model.specs.Rate.{pairsThenTriples, budgets, mostTriples, validCarry, goingOn, carried, leftOver, carriedOn, carriedShare, shareBy}
+use Rattle.model.specs.Rate.{pairsThenTriples, budgets, mostTriples, validCarry, goingOn, carried, leftOver, carriedOn, carriedAt, carriedShare, shareBy}
 use Rattle.model.proofs.Cases.{by-test, both, gives-at}
 use Rattle.model.proofs.Rates.{Rated, budgets-rated}
 use Rattle.model.proofs.Carrying.{Below, going-below, below}
@@ -22,7 +22,7 @@ use Rattle.caption.specs.declared.Refusal.{Refusal}
 use Rattle.caption.specs.declared.Refusal.the-variants.{BadValue}
 use Rattle.caption.specs.declared.Budgets.{Budgets}
 use Rattle.caption.specs.declared.Budgets.the-variants.{Of, BadRate}
-use Rattle.writer_shares.specs.Share.{carryOf, carryIn, outcomeOf, carriedAt}
+use Rattle.writer_shares.specs.Share.{carryOf, carryIn, outcomeOf}
 use Rattle.writer_shares.specs.declared.Carry.{Carry}
 use Rattle.writer_shares.specs.declared.Share.{Share}
 use Rattle.writer_shares.specs.declared.Share.the-variants as share

@@ -1,10 +1,6 @@
 -- What a frame gets of a rate, in the model. Assumes nothing.
-use mathlib.Core.Bool.{cond}
-use Prim.Native.Nat.{ℕ, _*_}
-use lib.Dec.{ltb}
-use Rattle.model.specs.Said.{Outcome, gave, refused, badRate}
+use Rattle.model.specs.Said.{Outcome, gave, refused}
 use Rattle.model.specs.Rate as model
-use Rattle.model.specs.Rate.{mostTriples, goingOn, carriedOn}
 use Rattle.caption.specs.Answers.{saidRefusal}
 use Rattle.writer_shares.specs.declared.Carry.{Carry}
 use Rattle.writer_shares.specs.declared.Share.{Share}
@@ -22,7 +18,3 @@ carryIn c = record { numer = c .numer; denom = c .denom; pairs = c .pairs; tripl
 abbrev pub outcomeOf : Share → Outcome model.Share
 outcomeOf (Of pairs triples carry) = gave (record { budgets = record { pairs = pairs; triples = triples }; carry = carryOf carry })
 outcomeOf (Refused why) = refused (saidRefusal why)
-
--- in the carrying mode, of a rate that has budgets [G6]
-abbrev pub carriedAt : ℕ → ℕ → model.Carry → Outcome model.Share
-carriedAt numer denom c = cond (ltb (mostTriples * numer) (600 * denom)) (refused badRate) (gave (carriedOn numer denom (goingOn numer denom c)))

@@ -8,8 +8,8 @@ ghost use mathlib.Core.Path.{_≡_};
 ghost use mathlib.Core.Bool.{true};
 ghost use Prim.Native.Nat.{_<_};
 ghost use Rattle.model.specs.Said.{checked};
-ghost use Rattle.model.specs.Rate.{validCarry, goingOn, shareBy};
-ghost use Rattle.writer_shares.specs.Share.{carryOf, outcomeOf, carriedAt};
+ghost use Rattle.model.specs.Rate.{validCarry, goingOn, carriedAt, shareBy};
+ghost use Rattle.writer_shares.specs.Share.{carryOf, outcomeOf};
 
 // The carried parts: the rate of the running sum, and what the sum has left over of the pairs and of the triples, in parts of `numer`.
 pub struct Carry {

@@ -1,8 +1,9 @@
 -- `writer::CCDataWriter::set_carrying` meets its contract. Assumes nothing.
 use mathlib.Core.Path.{ap}
 use Rattle.writer.proofs.Shape.{shaped}
-use Rattle.writer.proofs.Calls.{refused-value, mode-set}
-use Rattle.writer.specs.Making.{withCarrying}
+use Rattle.writer.proofs.Calls.{refused-value, switch-set}
+use Rattle.model.specs.Mux.{carryingMode}
+use Rattle.writer.specs.Making.{withSwitches}
 use Rattle.writer_shares.specs.declared.Carry.{Carry}
 use borrow.Author.Needs.{needs}
 use Rattle.writer.proofs.CCDataWriter.set_carrying.Statement.{statement}
@@ -17,8 +18,8 @@ carry-in-requires c κs = search needs
 returns : tie.Need-returns
 returns c = let s = c .before .before .before in
     let h = shaped (s .args .self) (s .good .0, tt) in
-    mode-set (s .args .self) h (c .before .before .is-valid .ensures) (c .before .if1 .taken) (s .args .carrying) _
-    (ap (λ (k : Carry). withCarrying (s .args .carrying) k (s .args .self)) (c .carry-in .ensures))
+    switch-set (s .args .self) h (c .before .before .is-valid .ensures) (c .before .if1 .taken) (carryingMode (s .args .carrying)) _
+    (ap (λ (k : Carry). withSwitches (s .args .self .«output_cea608_padding») (s .args .self .«output_padding») (s .args .carrying) k (s .args .self)) (c .carry-in .ensures))
 
 refused-requires : tie.Need-refused-requires
 refused-requires c κs = search needs
