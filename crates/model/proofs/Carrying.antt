@@ -8,8 +8,8 @@ use native.Mathlib.Nat.{le-div-iff-mul-le, div-add-mod', mod-lt}
 use native.Mathlib.Omega.{arith}
 use lib.Dec.{eqb, leb, ltb}
 use borrow.Author.Tests.{eq-eqb, eqb-true, lt-ltb, ltb-true, ltb-false, leb-true, leb-false}
-use Rattle.model.specs.Said.{Outcome, gave, refused, badRate}
-use Rattle.model.specs.Rate.{Budgets, mostTriples, Carry, noCarry, validCarry, goingOn, carried, leftOver, Share, carriedOn, carriedShare, shareBy, pairsAt, triplesAt, budgets}
+use Rattle.model.specs.Said.{Outcome, gave, refused, isGiven, badRate}
+use Rattle.model.specs.Rate.{Budgets, mostTriples, Carry, noCarry, validCarry, goingOn, carried, leftOver, Share, carriedOn, carriedShare, shareBy, rounded, pairsAt, triplesAt, budgets}
 use Rattle.model.specs.Run.{Accepted}
 use Rattle.model.proofs.Cases.{by-test, by-cond, both, and-both, Gives, gives-then, gives-mapped, gives-at}
 use Rattle.model.proofs.Rates.{Rated, budgets-rated}
@@ -168,3 +168,18 @@ of pairs triples = record { pairs = pairs; triples = triples }
 pub first-budgets : (inARow 4 24 1 noCarry ≡ of 2 25 ∷ of 3 25 ∷ of 2 25 ∷ of 3 25 ∷ []) × (inARow 4 120 1 noCarry ≡ of 0 5 ∷ of 1 5 ∷ of 0 5 ∷ of 1 5 ∷ [])
 unfolding carriedOn goingOn carried leftOver
 first-budgets = (refl, refl)
+
+-- four parts
+abbrev parts : ℕ → ℕ → ℕ → ℕ → Carry
+parts numer denom pairs triples = record { numer = numer; denom = denom; pairs = pairs; triples = triples }
+
+-- rates on both sides of the mode's own limit, one of them accepted without the mode
+pub rates-limited : isGiven (carriedShare 600 31 noCarry) ∷ isGiven (carriedShare 401 21 noCarry) ∷ isGiven (budgets 401 21) ∷ [] ≡ true ∷ false ∷ true ∷ []
+unfolding carriedShare budgets rounded
+rates-limited = refl
+
+-- and parts on both sides of theirs
+pub parts-limited : validCarry (parts 24 1 23 23) ∷ validCarry (parts 24 1 24 0) ∷ validCarry (parts 24 1 0 24) ∷ validCarry (parts 0 0 0 0) ∷ validCarry (parts 0 1 0 0) ∷ []
+    ≡ true ∷ false ∷ false ∷ true ∷ false ∷ []
+unfolding validCarry
+parts-limited = refl

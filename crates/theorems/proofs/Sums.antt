@@ -5,9 +5,9 @@ use mathlib.Core.Bool.{Bool, true, false}
 use mathlib.Core.List.{List, []}
 use Prim.Native.Nat.{ℕ}
 use lib.ListN.{length}
-use Rattle.model.specs.Rate.{rate, Carry, noCarry}
+use Rattle.model.specs.Rate.{rate}
 use Rattle.model.specs.Mux.{Mux, freshMux, withMode, flushMux}
-use Rattle.model_journey.specs.Sums.{Kind, dueOf, Afresh, no-parts, fills, shownIn}
+use Rattle.model_journey.specs.Sums.{Kind, dueOf, fills, shownIn}
 use Rattle.model_journey.proofs.Triples.{Follow, stop}
 use Rattle.model_journey.proofs.Four.{follow-run}
 use Rattle.model_journey.proofs.Sums as journey
@@ -20,7 +20,7 @@ use Rattle.theorems.specs.Items.{Items}
 use Rattle.theorems.specs.Allowed.{NewWriter, SetCarrying, Flush}
 use Rattle.theorems.specs.Writing.{Calls, Tested, Stays}
 use Rattle.theorems.specs.Sums as specs
-use Rattle.theorems.specs.Sums.{Reached, called, flushed, StartsAfresh, AddsUp}
+use Rattle.theorems.specs.Sums.{Reached, called, flushed, StartsAfresh, NothingCarried, AddsUp}
 use Rattle.theorems.proofs.Sequences.{follows}
 use Rattle.theorems.proofs.Answered.{given}
 use Rattle.theorems.proofs.Bounds.{carrying-means}
@@ -59,16 +59,23 @@ module _ {w : CCDataWriter} (d : Reached w) where
       let b = journey.run-shown k (f .calls) (means w) (f .allowed (fills k) filled) (s .follow) in
       ap (shownIn k) (sym (f .frames)) ∙ b ∙ a ∙ ap (dueOf k (rate (speed .numer) (speed .denom))) (f .writes)
 
-  -- the mode turned on from off starts every sum afresh
-  pub turned-on : (r : WriterAnswer) → SetCarrying w true r → w .carrying ≡ false → (r .writer .carrying ≡ true) × ((speed : Framerate) → StartsAfresh speed (r .writer))
+  -- the mode turned on from off: nothing is carried, so that every sum starts afresh (`no-parts`)
+  pub turned-on : (r : WriterAnswer) → SetCarrying w true r → w .carrying ≡ false → (r .writer .carrying ≡ true) × NothingCarried (r .writer)
   unfolding means
   turned-on r a off =
       let g = given a (withMode true (means w)) (rw (runs d .sound .valid)) .1 .0 in
-      (sym (carrying-means (r .writer)) ∙ ap (λ (s : Mux). s .carrying) g, λ speed. no-parts (ap (λ (s : Mux). s .carry) g ∙ rw off))
+      (ap (λ (s : Mux). s .carrying) g, ap (λ (s : Mux). s .carry) g ∙ rw off)
 
-  -- and so does a flush, which leaves the mode
-  pub flush-afresh : (r : WriterAnswer) → Flush w r → (r .writer .carrying ≡ w .carrying) × ((speed : Framerate) → StartsAfresh speed (r .writer))
+  -- turned off: the same
+  pub turned-off : (r : WriterAnswer) → SetCarrying w false r → (r .writer .carrying ≡ false) × NothingCarried (r .writer)
+  unfolding means
+  turned-off r a =
+      let g = given a (withMode false (means w)) (rw (runs d .sound .valid)) .1 .0 in
+      (ap (λ (s : Mux). s .carrying) g, ap (λ (s : Mux). s .carry) g)
+
+  -- and with a flush, which leaves the mode
+  pub flush-afresh : (r : WriterAnswer) → Flush w r → (r .writer .carrying ≡ w .carrying) × NothingCarried (r .writer)
   unfolding means
   flush-afresh r a =
       let g = given a (flushMux (means w)) (rw (runs d .sound .valid)) .1 .0 in
-      (ap (λ (s : Mux). s .carrying) g, λ speed. no-parts (ap (λ (s : Mux). s .carry) g))
+      (ap (λ (s : Mux). s .carrying) g, ap (λ (s : Mux). s .carry) g)
