@@ -1,6 +1,6 @@
 -- A sum cut by subtraction: what was taken off is so many steps, and the rest is what remains. Assumes nothing.
 use mathlib.Core.Path.{_≡_, ap}
-use Prim.Native.Nat.{ℕ, _+_, _-_, _*_, _/_, _%_, _≤_, _<_, min}
+use Prim.Native.Nat.{ℕ, _+_, _-_, _*_, _/_, _%_, _≤_, _<_}
 use native.Mathlib.Nat.{add-mul, one-mul, div-eq-of-lt-le, le-div-iff-mul-le, div-add-mod'}
 use native.Mathlib.Omega.{arith}
 use lib.Dec.{eqb, leb}

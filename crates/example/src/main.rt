@@ -8,14 +8,16 @@ use parser::CCDataParser;
 use parser::Item;
 use writer::CCDataWriter;
 
-// The frame of a multiplexer that holds one packet: service 1 says "A".
+// The frame of a multiplexer that carries fractions and holds one packet: service 1 says "A".
 fn write_one(frame: &mut [u8; 95]) -> Counted {
     let empty = DTVCCPacket::new(2);
     let packet = empty.packet;
     let pushed = packet.push_code(1, b"A");
     let full = pushed.packet;
     let fresh = CCDataWriter::new();
-    let queued = fresh.push_packet(full);
+    let carrying = fresh.set_carrying(true);
+    let ready = carrying.writer;
+    let queued = ready.push_packet(full);
     let writer = queued.writer;
     let done = writer.write(Framerate::new(30, 1), frame);
     done.answer

@@ -7,16 +7,16 @@ use Prim.Native.Nat.{ℕ, zero, suc, _+_, _*_, _≤_, _<_}
 use native.Mathlib.Nat.{le-div-iff-mul-le, div-add-mod', mod-lt}
 use native.Mathlib.Omega.{arith}
 use lib.Dec.{eqb, leb, ltb}
-use borrow.Author.Tests.{eq-eqb, eqb-true, lt-ltb, ltb-true, ltb-false, leb-true, leb-false}
-use Rattle.model.specs.Said.{Outcome, gave, refused, isGiven, badRate}
-use Rattle.model.specs.Rate.{Budgets, mostTriples, Carry, noCarry, validCarry, goingOn, carried, leftOver, Share, carriedOn, carriedShare, shareBy, rounded, pairsAt, triplesAt, budgets}
+use borrow.Author.Tests.{eq-eqb, eqb-true, lt-ltb, le-ltb, ltb-true, ltb-false, leb-true, leb-false}
+use Rattle.model.specs.Said.{Outcome, gave, refused, isGiven, mapped, badRate}
+use Rattle.model.specs.Rate.{Budgets, mostTriples, Carry, noCarry, validCarry, goingOn, carriedBudget, leftOver, Share, carriedOn, carriedShare, shareBy, rounded, pairsAt, triplesAt, budgets}
 use Rattle.model.specs.Run.{Accepted}
-use Rattle.model.proofs.Cases.{by-test, by-cond, both, and-both, Gives, gives-then, gives-mapped, gives-at}
+use Rattle.model.proofs.Cases.{by-test, by-cond, both, Gives, gives-then, gives-mapped, gives-at}
 use Rattle.model.proofs.Rates.{Rated, budgets-rated}
 
 -- a budget and what it leaves over are what was left over and what came
-pub whole : (k n d rest : ℕ) → carried k n d rest * n + leftOver k n d rest ≡ rest + k * d
-unfolding carried leftOver
+pub whole : (k n d rest : ℕ) → carriedBudget k n d rest * n + leftOver k n d rest ≡ rest + k * d
+unfolding carriedBudget leftOver
 whole k n d rest = div-add-mod' (rest + k * d) n
 
 -- less than numer is left over
@@ -27,13 +27,13 @@ below k n d rest pos = mod-lt (rest + k * d) pos
 -- x ≤ a carried budget exactly if n x ≤ rest + k d
 module _ (k n d rest x : ℕ) (pos : 0 < n) where
   -- so much is reached
-  pub least : x * n ≤ rest + k * d → x ≤ carried k n d rest
-  unfolding carried
+  pub least : x * n ≤ rest + k * d → x ≤ carriedBudget k n d rest
+  unfolding carriedBudget
   least = le-div-iff-mul-le {k = n} {x = x} {y = rest + k * d} pos .1
 
   -- and no more
-  pub most : x ≤ carried k n d rest → x * n ≤ rest + k * d
-  unfolding carried
+  pub most : x ≤ carriedBudget k n d rest → x * n ≤ rest + k * d
+  unfolding carriedBudget
   most = le-div-iff-mul-le {k = n} {x = x} {y = rest + k * d} pos .0
 
 -- rests below numer
@@ -89,6 +89,11 @@ pub share-on : (n d : ℕ) (c : Carry) {h : Share} → shareBy true n d c ≡ ga
 unfolding shareBy
 share-on n d c e = gives-at (Carries n d c) (carriedShare n d c) e (carried-gives n d c)
 
+-- it gets that exactly of the rates that have budgets and of which 600 · denom is within 31 · numer [G6]
+pub share-accepts : (n d : ℕ) (c : Carry) {b : Budgets} → budgets n d ≡ gave b → 600 * d ≤ mostTriples * n → shareBy true n d c ≡ gave (carriedOn n d (goingOn n d c))
+unfolding shareBy carriedShare
+share-accepts n d c e room = rw (e, le-ltb (mostTriples * n) (600 * d) room)
+
 -- and with it off: the rounded budgets, and the parts as they were
 pub record Rounds (n d : ℕ) (c : Carry) (h : Share) : Type 0 where
   pub rated : Rated n d (h .budgets)
@@ -101,14 +106,19 @@ share-off n d c e =
     gives-at (Rounds n d c) (shareBy false n d c) e
     (gives-mapped (Rounds n d c) (Rated n d) (budgets n d) (λ b. record { budgets = b; carry = c }) (budgets-rated n d) (λ b r. record { rated = r; same = refl }))
 
+-- it gets that of every rate that has budgets
+pub share-rounds : (n d : ℕ) (c : Carry) {b : Budgets} → budgets n d ≡ gave b → shareBy false n d c ≡ gave (record { budgets = b; carry = c })
+unfolding shareBy
+share-rounds n d c e = rw e
+
 -- budgets that are carried, from rests below numer
 module _ (n d : ℕ) (c : Carry) (pos : 0 < n) (slow : n ≤ 120 * d) (room : 600 * d ≤ 31 * n) (b : Below n c) where
   -- no more than four pairs, two of them only with ten triples, and five triples always
   carried-accepted : Accepted (carriedOn n d c .budgets)
   unfolding carriedOn
   carried-accepted =
-      let p : ℕ = carried 60 n d (c .pairs) in
-      let t : ℕ = carried 600 n d (c .triples) in
+      let p : ℕ = carriedBudget 60 n d (c .pairs) in
+      let t : ℕ = carriedBudget 600 n d (c .triples) in
       let four : p ≤ 4 =
       by-test (leb 5 p) (λ e. absurd (omega (arith, most 60 n d (c .pairs) 5 pos (leb-true 5 p e), b .pairs))) (λ e. omega (arith, leb-false 5 p e)) in
       let few : t ≤ 31 =
@@ -121,10 +131,10 @@ module _ (n d : ℕ) (c : Carry) (pos : 0 < n) (slow : n ≤ 120 * d) (room : 60
         most = few;
       }
 
-  -- what is kept is within its limits
-  carried-valid : validCarry (carriedOn n d c .carry) ≡ true
-  unfolding carriedOn
-  carried-valid = below-valid (carriedOn n d c .carry) (record { pairs = below 60 n d (c .pairs) pos; triples = below 600 n d (c .triples) pos })
+-- what is kept is within its limits
+carried-valid : (n d : ℕ) (c : Carry) → 0 < n → validCarry (carriedOn n d c .carry) ≡ true
+unfolding carriedOn
+carried-valid n d c pos = below-valid (carriedOn n d c .carry) (record { pairs = below 60 n d (c .pairs) pos; triples = below 600 n d (c .triples) pos })
 
 -- What an accepted write gets, in either mode: budgets that writing asks for, and parts within their limits.
 pub record Shared (h : Share) : Type 0 where
@@ -137,7 +147,7 @@ share-given true n d c v e =
     let s = share-on n d c e in
     let b = going-below n d c (s .some) v in
     let g : Carry = goingOn n d c in
-    rw (s .is) (record { accepted = carried-accepted n d g (s .some) (s .slow) (s .room) b; valid = carried-valid n d g (s .some) (s .slow) (s .room) b })
+    rw (s .is) (record { accepted = carried-accepted n d g (s .some) (s .slow) (s .room) b; valid = carried-valid n d g (s .some) })
 share-given false n d c v e =
     let s = share-off n d c e in
     record { accepted = record { apart = s .rated .sane .apart; most = s .rated .sane .few-triples }; valid = rw (s .same) v }
@@ -156,17 +166,17 @@ share-refused true n d c =
 share-refused false n d c = by-test (eqb n 0 || (eqb (pairsAt n d) 0 || ltb mostTriples (triplesAt n d))) (λ e. rw e refl) (λ e. rw e tt)
 
 -- the budgets that so many writes in a row get at one rate, while the mode is on
-abbrev inARow : ℕ → ℕ → ℕ → Carry → List Budgets
+abbrev inARow : ℕ → ℕ → ℕ → Carry → List (Outcome Budgets)
 inARow zero n d c = []
-inARow (suc k) n d c = let h : Share = carriedOn n d (goingOn n d c) in h .budgets ∷ inARow k n d (h .carry)
+inARow (suc k) n d c = mapped (λ h. h .budgets) (shareBy true n d c) ∷ inARow k n d (carriedOn n d (goingOn n d c) .carry)
 
 -- so many pairs and triples
-abbrev of : ℕ → ℕ → Budgets
-of pairs triples = record { pairs = pairs; triples = triples }
+abbrev of : ℕ → ℕ → Outcome Budgets
+of pairs triples = gave (record { pairs = pairs; triples = triples })
 
 -- at 24 frames a second two pairs and three in turn; at 120 none and one
 pub first-budgets : (inARow 4 24 1 noCarry ≡ of 2 25 ∷ of 3 25 ∷ of 2 25 ∷ of 3 25 ∷ []) × (inARow 4 120 1 noCarry ≡ of 0 5 ∷ of 1 5 ∷ of 0 5 ∷ of 1 5 ∷ [])
-unfolding carriedOn goingOn carried leftOver
+unfolding shareBy carriedShare budgets rounded carriedOn goingOn carriedBudget leftOver
 first-budgets = (refl, refl)
 
 -- four parts

@@ -1,6 +1,7 @@
 -- The examples that docs/RULES.md marks with a star, as one table with one statement: what the definitions compute is what the rule book says.
 -- Assumes nothing.
 use mathlib.Core.Path.{_≡_, refl}
+use mathlib.Core.Bool.{true, false}
 use mathlib.Core.List.{List, [], _∷_, _++_, map}
 use Prim.Native.Nat.{ℕ}
 use Rattle.model.specs.Said.{Said, Outcome, gave, refused, mapped}
@@ -8,9 +9,9 @@ use Rattle.model.specs.Block.{headerLength, numberIn, needed, isShort, b
 use Rattle.model.specs.Packet.{Packet, sequenceIn, packetSize, plainMove, tidyMove, blocksFrom, readBy, readPacket, reads, readTidy, blocksLength, packetLength, writtenBlocks, packetHeader, fill, writtenPacket}
 use Rattle.model.specs.Frame.{pair, Cea608, field1, field2, seen, seenAll, flat, triplesIn, flagged, frameBytes}
 use Rattle.model.specs.Demux.{turn608On, freshDemux, pairsIn, lateAfter, lateFrom, carries708, closed, packetsOf, kept, wants, gather, ended, gathered, takeGathered, takeTriples, unread, takeFrame}
-use Rattle.model.specs.Rate.{rounded, budgets, shareBy}
-use Rattle.model.specs.Mux.{freshMux, queued, pushPacket, isNull, pushPair, pushCea608, turnsDue, turn1, turn2, turned, continued, started, packetTriples, triplesQueued, countDue, send, padding, framed, writeFrame, shareAt, writeShare}
-use Rattle.model.specs.Run.{Call, pushes, pushes608, call, run, readFrames}
+use Rattle.model.specs.Rate.{rounded, budgets, goingOn, carriedBudget, leftOver, carriedOn, carriedShare, shareBy}
+use Rattle.model.specs.Mux.{freshMux, paddings, carryingMode, queued, pushPacket, isNull, pushPair, pushCea608, turnsDue, turn1, turn2, turned, continued, started, packetTriples, triplesQueued, countDue, send, padding, framed, writeFrame, shareAt, writeShare}
+use Rattle.model.specs.Run.{Call, pushes, pushes608, sets, call, run, readFrames}
 
 -- what a row asks
 pub data Input : Type 0 where
@@ -41,9 +42,9 @@ abbrev told : {A : Type 0} → (A → Result) → Outcome A → Result
 told f (gave x) = f x
 told f (refused why) = refusal why
 
--- a multiplexer without padding after some pushes writes one frame
-abbrev unpadded : ℕ → ℕ → List Call → Outcome (List ℕ)
-unpadded numer denom calls =
+-- a fresh multiplexer writes one frame after some calls
+abbrev afterCalls : ℕ → ℕ → List Call → Outcome (List ℕ)
+afterCalls numer denom calls =
     let s = run calls freshMux .last in
     mapped (λ h. frameBytes (writeShare h s .frame)) (shareAt numer denom s)
 
@@ -54,7 +55,7 @@ answer (written p) = bytes (writtenPacket p)
 answer (plain d) = told packet (readPacket d)
 answer (tidy d) = told packet (readTidy d)
 answer (frames fs) = let r = readFrames fs (turn608On freshDemux) in items (r .answers) (r .pairs) (r .packets)
-answer (frame numer denom calls) = told bytes (unpadded numer denom calls)
+answer (frame numer denom calls) = told bytes (afterCalls numer denom calls)
 
 -- an example of the rule book
 pub record Row : Type 0 where
@@ -92,6 +93,8 @@ table =
     ∷ row
     (frame 30 1 (twice942C ++ (pushes (one 2 1 (0x41 ∷ [])) ∷ [])))
     (bytes (0xC4 ∷ 0xFF ∷ 0xFC ∷ 0x94 ∷ 0x2C ∷ 0xFF ∷ 0x82 ∷ 0x21 ∷ 0xFE ∷ 0x41 ∷ 0x00 ∷ []))
+    ∷ row (frame 24 1 (sets (paddings true false) ∷ [])) (bytes (0xC3 ∷ 0xFF ∷ 0xF8 ∷ 0x80 ∷ 0x80 ∷ 0xF9 ∷ 0x80 ∷ 0x80 ∷ 0xF8 ∷ 0x80 ∷ 0x80 ∷ []))
+    ∷ row (frame 24 1 (sets (paddings true false) ∷ sets (carryingMode true) ∷ [])) (bytes (0xC2 ∷ 0xFF ∷ 0xF8 ∷ 0x80 ∷ 0x80 ∷ 0xF9 ∷ 0x80 ∷ 0x80 ∷ []))
     ∷ []
 
 -- every row computes to its result
@@ -101,6 +104,6 @@ unfolding table
     packetSize plainMove tidyMove blocksFrom readBy readPacket reads readTidy blocksLength packetLength writtenBlocks packetHeader fill writtenPacket
     seen seenAll flat triplesIn flagged frameBytes
     pairsIn lateAfter lateFrom carries708 closed packetsOf kept wants gather ended gathered takeGathered takeTriples unread takeFrame
-    rounded budgets shareBy queued pushPacket isNull pushPair pushCea608 turnsDue turn1 turn2 turned continued started packetTriples triplesQueued countDue send padding framed writeFrame
+    rounded budgets goingOn carriedBudget leftOver carriedOn carriedShare shareBy queued pushPacket isNull pushPair pushCea608 turnsDue turn1 turn2 turned continued started packetTriples triplesQueued countDue send padding framed writeFrame
     call run readFrames
 examples = refl

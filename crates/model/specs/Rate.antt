@@ -71,8 +71,8 @@ unfoldable pub goingOn : ℕ → ℕ → Carry → Carry
 goingOn numer denom c = cond (eqb (c .numer) numer && eqb (c .denom) denom) c noCarry
 
 -- with what is left over, k · denom / numer rounded down [G4]
-unfoldable pub carried : ℕ → ℕ → ℕ → ℕ → ℕ
-carried k numer denom rest = (rest + k * denom) / numer
+unfoldable pub carriedBudget : ℕ → ℕ → ℕ → ℕ → ℕ
+carriedBudget k numer denom rest = (rest + k * denom) / numer
 
 -- and what that leaves over [G4]
 unfoldable pub leftOver : ℕ → ℕ → ℕ → ℕ → ℕ
@@ -87,7 +87,7 @@ pub record Share : Type 0 where
 unfoldable pub carriedOn : ℕ → ℕ → Carry → Share
 carriedOn numer denom c =
     record {
-      budgets = record { pairs = carried 60 numer denom (c .pairs); triples = carried 600 numer denom (c .triples) };
+      budgets = record { pairs = carriedBudget 60 numer denom (c .pairs); triples = carriedBudget 600 numer denom (c .triples) };
       carry = record { numer = numer; denom = denom; pairs = leftOver 60 numer denom (c .pairs); triples = leftOver 600 numer denom (c .triples) };
     }
 

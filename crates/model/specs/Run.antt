@@ -73,6 +73,11 @@ abbrev pub OneOfTwo : List Budgets → Type 0
 OneOfTwo [] = Unit {0}
 OneOfTwo (b ∷ bs) = PairBeside (b .pairs) bs × OneOfTwo bs
 
+-- with the carrying mode off each has one [G2]
+abbrev pub AllPaired : List Budgets → Type 0
+AllPaired [] = Unit {0}
+AllPaired (b ∷ bs) = (1 ≤ b .pairs) × AllPaired bs
+
 -- whether a padding is on [J0]
 abbrev pub anyPadding : Mux → Bool
 anyPadding s = s .pad608 || s .padOut

@@ -8,17 +8,12 @@ use native.Mathlib.Omega.{arith}
 use lib.ListN.{length}
 use Rattle.model.specs.Rate.{Rate, Budgets, Carry, goingOn, Share, carriedOn}
 use Rattle.model.specs.Mux.{Mux}
-use Rattle.model.specs.Run.{Call, pushes, pushes608, sets, writes, call, PairBeside, OneOfTwo, StaysCall, Stays}
+use Rattle.model.specs.Run.{Call, pushes, pushes608, sets, writes, call, PairBeside, OneOfTwo, AllPaired, StaysCall, Stays}
 use Rattle.model.proofs.Carrying.{whole, least, Carries, share-on, share-off, going-on}
 use Rattle.model_journey.specs.Bounds.{budgetsIn, writesIn, pairedIn, pace}
 use Rattle.model_journey.proofs.Calls.{sum-push, sum-608, sum-switch, mode-switch}
 
--- each write has a pair
-abbrev AllPaired : List Budgets → Type 0
-AllPaired [] = Unit {0}
-AllPaired (b ∷ bs) = (1 ≤ b .pairs) × AllPaired bs
-
--- so it is while the mode stays off
+-- each write has a pair while the mode stays off
 off-paired : (r : Rate) (cs : List Call) (s : Mux) → s .carrying ≡ false → Stays false r cs s → AllPaired (budgetsIn cs)
 unfolding call
 off-paired r [] s m st = tt

@@ -1,15 +1,15 @@
 -- What is carried adds up: the budgets of writes at one rate are what all of them are due, rounded down once; and with its padding on the bytes of the
 -- frames show them. Assumes nothing.
 use mathlib.Core.Path.{_≡_, refl, sym, ap, _∙_}
-use mathlib.Core.Bool.{Bool, true, cond, _&&_}
+use mathlib.Core.Bool.{true, _&&_}
 use mathlib.Core.List.{List, [], _∷_, _++_}
-use Prim.Native.Nat.{ℕ, suc, _+_, _-_, _*_, _/_, _≤_, _<_}
+use Prim.Native.Nat.{ℕ, suc, _+_, _-_, _*_, _<_}
 use native.Mathlib.Nat.{add-mul, one-mul, mul-add, zero-mul, mul-zero, zero-div, div-eq-of-lt-le}
 use native.Mathlib.Omega.{arith}
 use lib.Dec.{eqb}
 use lib.ListN.{length}
 use borrow.Author.Tests.{eqb-true, eqb-false, ne-eqb}
-use Rattle.model.specs.Frame.{Triple, field1, field2, Seen, seenAll, flat, triplesIn, frameBytes}
+use Rattle.model.specs.Frame.{Triple, field1, field2, Seen, seenAll, frameBytes}
 use Rattle.model.specs.Rate.{Rate, rate, Budgets, Carry, noCarry, goingOn, Share, carriedOn}
 use Rattle.model.specs.Mux.{Mux, turnsDue, turned, countDue, padding, framed, writeFrame, writeShare}
 use Rattle.model.specs.Run.{Call, pushes, pushes608, sets, writes, call, run, Accepted, Allowed, Stays}
@@ -17,7 +17,7 @@ use Rattle.model.proofs.Cases.{by-test, by-cond, both}
 use Rattle.model.proofs.Frames.{unflat}
 use Rattle.model.proofs.Carrying.{whole, below, going-on}
 use Rattle.model_journey.specs.Bounds.{budgetsIn, writesIn}
-use Rattle.model_journey.specs.Sums.{Kind, ofPairs, ofTriples, due, budgetOf, restOf, total, Afresh, no-parts, other-numer, other-denom, dueOf, AddUp, fills, pairTriplesIn, shown, shownIn}
+use Rattle.model_journey.specs.Sums.{Kind, ofPairs, ofTriples, due, budgetOf, restOf, total, Afresh, no-parts, other-numer, other-denom, dueOf, AddUp, fills, pairTriplesIn, shown, shownAll}
 use Rattle.model_journey.proofs.Parts.{In608, end6, one6, two6, void6, In708, end7, start7, more7, void7, seen-append, seen-length, join-708}
 use Rattle.model_journey.proofs.Padding.{padding-seen}
 use Rattle.model_journey.proofs.Turns.{turns-seen, turns-count}
@@ -155,18 +155,14 @@ count-shown : (b : Budgets) (s : Mux) → s .padOut ≡ true → writeFrame b s 
 unfolding writeFrame framed countDue
 count-shown b s on = rw on
 
--- the triples in a frame's bytes are the frame's
-frame-triples : (h : Share) (s : Mux) → triplesIn (flat (writeShare h s .frame .triples)) ≡ writeShare h s .frame .triples
-frame-triples h s = unflat (writeShare h s .frame .triples)
-
 -- with the padding that fills it a frame shows its budget
 write-shown : (k : Kind) (h : Share) (s : Mux) → Accepted (h .budgets) → fills k s ≡ true → Follow (s .sending) → shown k (frameBytes (writeShare h s .frame)) ≡ budgetOf k (h .budgets)
 unfolding frameBytes
-write-shown ofPairs h s a on f = rw (frame-triples h s) (turns-shown (h .budgets) s on f)
+write-shown ofPairs h s a on f = rw (unflat (writeShare h s .frame .triples)) (turns-shown (h .budgets) s on f)
 write-shown ofTriples h s a on f = rw (count-shown (h .budgets) s on) (omega (arith, a .most))
 
 -- and frames show the sum of theirs, whatever else is called
-pub run-shown : (k : Kind) (cs : List Call) (s : Mux) → Allowed (fills k) cs s → Follow (s .sending) → shownIn k (run cs s .frames) ≡ total k (budgetsIn cs)
+pub run-shown : (k : Kind) (cs : List Call) (s : Mux) → Allowed (fills k) cs s → Follow (s .sending) → shownAll k (run cs s .frames) ≡ total k (budgetsIn cs)
 unfolding run call
 run-shown k [] s a f = refl
 run-shown k (pushes p ∷ cs) s a f = run-shown k cs _ (a .1) (rw (quiet-push p s .sending) f)

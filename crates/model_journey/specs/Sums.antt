@@ -69,6 +69,6 @@ shown ofPairs frame = pairTriplesIn (seenAll (triplesIn (drop 2 frame)))
 shown ofTriples frame = countIn (getD frame 0 0)
 
 -- the sum of that over frames
-abbrev pub shownIn : Kind → List (List ℕ) → ℕ
-shownIn k [] = 0
-shownIn k (f ∷ fs) = shown k f + shownIn k fs
+abbrev pub shownAll : Kind → List (List ℕ) → ℕ
+shownAll k [] = 0
+shownAll k (f ∷ fs) = shown k f + shownAll k fs

@@ -1,5 +1,5 @@
-// The operations of a script, by their letters, on its multiplexer: each makes one call, lays the line that tells of it into a lent buffer from a
-// place on, and answers the place behind the line beside what the call leaves.
+// The operations of a script, by their letters, on its multiplexer: each makes its call (that of the switches one for each of the three), lays the
+// line that tells of it into a lent buffer from a place on, and answers the place behind the line beside what is left.
 ghost use mathlib.Core.Path.{_≡_};
 ghost use Rattle.model.specs.Said.{mapped, after};
 ghost use Rattle.caption.specs.declared.Cea608.the-variants.{Field1, Field2};

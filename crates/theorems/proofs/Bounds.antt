@@ -12,10 +12,12 @@ use Rattle.model.specs.Said.{Outcome, gave, refused, isGiven}
 use Rattle.model.specs.Packet.{Packet}
 use Rattle.model.specs.Frame as model
 use Rattle.model.specs.Frame.{frameBytes, triplesIn}
-use Rattle.model.specs.Rate.{Share}
-use Rattle.model.specs.Mux.{Mux, freshMux, writeShare}
+use Rattle.model.specs.Rate.{Budgets, budgets, mostTriples, goingOn, Share, carriedOn}
+use Rattle.model.specs.Mux.{Mux, freshMux, shareAt, writeShare}
 use Rattle.model.specs.Run as runs
+use Rattle.model.proofs.Cases.{by-test}
 use Rattle.model.proofs.Frames.{unflat}
+use Rattle.model.proofs.Carrying.{share-accepts, share-rounds}
 use Rattle.model_journey.specs.Bounds as journey
 use Rattle.model_journey.specs.Bounds.{Field, one, two, acceptedOf, pace}
 use Rattle.model_journey.proofs.Leaves as leaves
@@ -96,6 +98,13 @@ pub given-by : {A P : Type 0} (o : Outcome A) → isGiven o ≡ true → ((x : A
 given-by (gave x) e f = f x refl
 given-by (refused why) e f = absurd (false≢true e)
 
+-- a rate that has budgets gives a share, in the mode if it is within its own limit
+share-there : (n d : ℕ) (s : Mux) {b : Budgets} → budgets n d ≡ gave b → (s .carrying ≡ true → 600 * d ≤ mostTriples * n) → (h : Share) × (shareAt n d s ≡ gave h)
+share-there n d s {b} e within =
+    by-test (s .carrying)
+    (λ on. (carriedOn n d (goingOn n d (s .carry)), rw on (share-accepts n d (s .carry) e (within on))))
+    (λ off. (record { budgets = b; carry = s .carry }, rw off (share-rounds n d (s .carry) e)))
+
 -- a state that calls of a fresh multiplexer have reached
 module _ {w₀ w : CCDataWriter} {fs₀ : List (List ℕ)} {is₀ : Items} (new : NewWriter w₀) (before : Calls w₀ fs₀ is₀ w) where
   -- these calls in the model
@@ -124,11 +133,16 @@ module _ {w₀ w : CCDataWriter} {fs₀ : List (List ℕ)} {is₀ : Items} (new 
       let k = reached in
       four-by w rate (now end) r (k .sound) n e (λ h accepted. rw (k .last) at (four.four (k .calls) h accepted)) (write-does κs w rate out end r (k .sound) a)
 
-  -- a write that gets a share of its rate, with room for the longest frame, is accepted
+  -- a write at an accepted rate, with room for the longest frame, is accepted
   pub write-accepted : (κs : Lfts 1) (rate : Framerate) (out end : Lent) (r : WriterCount) → Write κs w rate out end r → AcceptsWrite w rate (now out) (r .answer)
-  write-accepted κs rate out end r a h given room =
-      let said = rw (write-given w (reached .sound .valid) rate (now out) given (omega arith)) at (a .answer) in
-      saidCounted-injective (r .answer) (counted.Count (length (frameBytes (writeShare h (means w) .frame)))) said
+  write-accepted κs rate out end r a =
+      record {
+        accepts = λ b given within room.
+            let g = share-there (rate .numer) (rate .denom) (means w) given (λ on. within (sym (carrying-means w) ∙ on)) in
+            let h = g .0 in
+            let said = rw (write-given w (reached .sound .valid) rate (now out) (g .1) (omega arith)) at (a .answer) in
+            (h, g .1, saidCounted-injective (r .answer) (counted.Count (length (frameBytes (writeShare h (means w) .frame)))) said);
+      }
 
   -- so many accepted writes drain a multiplexer, if nothing more is accepted: for each pair of either field two while the mode stays off, four while it
   -- stays on and the rate stays; and a quarter of the packet triples

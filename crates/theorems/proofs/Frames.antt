@@ -1,6 +1,6 @@
 -- A write that is accepted is a frame of the model, at the budgets of its rate, and any other changes nothing. Assumes nothing.
 use mathlib.Core.Path.{_≡_, refl, sym, ap}
-use mathlib.Core.Bool.{Bool, true, false}
+use mathlib.Core.Bool.{true, false}
 use mathlib.Core.List.{List, [], _∷_, _++_}
 use Prim.Native.Nat.{ℕ}
 use native.Mathlib.Omega.{arith}
@@ -13,7 +13,7 @@ use Rattle.model.specs.Said.{Outcome, gave, refused, putInto, badRate}
 use Rattle.model.specs.Frame.{frameBytes}
 use Rattle.model.specs.Rate as model
 use Rattle.model.specs.Rate.{Share}
-use Rattle.model.specs.Mux.{Mux, shareAt, writeShare, writeAt}
+use Rattle.model.specs.Mux.{shareAt, writeShare, writeAt}
 use Rattle.model.specs.Run.{writes, call, others}
 use Rattle.model.proofs.Cases.{by-test}
 use Rattle.model.proofs.Carrying.{OnlyBadRate, share-refused}

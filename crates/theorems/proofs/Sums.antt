@@ -1,48 +1,62 @@
 -- With the padding that fills it, a budget that is carried is shown by the bytes of the frames, and over the writes at one rate it adds up to what these
 -- are due. Assumes nothing.
-use mathlib.Core.Path.{_≡_, refl, sym, ap, _∙_}
-use mathlib.Core.Bool.{Bool, true, false}
-use mathlib.Core.List.{List, []}
+use mathlib.Core.Path.{_≡_, sym, ap, _∙_}
+use mathlib.Core.Bool.{true, false, false≢true}
+use mathlib.Core.List.{List}
 use Prim.Native.Nat.{ℕ}
-use lib.ListN.{length}
-use Rattle.model.specs.Rate.{rate}
-use Rattle.model.specs.Mux.{Mux, freshMux, withMode, flushMux}
-use Rattle.model_journey.specs.Sums.{Kind, dueOf, fills, shownIn}
+use contract.Lifetimes.{Lfts}
+use denote.Ref.{now}
+use Rattle.model.specs.Rate.{rate, Share, carriedOn}
+use Rattle.model.specs.Mux.{Mux, withMode, flushMux}
+use Rattle.model.proofs.Carrying.{share-on}
+use Rattle.model_journey.specs.Sums.{Kind, dueOf, fills, shownAll}
 use Rattle.model_journey.proofs.Triples.{Follow, stop}
 use Rattle.model_journey.proofs.Four.{follow-run}
 use Rattle.model_journey.proofs.Sums as journey
 use Rattle.caption.specs.declared.Framerate.{Framerate}
+use Rattle.caption.specs.declared.Counted.the-variants as counted
 use Rattle.writer.specs.Writer.{means, fresh}
 use Rattle.writer.proofs.Kept.{Sound, fresh-sound, emptied-sound}
 use Rattle.writer.specs.declared.CCDataWriter.{CCDataWriter}
 use Rattle.writer.specs.declared.WriterAnswer.{WriterAnswer}
+use Rattle.writer.specs.declared.WriterCount.{WriterCount}
 use Rattle.theorems.specs.Items.{Items}
-use Rattle.theorems.specs.Allowed.{NewWriter, SetCarrying, Flush}
+use Rattle.theorems.specs.Allowed.{Lent, SetCarrying, Flush, Write}
 use Rattle.theorems.specs.Writing.{Calls, Tested, Stays}
 use Rattle.theorems.specs.Sums as specs
 use Rattle.theorems.specs.Sums.{Reached, called, flushed, StartsAfresh, NothingCarried, AddsUp}
+use Rattle.theorems.proofs.Frames.{Writes, no-frame, one-frame, write-does}
 use Rattle.theorems.proofs.Sequences.{follows}
 use Rattle.theorems.proofs.Answered.{given}
 use Rattle.theorems.proofs.Bounds.{carrying-means}
 
 -- a state that calls have reached is within its limits, and the triples left of the packet being sent go on with it
-record Runs (w : CCDataWriter) : Type 0 where
+record Holds (w : CCDataWriter) : Type 0 where
   sound : Sound w
   follow : Follow (means w .sending)
 
 -- call by call
-runs : {w : CCDataWriter} → Reached w → Runs w
-runs {w} (specs.fresh new) =
+holds : {w : CCDataWriter} → Reached w → Holds w
+holds {w} (specs.fresh new) =
     let e : w ≡ fresh = new .1 in
     record { sound = rw e fresh-sound; follow = rw (new .0) stop }
-runs (called {w} d c) =
-    let k = runs d in
+holds (called {w} d c) =
+    let k = holds d in
     let f = follows c (k .sound) in
     record { sound = f .sound; follow = rw (f .last) at (follow-run (f .calls) (means w) (k .follow)) }
-runs (flushed {w} d r a) =
-    let k = runs d in
+holds (flushed {w} d r a) =
+    let k = holds d in
     let g = given a (flushMux (means w)) (rw (k .sound .valid)) .1 in
     record { sound = rw (g .1) (emptied-sound w (k .sound)); follow = rw (g .0) stop }
+
+-- what an accepted write keeps
+kept-by : (w : CCDataWriter) (speed : Framerate) (end : List ℕ) (r : WriterCount) → w .carrying ≡ true → (n : ℕ) → r .answer ≡ counted.Count n → Writes w speed end r
+    → (r .writer .carry .numer ≡ speed .numer) × (r .writer .carry .denom ≡ speed .denom)
+unfolding means carriedOn
+kept-by w speed end r on n e (no-frame why k same) = absurd (false≢true (cc))
+kept-by w speed end r on n e (one-frame h given counts first meant next) =
+    let s = share-on (speed .numer) (speed .denom) (means w .carry) (rw on at given) in
+    (ap (λ (x : Mux). x .carry .numer) meant ∙ ap (λ (x : Share). x .carry .numer) (s .is), ap (λ (x : Mux). x .carry .denom) meant ∙ ap (λ (x : Share). x .carry .denom) (s .is))
 
 module _ {w : CCDataWriter} (d : Reached w) where
   -- Over the first accepted writes at an unchanged rate since the sum began afresh, whatever else is called between them (no flush, no change of mode):
@@ -52,30 +66,35 @@ module _ {w : CCDataWriter} (d : Reached w) where
       → w .carrying ≡ true → StartsAfresh speed w → Stays true speed c → Tested (fills k) c → AddsUp k speed fs
   unfolding means
   sums k speed {fs} c on afresh stay filled =
-      let s = runs d in
+      let s = holds d in
       let f = follows c (s .sound) in
       let m = carrying-means w ∙ on in
       let a = journey.sums k (rate (speed .numer) (speed .denom)) (f .calls) (means w) m (f .steady true speed stay) afresh in
       let b = journey.run-shown k (f .calls) (means w) (f .allowed (fills k) filled) (s .follow) in
-      ap (shownIn k) (sym (f .frames)) ∙ b ∙ a ∙ ap (dueOf k (rate (speed .numer) (speed .denom))) (f .writes)
+      ap (shownAll k) (sym (f .frames)) ∙ b ∙ a ∙ ap (dueOf k (rate (speed .numer) (speed .denom))) (f .writes)
 
   -- the mode turned on from off: nothing is carried, so that every sum starts afresh (`no-parts`)
   pub turned-on : (r : WriterAnswer) → SetCarrying w true r → w .carrying ≡ false → (r .writer .carrying ≡ true) × NothingCarried (r .writer)
   unfolding means
   turned-on r a off =
-      let g = given a (withMode true (means w)) (rw (runs d .sound .valid)) .1 .0 in
+      let g = given a (withMode true (means w)) (rw (holds d .sound .valid)) .1 .0 in
       (ap (λ (s : Mux). s .carrying) g, ap (λ (s : Mux). s .carry) g ∙ rw off)
 
   -- turned off: the same
   pub turned-off : (r : WriterAnswer) → SetCarrying w false r → (r .writer .carrying ≡ false) × NothingCarried (r .writer)
   unfolding means
   turned-off r a =
-      let g = given a (withMode false (means w)) (rw (runs d .sound .valid)) .1 .0 in
+      let g = given a (withMode false (means w)) (rw (holds d .sound .valid)) .1 .0 in
       (ap (λ (s : Mux). s .carrying) g, ap (λ (s : Mux). s .carry) g)
 
   -- and with a flush, which leaves the mode
   pub flush-afresh : (r : WriterAnswer) → Flush w r → (r .writer .carrying ≡ w .carrying) × NothingCarried (r .writer)
   unfolding means
   flush-afresh r a =
-      let g = given a (flushMux (means w)) (rw (runs d .sound .valid)) .1 .0 in
+      let g = given a (flushMux (means w)) (rw (holds d .sound .valid)) .1 .0 in
       (ap (λ (s : Mux). s .carrying) g, ap (λ (s : Mux). s .carry) g)
+
+  -- an accepted write in the mode keeps its numer and denom, so that at another rate a sum starts afresh (`other-numer`, `other-denom`)
+  pub write-keeps : (κs : Lfts 1) (speed : Framerate) (out end : Lent) (r : WriterCount) → Write κs w speed out end r → w .carrying ≡ true → (n : ℕ) → r .answer ≡ counted.Count n
+      → (r .writer .carry .numer ≡ speed .numer) × (r .writer .carry .denom ≡ speed .denom)
+  write-keeps κs speed out end r a on n e = kept-by w speed (now end) r on n e (write-does κs w speed out end r (holds d .sound) a)

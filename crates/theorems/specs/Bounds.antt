@@ -1,12 +1,12 @@
 -- How soon what is queued leaves. Assumes nothing.
 use mathlib.Core.Path.{_≡_}
-use mathlib.Core.Bool.{Bool}
+use mathlib.Core.Bool.{Bool, true}
 use mathlib.Core.List.{List, _++_}
 use Prim.Native.Nat.{ℕ, _+_, _*_, _≤_, min}
 use lib.ListN.{length, take, drop}
 use Rattle.model.specs.Said.{gave}
 use Rattle.model.specs.Frame.{Pair, seenAll, triplesIn, mostFrame, frameBytes}
-use Rattle.model.specs.Rate.{Share}
+use Rattle.model.specs.Rate.{Budgets, budgets, mostTriples, Share}
 use Rattle.model.specs.Mux.{unsent, shareAt, writeShare}
 use Rattle.model_journey.specs.Bounds.{Field, the, Left, pace, packetTriplesIn}
 use Rattle.caption.specs.declared.Counted.{Counted}
@@ -35,10 +35,11 @@ pub record SendsFour (w : CCDataWriter) (frame : List ℕ) (w′ : CCDataWriter)
   pub four : min 4 (unsentOf w) ≤ packetTriplesOf frame
   pub no-other : packetTriplesOf frame + unsentOf w′ ≡ unsentOf w
 
--- a write that gets a share of its rate [G2] [G6], with room for the longest frame, is accepted: its answer counts the frame's bytes
-abbrev pub AcceptsWrite : CCDataWriter → Framerate → List ℕ → Counted → Type 0
-AcceptsWrite w rate out answer =
-    (h : Share) → shareAt (rate .numer) (rate .denom) (means w) ≡ gave h → mostFrame ≤ length out → answer ≡ Count (length (frameBytes (writeShare h (means w) .frame)))
+-- a write at an accepted rate, with room for the longest frame, is accepted: the rate has budgets [G2], and with the carrying mode on 600 · denom is
+-- within 31 · numer [G6]; the answer counts the bytes of the frame, which has its share of the rate
+pub record AcceptsWrite (w : CCDataWriter) (rate : Framerate) (out : List ℕ) (answer : Counted) : Type 0 where
+  pub accepts : (b : Budgets) → budgets (rate .numer) (rate .denom) ≡ gave b → (w .carrying ≡ true → 600 * rate .denom ≤ mostTriples * rate .numer) → mostFrame ≤ length out
+      → (h : Share) × (shareAt (rate .numer) (rate .denom) (means w) ≡ gave h) × (answer ≡ Count (length (frameBytes (writeShare h (means w) .frame))))
 
 -- the pairs of a field among items
 abbrev pub pairsAt : Field → Items → List Pair

@@ -4,7 +4,7 @@ use mathlib.Core.List.{List}
 use Prim.Native.Nat.{ℕ}
 use lib.ListN.{length}
 use Rattle.model.specs.Rate.{rate, noCarry}
-use Rattle.model_journey.specs.Sums.{Kind, dueOf, Afresh, shownIn}
+use Rattle.model_journey.specs.Sums.{Kind, dueOf, Afresh, shownAll}
 use Rattle.caption.specs.declared.Framerate.{Framerate}
 use Rattle.writer_shares.specs.Share.{carryOf}
 use Rattle.writer.specs.declared.CCDataWriter.{CCDataWriter}
@@ -29,4 +29,4 @@ NothingCarried w = carryOf (w .carry) ≡ noCarry
 
 -- what frames show of a kind of budget adds up to what so many are due at a rate, rounded down once [G4]
 abbrev pub AddsUp : Kind → Framerate → List (List ℕ) → Type 0
-AddsUp k speed fs = shownIn k fs ≡ dueOf k (rate (speed .numer) (speed .denom)) (length fs)
+AddsUp k speed fs = shownAll k fs ≡ dueOf k (rate (speed .numer) (speed .denom)) (length fs)

@@ -8,7 +8,7 @@ use borrow.Author.Tests.{lt-ltb, le-ltb, le-leb, ltb-true, ltb-false}
 use lib.Dec.{leb, ltb}
 use lib.ListN.{length, take, drop, replicate, length-append, length-replicate}
 use lib.Seq.{sets-eq, take-at}
-use Rattle.model.specs.Said.{Said, Outcome, gave, refused, accepted, says, after, checked, measured, mapped, putInto, badValue}
+use Rattle.model.specs.Said.{Outcome, gave, refused, accepted, says, after, checked, measured, mapped, putInto, badValue}
 use Rattle.model.specs.Frame as model
 use Rattle.model.specs.Frame.{Cea608, field1, field2, Pair, pair, Triple, tri, flat, frameBytes}
 use Rattle.model.specs.Rate.{Budgets, validCarry, Share, shareBy}

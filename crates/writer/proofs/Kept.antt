@@ -1,6 +1,6 @@
 -- What a caller may rely on: a fresh state is within the limits with arrays of their lengths, and every call leaves such a state in such a
 -- state. Assumes nothing.
-use mathlib.Core.Path.{_≡_, refl, sym, ap, _∙_}
+use mathlib.Core.Path.{_≡_, refl}
 use mathlib.Core.Bool.{Bool, true}
 use Rattle.model.specs.Lists.{every}
 use Rattle.model.specs.Rate.{validCarry, Share}

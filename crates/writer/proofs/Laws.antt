@@ -10,7 +10,7 @@ use lib.ListN.{length, getD, drop}
 use Rattle.model.specs.Said.{gave, putInto}
 use Rattle.model.specs.Frame.{frameBytes}
 use Rattle.model.specs.Rate.{validCarry, Share}
-use Rattle.model.specs.Mux.{Mux, freshMux, started, validMux, shareAt, writeShare, writeAt}
+use Rattle.model.specs.Mux.{freshMux, started, validMux, shareAt, writeShare, writeAt}
 use Rattle.model.proofs.Frames.{frame-length}
 use Rattle.model.proofs.Cases.{both}
 use Rattle.model.proofs.Carrying.{Shared, share-given}

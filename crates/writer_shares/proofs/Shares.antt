@@ -8,7 +8,7 @@ use lib.Dec.{eqb, ltb}
 use borrow.Author.Tests.{eq-eqb, ne-eqb, eqb-true, eqb-false, lt-ltb, le-ltb}
 use Rattle.model.specs.Said.{Outcome, gave, refused, saysWith, checked, badRate, badValue}
 use Rattle.model.specs.Rate as model
-use Rattle.model.specs.Rate.{pairsThenTriples, budgets, mostTriples, validCarry, goingOn, carried, leftOver, carriedOn, carriedAt, carriedShare, shareBy}
+use Rattle.model.specs.Rate.{pairsThenTriples, budgets, mostTriples, validCarry, goingOn, carriedBudget, leftOver, carriedOn, carriedAt, carriedShare, shareBy}
 use Rattle.model.proofs.Cases.{by-test, both, gives-at}
 use Rattle.model.proofs.Rates.{Rated, budgets-rated}
 use Rattle.model.proofs.Carrying.{Below, going-below, below}
@@ -62,18 +62,18 @@ module _ (n d : ℕ) (c : model.Carry) where
   goes-on e f = rw (eq-eqb (c .numer) n e, eq-eqb (c .denom) d f)
 
   -- of another numer
-  pub other-numer : (c .numer ≡ n → ⊥) → model.noCarry ≡ goingOn n d c
+  pub afresh-numer : (c .numer ≡ n → ⊥) → model.noCarry ≡ goingOn n d c
   unfolding goingOn
-  other-numer f = rw (ne-eqb (c .numer) n f)
+  afresh-numer f = rw (ne-eqb (c .numer) n f)
 
   -- of another denom
-  pub other-denom : c .numer ≡ n → (c .denom ≡ d → ⊥) → model.noCarry ≡ goingOn n d c
+  pub afresh-denom : c .numer ≡ n → (c .denom ≡ d → ⊥) → model.noCarry ≡ goingOn n d c
   unfolding goingOn
-  other-denom e f = rw (eq-eqb (c .numer) n e, ne-eqb (c .denom) d f)
+  afresh-denom e f = rw (eq-eqb (c .numer) n e, ne-eqb (c .denom) d f)
 
 -- a sum of fewer than 32 steps is cut into the budget and what it leaves over
-share-cut : (k n d rest : ℕ) → rest + k * d < 32 * n → cutOf (rest + k * d) n ≡ record { count = carried k n d rest; rest = leftOver k n d rest }
-unfolding carried leftOver
+share-cut : (k n d rest : ℕ) → rest + k * d < 32 * n → cutOf (rest + k * d) n ≡ record { count = carriedBudget k n d rest; rest = leftOver k n d rest }
+unfolding carriedBudget leftOver
 share-cut k n d rest h = cut-exact (rest + k * d) n h
 
 -- in the carrying mode, of a rate that has frames and of parts within their limits
@@ -88,13 +88,13 @@ module _ (n d : ℕ) (c : model.Carry) (ok : (validCarry c ≡ true) × (0 < n))
     rests = going-below n d c (ok .1) (ok .0)
 
     -- the pairs
-    pairs-cut : (p : Steps) → p ≡ cutOf (on .pairs + 60 * d) n → p ≡ record { count = carried 60 n d (goingOn n d c .pairs); rest = leftOver 60 n d (goingOn n d c .pairs) }
+    pairs-cut : (p : Steps) → p ≡ cutOf (on .pairs + 60 * d) n → p ≡ record { count = carriedBudget 60 n d (goingOn n d c .pairs); rest = leftOver 60 n d (goingOn n d c .pairs) }
     pairs-cut p e =
         let s = ap (λ (x : model.Carry). x .pairs) same in
         e ∙ ap (λ r. cutOf (r + 60 * d) n) s ∙ share-cut 60 n d (goingOn n d c .pairs) (omega (arith, rests .pairs))
 
     -- the triples
-    triples-cut : (t : Steps) → t ≡ cutOf (on .triples + 600 * d) n → t ≡ record { count = carried 600 n d (goingOn n d c .triples); rest = leftOver 600 n d (goingOn n d c .triples) }
+    triples-cut : (t : Steps) → t ≡ cutOf (on .triples + 600 * d) n → t ≡ record { count = carriedBudget 600 n d (goingOn n d c .triples); rest = leftOver 600 n d (goingOn n d c .triples) }
     triples-cut t e =
         let s = ap (λ (x : model.Carry). x .triples) same in
         e ∙ ap (λ r. cutOf (r + 600 * d) n) s ∙ share-cut 600 n d (goingOn n d c .triples) (omega (arith, rests .triples))

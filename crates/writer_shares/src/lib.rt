@@ -60,7 +60,7 @@ impl Carry {
                 return Share::Refused(Refusal::BadRate);
             };
             if carrying {
-                return self.carried(rate);
+                return self.carried_share(rate);
             }
             return Share::Of {
                 pairs,
@@ -84,7 +84,7 @@ impl Carry {
     }
 
     // What a frame gets in the carrying mode of a rate that has budgets.
-    fn carried(self, rate: Framerate) -> Share
+    fn carried_share(self, rate: Framerate) -> Share
         requires { ⌜ (validCarry (carryOf self) ≡ true) × (0 < rate .numer) ⌝ }
         ensures { λ r. ⌜ outcomeOf r ≡ carriedAt (rate .numer) (rate .denom) (carryOf self) ⌝ }
     {

@@ -23,8 +23,8 @@ returns c = let f = c .before .before in
     let s = f .before .before .before in
     no-share (s .args .carrying) (s .args .rate .numer) (s .args .rate .denom) (carryOf (s .args .self)) (sym (f .before .before .is-valid .ensures) ∙ f .before .if1 .taken) _ (f .budgets .ensures) (c .enum-told .given .1)
 
-carried-requires : tie.Need-carried-requires
-carried-requires c κs = let b = c .before .before in
+carried-share-requires : tie.Need-carried-share-requires
+carried-share-requires c κs = let b = c .before .before in
     let f = b .before .before in
     let s = f .before .before .before in
     let v = sym (f .before .before .is-valid .ensures) ∙ f .before .if1 .taken in
@@ -35,7 +35,7 @@ returns-2 c = let b = c .before .before .before in
     let f = b .before .before in
     let s = f .before .before .before in
     with-mode (s .args .carrying) (s .args .rate .numer) (s .args .rate .denom) (carryOf (s .args .self)) (sym (f .before .before .is-valid .ensures) ∙ f .before .if1 .taken) _ (f .budgets .ensures) _ _
-    (b .budgets2 .given .1) (c .before .if2 .taken) (c .carried .ensures)
+    (b .budgets2 .given .1) (c .before .if2 .taken) (c .carried-share .ensures)
 
 returns-3 : tie.Need-returns-3
 returns-3 c = let b = c .before .before in
@@ -56,7 +56,7 @@ share-spec =
     enum-known-budgets
     enum-told
     returns
-    carried-requires
+    carried-share-requires
     returns-2
     returns-3
     returns-4)

@@ -1,11 +1,11 @@
--- `writer_shares::Carry::carried` meets its contract: a sum of fewer than 32 steps is cut into a budget and what it leaves over. Assumes nothing.
+-- `writer_shares::Carry::carried_share` meets its contract: a sum of fewer than 32 steps is cut into a budget and what it leaves over. Assumes nothing.
 use mir.Facts.{fits-le}
 use native.Mathlib.Nat.{le-of-lt}
 use borrow.Author.Needs.{needs}
 use Rattle.writer_shares.specs.Share.{carryOf}
 use Rattle.writer_shares.proofs.Shares.{carried-over, pairs-rest, triples-rest, carried-is}
-use Rattle.writer_shares.proofs.Carry.carried.Statement.{statement}
-use Rattle.writer_shares.proofs.Carry.carried.Tie as tie
+use Rattle.writer_shares.proofs.Carry.carried_share.Statement.{statement}
+use Rattle.writer_shares.proofs.Carry.carried_share.Tie as tie
 
 cast-numer : tie.Need-cast-numer
 cast-numer c = search needs
@@ -71,8 +71,8 @@ returns-2 c = let g = c .before .before .before .before .before .before in
     carried-is (s .args .rate .numer) (s .args .rate .denom) (carryOf (s .args .self)) (s .pre) (i .if1 .left) _ (g .going-on .ensures) _ _
     (c .before .before .before .before .cut .ensures) (c .before .before .cut2 .ensures)
 
-pub carried-spec : {M : Type 1} → statement M
-carried-spec =
+pub carried-share-spec : {M : Type 1} → statement M
+carried-share-spec =
     tie.close
     (tie.spec
     cast-numer
