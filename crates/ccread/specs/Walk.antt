@@ -34,6 +34,6 @@ freshState = record { held = nothingRead; parser = turnedOn fresh }
 abbrev pub Steps : List ℕ → State → List ℕ → State → Type 0
 Steps buf s after r = Stepped mark tell buf (s .held) (s .parser) after (r .held) (r .parser)
 
--- all of an input is told
+-- all of some input is told
 abbrev pub Ran : List ℕ → State → Type 0
 Ran buf r = ToldSoFar mark tell true (freshState .parser) buf (r .held) (r .parser)

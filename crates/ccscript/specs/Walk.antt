@@ -38,6 +38,6 @@ freshState = record { held = nothingRead; machine = freshMachine }
 abbrev pub Steps : List ℕ → State → List ℕ → State → Type 0
 Steps buf s after r = Stepped mark tell buf (s .held) (s .machine) after (r .held) (r .machine)
 
--- all of an input is told
+-- all of some input is told
 abbrev pub Ran : List ℕ → State → Type 0
 Ran buf r = ToldSoFar mark tell true (freshState .machine) buf (r .held) (r .machine)

@@ -12,7 +12,7 @@ use Rattle.model.specs.Said.{Outcome, gave, refused, isGiven, mapped, ba
 use Rattle.model.specs.Rate.{Budgets, mostTriples, Carry, noCarry, validCarry, goingOn, carriedBudget, leftOver, Share, carriedOn, carriedShare, shareBy, rounded, pairsAt, triplesAt, budgets}
 use Rattle.model.specs.Run.{Accepted}
 use Rattle.model.proofs.Cases.{by-test, by-cond, both, Gives, gives-then, gives-mapped, gives-at}
-use Rattle.model.proofs.Rates.{Rated, budgets-rated}
+use Rattle.model.proofs.Rates.{Rated, budgets-rated, given}
 
 -- a budget and what it leaves over are what was left over and what came
 pub whole : (k n d rest : ℕ) → carriedBudget k n d rest * n + leftOver k n d rest ≡ rest + k * d
@@ -170,12 +170,8 @@ abbrev inARow : ℕ → ℕ → ℕ → Carry → List (Outcome Budgets)
 inARow zero n d c = []
 inARow (suc k) n d c = mapped (λ h. h .budgets) (shareBy true n d c) ∷ inARow k n d (carriedOn n d (goingOn n d c) .carry)
 
--- so many pairs and triples
-abbrev of : ℕ → ℕ → Outcome Budgets
-of pairs triples = gave (record { pairs = pairs; triples = triples })
-
 -- at 24 frames a second two pairs and three in turn; at 120 none and one
-pub first-budgets : (inARow 4 24 1 noCarry ≡ of 2 25 ∷ of 3 25 ∷ of 2 25 ∷ of 3 25 ∷ []) × (inARow 4 120 1 noCarry ≡ of 0 5 ∷ of 1 5 ∷ of 0 5 ∷ of 1 5 ∷ [])
+pub first-budgets : (inARow 4 24 1 noCarry ≡ given 2 25 ∷ given 3 25 ∷ given 2 25 ∷ given 3 25 ∷ []) × (inARow 4 120 1 noCarry ≡ given 0 5 ∷ given 1 5 ∷ given 0 5 ∷ given 1 5 ∷ [])
 unfolding shareBy carriedShare budgets rounded carriedOn goingOn carriedBudget leftOver
 first-budgets = (refl, refl)
 

@@ -11,7 +11,7 @@ use Rattle.model.specs.Lists.{every}
 use Rattle.model.specs.Packet.{Packet, validPacket}
 use Rattle.model.specs.Frame.{Triple, Pair, pair, Cea608, field1, field2, frameBytes, mostFrame}
 use Rattle.model.specs.Rate.{Budgets, Carry, noCarry, validCarry}
-use Rattle.model.specs.Mux.{Mux, freshMux, withPads, withCarry, withMode, Switch, paddings, carryingMode, withSwitch, flushMux, storable, validMux, queued, pushPacket, isNull, pushPair, pushCea608, Turned, turnsDue, turn1, turn2, turned, packetTriples, countDue, Sent, send, padding, framed, writeFrame}
+use Rattle.model.specs.Mux.{Mux, freshMux, withPads, withCarry, withMode, Switch, paddings, carryingMode, withSwitch, flushMux, storable, validMux, queued, pushPacket, isNull, pushPair, pushCea608, Turned, turnsDue, turn1, turn2, turned, packetTriples, triplesQueued, unsent, countDue, Sent, send, padding, framed, writeFrame}
 use Rattle.model.specs.Run.{Accepted}
 use Rattle.model.proofs.Cases.{by-test, by-cond, both, and-both, Gives, gives-mapped}
 use Rattle.model.proofs.Lists.{every-append}
@@ -185,6 +185,16 @@ triples-few p e =
     let v = valid-facts p (w .0) in
     omega (arith, triples-length p v (leb-true 1 (length (p .blocks)) (w .1)), v .length)
 
+-- so have as many of them
+queued-triples : (ps : List Packet) → every storable ps ≡ true → triplesQueued ps ≤ 64 * length ps
+unfolding triplesQueued every
+queued-triples [] v = omega arith
+queued-triples (p ∷ ps) v = let w = both (storable p) (every storable ps) v in omega (arith, triples-few p (w .0), queued-triples ps (w .1))
+
+-- and a multiplexer within its limits at most 1088 that are not yet sent
+pub unsent-few : (s : Mux) → MuxLimits s → unsent s ≤ 1088
+unsent-few s f = omega (arith, queued-triples (s .packets) (f .stored), f .packets, f .sending)
+
 -- packet triples are sent of packets that are stored
 send-leaves : (m : ℕ) (ts : List Triple) (ps : List Packet) → 2 * length ts ≤ 128 → every storable ps ≡ true → Leaves m ps (send m ts ps)
 unfolding send every
@@ -197,11 +207,11 @@ send-leaves m ts (p ∷ ps) h v =
     record { out = rw length-append (omega (arith, r .out, leb-false m (length ts) e)); packets = omega (arith, r .packets); stored = r .stored; sending = r .sending })
 
 -- padding fills up to the end
-padding-few : (on : Bool) (n : ℕ) → length (padding on n) ≤ n
+pub padding-few : (on : Bool) (n : ℕ) → length (padding on n) ≤ n
 unfolding padding
 padding-few on n = by-cond (λ (l : List Triple). length l ≤ n) on (λ _. rw length-replicate (omega arith)) (λ _. omega arith)
 
--- the count has room for the turns, and is at most the triples of the rate
+-- the count has room for the turns, and is at most the budget of triples
 count-room : (b : Budgets) (s : Mux) → b .pairs ≤ b .triples → (turnsDue (b .pairs) s ≤ countDue b s) × (countDue b s ≤ b .triples)
 unfolding countDue turnsDue
 count-room b s h = by-test (s .padOut) (λ p. by-test (s .pad608) (λ q. simp (p, q) (omega arith, omega arith)) (λ q. simp (p, q) (omega arith, omega arith)))
@@ -231,7 +241,7 @@ module _ (b : Budgets) (s : Mux) (f : MuxLimits s) where
         carry = f .carry;
       }
 
-  -- and has at most as many triples as its rate allows
+  -- and has at most its budget of triples
   triples-most : b .pairs ≤ b .triples → length (writeFrame b s .frame .triples) ≤ b .triples
   unfolding writeFrame framed
   triples-most h =

@@ -79,7 +79,7 @@ budgets-rated numer denom =
     record { some = some; slow = omega (arith, most 60 numer denom 1 some (s .some-pair)); sane = s })
 
 -- so many pairs and triples are given
-abbrev given : ℕ → ℕ → Outcome Budgets
+abbrev pub given : ℕ → ℕ → Outcome Budgets
 given pairs triples = gave (record { pairs = pairs; triples = triples })
 
 -- the budgets of the rates that have names

@@ -1,7 +1,7 @@
 -- What a call answers [A1]. Of several refusals that a call could give, the first of a fixed order is given [A4]. The calls of this folder are of
--- values within the limits, and test in that order from 6 on. That 11 comes before is `checked`: a contract puts it round the call, with the test of
--- this folder (`validBlock`, `validPacket`, `validDemux`, `validMux`) for what a value means, beside the test that its places are in order. Assumes
--- nothing.
+-- values within the limits, and test in that order from 6 on. That 11 comes before is `checked`: a contract puts it round the call; round a call of the
+-- demultiplexer, which tells its state after a refusal too, it puts the same choice of the answer and of the state. The test is that of this folder
+-- (`validBlock`, `validPacket`, `validDemux`, `validMux`) of what a value means, beside the test that its places are in order. Assumes nothing.
 use mathlib.Core.Bool.{Bool, true, false, cond}
 use mathlib.Core.List.{List, [], _∷_, _++_}
 use Prim.Native.Nat.{ℕ}

@@ -7,14 +7,14 @@ use native.Mathlib.Omega.{arith}
 use lib.ListN.{length}
 use Rattle.model.specs.Frame.{Triple, Seen, seenAll}
 use Rattle.model.specs.Rate.{Budgets, Share}
-use Rattle.model.specs.Mux.{Mux, freshMux, Sent, turnsDue, turned, unsent, countDue, padding, framed, writeFrame, writeShare}
+use Rattle.model.specs.Mux.{Mux, Sent, turnsDue, turned, unsent, countDue, padding, framed, writeFrame, writeShare}
 use Rattle.model.specs.Run.{Call, pushes, pushes608, sets, writes, call, run, Accepted}
 use Rattle.model_journey.specs.Bounds.{packetTriplesIn, SendsFour}
 use Rattle.model_journey.proofs.Parts.{In608, end6, one6, two6, void6, seen-append}
 use Rattle.model_journey.proofs.Padding.{padding-none}
 use Rattle.model_journey.proofs.Turns.{turns-seen, turns-count}
 use Rattle.model_journey.proofs.Sending.{numbers, sentBy, remains}
-use Rattle.model_journey.proofs.Triples.{Follow, stop, sent-only}
+use Rattle.model_journey.proofs.Triples.{Follow, sent-only}
 use Rattle.model_journey.proofs.Count.{turns-most}
 use Rattle.model_journey.proofs.Calls.{quiet-switch, quiet-608, quiet-push}
 
@@ -50,12 +50,6 @@ sent-in b s f =
     rw (seen-append (turned n s .out) (o .out ++ pad), none-608 (turns-seen n s) (seenAll (o .out ++ pad)), seen-append (o .out) pad)
     (omega (arith, sent-only m f (s .packets) .number (seenAll pad), padding-none (s .padOut) (m - length (o .out))))
 
--- a write in any state whose triples left go on with a packet
-pub four-at : (h : Share) (s : Mux) → h .budgets .pairs + 4 ≤ h .budgets .triples → Follow (s .sending) → SendsFour s (writeShare h s)
-four-at h s apart f =
-    let b : Budgets = h .budgets in
-    record { four = omega (arith, sent-in b s f, sends-four b s apart); no-other = omega (arith, sent-in b s f, remains b s) }
-
 -- the triples left of one write go on with a packet
 pub follow-write : (h : Share) (s : Mux) → Follow (s .sending) → Follow (writeShare h s .next .sending)
 unfolding writeFrame framed
@@ -70,6 +64,8 @@ follow-run (pushes608 x ∷ cs) s f = follow-run cs (call (pushes608 x) s .last)
 follow-run (sets x ∷ cs) s f = follow-run cs (call (sets x) s .last) (rw (quiet-switch x s .sending) f)
 follow-run (writes h ∷ cs) s f = follow-run cs (writeShare h s .next) (follow-write h s f)
 
--- each write sends at least four packet triples, or all that are left [J4]: after any calls on a fresh multiplexer
-pub four : (cs : List Call) (h : Share) → Accepted (h .budgets) → SendsFour (run cs freshMux .last) (writeShare h (run cs freshMux .last))
-four cs h a = four-at h (run cs freshMux .last) (a .apart) (follow-run cs freshMux stop)
+-- each write sends at least four packet triples, or all that are left [J4], in any state whose triples left go on with a packet
+pub four : (h : Share) (s : Mux) → Accepted (h .budgets) → Follow (s .sending) → SendsFour s (writeShare h s)
+four h s a f =
+    let b : Budgets = h .budgets in
+    record { four = omega (arith, sent-in b s f, sends-four b s (a .apart)); no-other = omega (arith, sent-in b s f, remains b s) }

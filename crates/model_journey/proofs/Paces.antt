@@ -1,13 +1,13 @@
 -- How many writes have a pair: all of them while the carrying mode is off; and while it is on and the rate stays, one of any two. Assumes nothing.
 use mathlib.Core.Path.{_≡_, refl, _∙_}
-use mathlib.Core.Bool.{Bool, true, false}
+use mathlib.Core.Bool.{Bool, true, false, cond}
 use mathlib.Core.List.{List, [], _∷_}
 use Prim.Native.Nat.{ℕ, zero, suc, _+_, _*_, _≤_, _<_}
 use native.Mathlib.Nat.{zero-mul}
 use native.Mathlib.Omega.{arith}
 use lib.ListN.{length}
 use Rattle.model.specs.Rate.{Rate, Budgets, Carry, goingOn, Share, carriedOn}
-use Rattle.model.specs.Mux.{Mux}
+use Rattle.model.specs.Mux.{Mux, mostQueued}
 use Rattle.model.specs.Run.{Call, pushes, pushes608, sets, writes, call, PairBeside, OneOfTwo, AllPaired, StaysCall, Stays}
 use Rattle.model.proofs.Carrying.{whole, least, Carries, share-on, share-off, going-on}
 use Rattle.model_journey.specs.Bounds.{budgetsIn, writesIn, pairedIn, pace}
@@ -93,3 +93,8 @@ every (b ∷ bs) w = let i = every bs (w .1) in let k = w .0 in omega arith
 pub paced : (on : Bool) (r : Rate) (cs : List Call) (s : Mux) → s .carrying ≡ on → Stays on r cs s → (i : ℕ) → pace on * i ≤ writesIn cs → 2 * i ≤ pairedIn (budgetsIn cs)
 paced true r cs s m st i h = omega (arith, half (budgetsIn cs) (one-of-two true r cs s m st))
 paced false r cs s m st i h = omega (arith, every (budgetsIn cs) (off-paired r cs s m st))
+
+-- the 64 places of a queue take 128 writes while the mode stays off, and 256 while it stays on [S2] [J3]
+pub places : (on : Bool) (i n : ℕ) → i ≤ mostQueued → cond on 256 128 ≤ n → pace on * i ≤ n
+places true i n few many = omega arith
+places false i n few many = omega arith

@@ -3,14 +3,14 @@
 use mathlib.Core.Path.{_≡_, refl, sym, ap, _∙_}
 use mathlib.Core.Bool.{true, _&&_}
 use mathlib.Core.List.{List, [], _∷_, _++_}
-use Prim.Native.Nat.{ℕ, suc, _+_, _-_, _*_, _<_}
+use Prim.Native.Nat.{ℕ, suc, _+_, _-_, _*_, _/_, _<_}
 use native.Mathlib.Nat.{add-mul, one-mul, mul-add, zero-mul, mul-zero, zero-div, div-eq-of-lt-le}
 use native.Mathlib.Omega.{arith}
 use lib.Dec.{eqb}
 use lib.ListN.{length}
 use borrow.Author.Tests.{eqb-true, eqb-false, ne-eqb}
 use Rattle.model.specs.Frame.{Triple, field1, field2, Seen, seenAll, frameBytes}
-use Rattle.model.specs.Rate.{Rate, rate, Budgets, Carry, noCarry, goingOn, Share, carriedOn}
+use Rattle.model.specs.Rate.{Rate, rate, Budgets, rounded, pairsAt, triplesAt, Carry, noCarry, goingOn, Share, carriedOn}
 use Rattle.model.specs.Mux.{Mux, turnsDue, turned, countDue, padding, framed, writeFrame, writeShare}
 use Rattle.model.specs.Run.{Call, pushes, pushes608, sets, writes, call, run, Accepted, Allowed, Stays}
 use Rattle.model.proofs.Cases.{by-test, by-cond, both}
@@ -172,6 +172,8 @@ run-shown k (sets x ∷ cs) s a f = run-shown k cs _ (a .1) (rw (quiet-switch x 
 run-shown k (writes h ∷ cs) s a f =
     rw (write-shown k h s (a .0 .0) (a .0 .1) f) (ap (λ n. budgetOf k (h .budgets) + n) (run-shown k cs (writeShare h s .next) (a .1) (follow-write h s f)))
 
--- an hour at 24000/1001 is 86,313 frames and a part: so many triples and pairs are due, where rounding in each frame gives 2,157,825 and 258,939
-pub an-hour : (dueOf ofTriples (rate 24000 1001) 86313 ≡ 2159982) × (dueOf ofPairs (rate 24000 1001) 86313 ≡ 215998)
-an-hour = (refl, refl)
+-- An hour at 24000/1001 is 86,313 frames and a part: so many triples and pairs are due; rounded in each frame so many are given.
+pub an-hour : (3600 * 24000 / 1001 ≡ 86313) × (dueOf ofTriples (rate 24000 1001) 86313 ≡ 2159982) × (dueOf ofPairs (rate 24000 1001) 86313 ≡ 215998)
+    × (86313 * triplesAt 24000 1001 ≡ 2157825) × (86313 * pairsAt 24000 1001 ≡ 258939)
+unfolding rounded
+an-hour = (refl, refl, refl, refl, refl)

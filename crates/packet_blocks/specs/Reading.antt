@@ -1,4 +1,4 @@
--- What reading a packet answers, with the places that it fills. Assumes nothing.
+-- What reading a packet answers, with the places that it fills. No public contract of `packet` reaches this file. Assumes nothing.
 use mathlib.Core.Path.{_≡_}
 use mathlib.Core.List.{List}
 use Prim.Native.Nat.{ℕ, _+_, _*_, _≤_}

@@ -1,7 +1,7 @@
 -- How soon what is queued leaves, for any sequence of calls that the contracts allow. Assumes nothing.
 use mathlib.Core.Path.{_≡_, refl, sym, ap, _∙_}
 use mathlib.Core.Bool.{Bool, true, false≢true}
-use mathlib.Core.List.{List, []}
+use mathlib.Core.List.{List}
 use Prim.Native.Nat.{ℕ, _+_, _*_, _≤_}
 use native.Mathlib.Omega.{arith}
 use lib.ListN.{length, take, drop, length-map}
@@ -13,7 +13,7 @@ use Rattle.model.specs.Packet.{Packet}
 use Rattle.model.specs.Frame as model
 use Rattle.model.specs.Frame.{frameBytes, triplesIn}
 use Rattle.model.specs.Rate.{Budgets, budgets, mostTriples, goingOn, Share, carriedOn}
-use Rattle.model.specs.Mux.{Mux, freshMux, shareAt, writeShare}
+use Rattle.model.specs.Mux.{Mux, shareAt, writeShare}
 use Rattle.model.specs.Run as runs
 use Rattle.model.proofs.Cases.{by-test}
 use Rattle.model.proofs.Frames.{unflat}
@@ -32,16 +32,18 @@ use Rattle.slots.specs.Slot.{readSlot}
 use Rattle.writer.specs.Writer.{means}
 use Rattle.writer_sending.proofs.Triples.{left-length}
 use Rattle.writer.proofs.Kept.{Sound, sound-ok}
-use Rattle.writer.proofs.Laws.{share-within, write-given}
+use Rattle.writer.proofs.Valid.{share-within}
+use Rattle.writer.proofs.Laws.{write-given}
 use Rattle.writer.specs.declared.CCDataWriter.{CCDataWriter}
 use Rattle.writer.specs.declared.WriterCount.{WriterCount}
 use Rattle.theorems.specs.Items.{Items, noItems}
-use Rattle.theorems.specs.Allowed.{Lent, NewWriter, Write}
-use Rattle.theorems.specs.Writing.{Calls, Tested, Stays, Drained}
+use Rattle.theorems.specs.Allowed.{Lent, Write}
+use Rattle.theorems.specs.Writing.{Calls, Reached, Stays, Drained}
 use Rattle.theorems.specs.Bounds.{queueAt, pairsAt, SendsFour, AcceptsWrite, LeavesInTime, DrainsInTime}
 use Rattle.theorems.proofs.Following.{Tests, Staying, Follows}
 use Rattle.theorems.proofs.Frames.{Writes, no-frame, one-frame, write-does}
-use Rattle.theorems.proofs.Sequences.{follows, from-fresh}
+use Rattle.theorems.proofs.Sequences.{follows}
+use Rattle.theorems.proofs.Reached.{holds}
 
 -- the triples in a frame's bytes are the frame's
 frame-triples : (f : model.Frame) → triplesIn (drop 2 (frameBytes f)) ≡ f .triples
@@ -105,18 +107,14 @@ share-there n d s {b} e within =
     (λ on. (carriedOn n d (goingOn n d (s .carry)), rw on (share-accepts n d (s .carry) e (within on))))
     (λ off. (record { budgets = b; carry = s .carry }, rw off (share-rounds n d (s .carry) e)))
 
--- a state that calls of a fresh multiplexer have reached
-module _ {w₀ w : CCDataWriter} {fs₀ : List (List ℕ)} {is₀ : Items} (new : NewWriter w₀) (before : Calls w₀ fs₀ is₀ w) where
-  -- these calls in the model
-  abbrev reached : Follows freshMux [] fs₀ is₀ w (λ passes. Tested passes before) (λ mode speed. Stays mode speed before)
-  reached = from-fresh new before
-
+-- a state that calls have reached, flushes among them
+module _ {w : CCDataWriter} (d : Reached w) where
   -- the pair at place i has left after 2i accepted writes while the mode stays off, after 4i while it stays on and the rate stays [J3]: once so many or
   -- more are accepted, whatever is pushed or padded between them, the first i places of what was queued have gone
   pub pair-leaves : (mode : Bool) (speed : Framerate) {w′ : CCDataWriter} {fs : List (List ℕ)} {is : Items} (c : Calls w fs is w′)
       → w .carrying ≡ mode → Stays mode speed c → (f : Field) → LeavesInTime mode f w fs is w′
   pair-leaves mode speed {w′} c set stay f i there writes =
-      let k = follows c (reached .sound) in
+      let k = follows c (holds d .sound) in
       let l = leaves.leaves mode _ f (k .calls) (means w) (carrying-means w ∙ set) (k .steady mode speed stay) i (rw (queue-means f w) there) (rw (k .writes) writes) in
       rw (came f k, k .last, queue-means f w, queue-means f w′) at l
 
@@ -130,8 +128,8 @@ module _ {w₀ w : CCDataWriter} {fs₀ : List (List ℕ)} {is₀ : Items} (new 
   pub sends-four : (κs : Lfts 1) (rate : Framerate) (out end : Lent) (r : WriterCount) → Write κs w rate out end r
       → (n : ℕ) → r .answer ≡ counted.Count n → SendsFour w (take n (now end)) (r .writer)
   sends-four κs rate out end r a n e =
-      let k = reached in
-      four-by w rate (now end) r (k .sound) n e (λ h accepted. rw (k .last) at (four.four (k .calls) h accepted)) (write-does κs w rate out end r (k .sound) a)
+      let k = holds d in
+      four-by w rate (now end) r (k .sound) n e (λ h accepted. four.four h (means w) accepted (k .follow)) (write-does κs w rate out end r (k .sound) a)
 
   -- a write at an accepted rate, with room for the longest frame, is accepted
   pub write-accepted : (κs : Lfts 1) (rate : Framerate) (out end : Lent) (r : WriterCount) → Write κs w rate out end r → AcceptsWrite w rate (now out) (r .answer)
@@ -140,7 +138,7 @@ module _ {w₀ w : CCDataWriter} {fs₀ : List (List ℕ)} {is₀ : Items} (new 
         accepts = λ b given within room.
             let g = share-there (rate .numer) (rate .denom) (means w) given (λ on. within (sym (carrying-means w) ∙ on)) in
             let h = g .0 in
-            let said = rw (write-given w (reached .sound .valid) rate (now out) (g .1) (omega arith)) at (a .answer) in
+            let said = rw (write-given w (holds d .sound .valid) rate (now out) (g .1) (omega arith)) at (a .answer) in
             (h, g .1, saidCounted-injective (r .answer) (counted.Count (length (frameBytes (writeShare h (means w) .frame)))) said);
       }
 
@@ -148,8 +146,8 @@ module _ {w₀ w : CCDataWriter} {fs₀ : List (List ℕ)} {is₀ : Items} (new 
   -- stays on and the rate stays; and a quarter of the packet triples
   pub writes-drain : (mode : Bool) (speed : Framerate) {w′ : CCDataWriter} {fs : List (List ℕ)} (c : Calls w fs noItems w′) → w .carrying ≡ mode → Stays mode speed c → DrainsInTime mode w fs w′
   writes-drain mode speed {w′} c set stay k₁ k₂ u =
-      let ok = sound-ok w (reached .sound) in
-      let k = follows c (reached .sound) in
+      let ok = sound-ok w (holds d .sound) in
+      let k = follows c (holds d .sound) in
       let n₁ = ap length (queue-means one w) ∙ queue-length (w .field1) (ok .first) in
       let n₂ = ap length (queue-means two w) ∙ queue-length (w .field2) (ok .second) in
       drained-back w′ (k .sound)

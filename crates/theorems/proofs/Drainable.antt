@@ -20,7 +20,8 @@ use Rattle.caption.specs.declared.Framerate.{Framerate}
 use Rattle.packet.specs.Packet.{packetOf}
 use Rattle.writer.specs.Writer.{means, validWriter, stored, moved}
 use Rattle.writer.specs.Calls.{Answers}
-use Rattle.writer.proofs.Laws.{share-within, write-given}
+use Rattle.writer.proofs.Valid.{share-within}
+use Rattle.writer.proofs.Laws.{write-given}
 use Rattle.writer.proofs.Builds.{means-frame}
 use Rattle.writer.proofs.Stored.{Grows, grows-switch, means-stored}
 use Rattle.writer.proofs.Kept.{Sound, sound-ok, sound-order, sound-mux, stored-sound, moved-sound}
@@ -30,6 +31,7 @@ use Rattle.writer.specs.declared.WriterCount.{WriterCount}
 use Rattle.theorems.specs.Items.{Items, noItems, andThen, ifNonempty, onePair}
 use Rattle.theorems.specs.Allowed.{Lent, NewWriter, Write}
 use Rattle.theorems.specs.Writing.{ifAccepted, Calls, no-call, push-packet, push-cea608, set-cea608-padding, set-padding, set-carrying, write, frameIn, Padded, Stays, Drained, Drains}
+use Rattle.theorems.specs.Writing as writing
 use Rattle.theorems.specs.Bounds.{unsentOf}
 use Rattle.theorems.proofs.Following.{items-same}
 use Rattle.theorems.proofs.Sequences.{from-fresh}
@@ -131,7 +133,7 @@ draining {w} κs new before =
       last = m .last;
       calls = c;
       padded = m .padded;
-      drained = writes-drain new before (w .carrying) rate c refl (m .steady (w .carrying)) (enough (w .carrying) (w .field1 .count) (omega arith)) (enough (w .carrying) (w .field2 .count) (omega arith))
+      drained = writes-drain (writing.called (writing.fresh new) before) (w .carrying) rate c refl (m .steady (w .carrying)) (enough (w .carrying) (w .field1 .count) (omega arith)) (enough (w .carrying) (w .field2 .count) (omega arith))
           (omega arith);
     }
 

@@ -1,4 +1,4 @@
--- A write that is accepted is a frame of the model, at the budgets of its rate, and any other changes nothing. Assumes nothing.
+-- A write that is accepted is a frame of the model, with its share of the rate, and any other changes nothing. Assumes nothing.
 use mathlib.Core.Path.{_≡_, refl, sym, ap}
 use mathlib.Core.Bool.{true, false}
 use mathlib.Core.List.{List, [], _∷_, _++_}
@@ -26,7 +26,7 @@ use Rattle.caption.specs.declared.Framerate.{Framerate}
 use Rattle.writer.specs.Writer.{means, moved}
 use Rattle.writer.specs.Calls as promise
 use Rattle.writer.specs.Calls.{written}
-use Rattle.writer.proofs.Laws.{share-within}
+use Rattle.writer.proofs.Valid.{share-within}
 use Rattle.writer.proofs.Kept.{Sound, moved-sound}
 use Rattle.writer.specs.declared.CCDataWriter.{CCDataWriter}
 use Rattle.writer.specs.declared.WriterCount.{WriterCount}

@@ -7,10 +7,12 @@ pub mod Packets
 pub mod Pairs
 pub mod Frames
 pub mod Sequences
+pub mod Reached
 pub mod Queued
 pub mod Trip
 pub mod Distinct
 pub mod Bounds
+pub mod Figures
 pub mod SoFar
 pub mod Given
 pub mod Types

@@ -10,44 +10,22 @@ use Rattle.model.specs.Rate.{rate, Share, carriedOn}
 use Rattle.model.specs.Mux.{Mux, withMode, flushMux}
 use Rattle.model.proofs.Carrying.{share-on}
 use Rattle.model_journey.specs.Sums.{Kind, dueOf, fills, shownAll}
-use Rattle.model_journey.proofs.Triples.{Follow, stop}
-use Rattle.model_journey.proofs.Four.{follow-run}
 use Rattle.model_journey.proofs.Sums as journey
 use Rattle.caption.specs.declared.Framerate.{Framerate}
 use Rattle.caption.specs.declared.Counted.the-variants as counted
-use Rattle.writer.specs.Writer.{means, fresh}
-use Rattle.writer.proofs.Kept.{Sound, fresh-sound, emptied-sound}
+use Rattle.writer.specs.Writer.{means}
 use Rattle.writer.specs.declared.CCDataWriter.{CCDataWriter}
 use Rattle.writer.specs.declared.WriterAnswer.{WriterAnswer}
 use Rattle.writer.specs.declared.WriterCount.{WriterCount}
 use Rattle.theorems.specs.Items.{Items}
 use Rattle.theorems.specs.Allowed.{Lent, SetCarrying, Flush, Write}
-use Rattle.theorems.specs.Writing.{Calls, Tested, Stays}
-use Rattle.theorems.specs.Sums as specs
-use Rattle.theorems.specs.Sums.{Reached, called, flushed, StartsAfresh, NothingCarried, AddsUp}
+use Rattle.theorems.specs.Writing.{Calls, Reached, Tested, Stays}
+use Rattle.theorems.specs.Sums.{StartsAfresh, NothingCarried, AddsUp}
 use Rattle.theorems.proofs.Frames.{Writes, no-frame, one-frame, write-does}
 use Rattle.theorems.proofs.Sequences.{follows}
 use Rattle.theorems.proofs.Answered.{given}
+use Rattle.theorems.proofs.Reached.{holds}
 use Rattle.theorems.proofs.Bounds.{carrying-means}
-
--- a state that calls have reached is within its limits, and the triples left of the packet being sent go on with it
-record Holds (w : CCDataWriter) : Type 0 where
-  sound : Sound w
-  follow : Follow (means w .sending)
-
--- call by call
-holds : {w : CCDataWriter} → Reached w → Holds w
-holds {w} (specs.fresh new) =
-    let e : w ≡ fresh = new .1 in
-    record { sound = rw e fresh-sound; follow = rw (new .0) stop }
-holds (called {w} d c) =
-    let k = holds d in
-    let f = follows c (k .sound) in
-    record { sound = f .sound; follow = rw (f .last) at (follow-run (f .calls) (means w) (k .follow)) }
-holds (flushed {w} d r a) =
-    let k = holds d in
-    let g = given a (flushMux (means w)) (rw (k .sound .valid)) .1 in
-    record { sound = rw (g .1) (emptied-sound w (k .sound)); follow = rw (g .0) stop }
 
 -- what an accepted write keeps
 kept-by : (w : CCDataWriter) (speed : Framerate) (end : List ℕ) (r : WriterCount) → w .carrying ≡ true → (n : ℕ) → r .answer ≡ counted.Count n → Writes w speed end r

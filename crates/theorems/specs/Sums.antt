@@ -8,16 +8,6 @@ use Rattle.model_journey.specs.Sums.{Kind, dueOf, Afresh, shownAll}
 use Rattle.caption.specs.declared.Framerate.{Framerate}
 use Rattle.writer_shares.specs.Share.{carryOf}
 use Rattle.writer.specs.declared.CCDataWriter.{CCDataWriter}
-use Rattle.writer.specs.declared.WriterAnswer.{WriterAnswer}
-use Rattle.theorems.specs.Items.{Items}
-use Rattle.theorems.specs.Allowed.{NewWriter, Flush}
-use Rattle.theorems.specs.Writing.{Calls}
-
--- a state that any calls have reached, flushes among them
-pub data Reached : CCDataWriter → Type 0 where
-  fresh : {w : CCDataWriter} → NewWriter w → Reached w
-  called : {w w′ : CCDataWriter} {fs : List (List ℕ)} {is : Items} → Reached w → Calls w fs is w′ → Reached w′
-  flushed : {w : CCDataWriter} → Reached w → (r : WriterAnswer) → Flush w r → Reached (r .writer)
 
 -- a sum starts afresh at a rate: nothing is carried, or another numer or denom [G5]
 abbrev pub StartsAfresh : Framerate → CCDataWriter → Type 0

@@ -23,7 +23,7 @@ use Rattle.writer.specs.declared.CCDataWriter.{CCDataWriter}
 use Rattle.writer.specs.declared.WriterAnswer.{WriterAnswer}
 use Rattle.writer.specs.declared.WriterCount.{WriterCount}
 use Rattle.theorems.specs.Items.{Items, noItems, andThen, ifNonempty, onePair}
-use Rattle.theorems.specs.Allowed.{Lent, PushPacket, PushCea608, SetCea608Padding, SetPadding, SetCarrying, Write}
+use Rattle.theorems.specs.Allowed.{Lent, NewWriter, PushPacket, PushCea608, SetCea608Padding, SetPadding, SetCarrying, Flush, Write}
 
 -- the arrays of a packet have the places that their types give them
 pub record Typed (d : DTVCCPacket) : Type 0 where
@@ -58,6 +58,12 @@ pub data Calls : CCDataWriter → List (List ℕ) → Items → CCDataWriter →
       → Calls (r .writer) fs is w′ → Calls w fs is w′
   write : {w w′ : CCDataWriter} {fs : List (List ℕ)} {is : Items} (κs : Lfts 1) (rate : Framerate) (out end : Lent) (r : WriterCount) → Write κs w rate out end r
       → Calls (r .writer) fs is w′ → Calls w (frameIn (r .answer) (now end) ++ fs) is w′
+
+-- a state that any calls have reached, flushes among them
+pub data Reached : CCDataWriter → Type 0 where
+  fresh : {w : CCDataWriter} → NewWriter w → Reached w
+  called : {w w′ : CCDataWriter} {fs : List (List ℕ)} {is : Items} → Reached w → Calls w fs is w′ → Reached w′
+  flushed : {w : CCDataWriter} → Reached w → (r : WriterAnswer) → Flush w r → Reached (r .writer)
 
 -- whether a write that is accepted is of a multiplexer that passes a test
 abbrev pub TestedAt : (Mux → Bool) → Counted → CCDataWriter → Type 0

@@ -6,17 +6,18 @@ use Prim.Native.Nat.{ℕ, _+_, _-_, _*_, _≤_, _<_, min}
 use native.Mathlib.Omega.{arith}
 use borrow.Author.Tests.{lt-ltb, le-ltb, le-leb, ltb-true, ltb-false}
 use lib.Dec.{leb, ltb}
-use lib.ListN.{length, take, drop, replicate, length-append, length-replicate}
+use lib.ListN.{length, take, drop, replicate, length-append}
 use lib.Seq.{sets-eq, take-at}
 use Rattle.model.specs.Said.{Outcome, gave, refused, accepted, says, after, checked, measured, mapped, putInto, badValue}
 use Rattle.model.specs.Frame as model
-use Rattle.model.specs.Frame.{Cea608, field1, field2, Pair, pair, Triple, tri, flat, frameBytes}
+use Rattle.model.specs.Frame.{Cea608, field1, field2, Pair, pair, Triple, flat, frameBytes}
 use Rattle.model.specs.Rate.{Budgets, validCarry, Share, shareBy}
 use Rattle.model.specs.Mux.{Mux, Turned, turned, turnsDue, countDue, Sent, send, padding, framed, writeFrame, shareAt, writeShare, writeAt, Switch, withSwitch, withQueues, flushMux, pushPair, pushCea608, mostQueued}
 use Rattle.model.specs.Duration.{pairsDuration, bytesDuration, bytesLeft, field1Duration, field2Duration, packetDuration}
 use Rattle.model.proofs.Cases.{by-test, by-cond, Gives}
 use Rattle.model.proofs.Frames.{flat-length, frame-length}
-use Rattle.model.proofs.Carrying.{Shared, share-given}
+use Rattle.model.proofs.Carrying.{Shared}
+use Rattle.model.proofs.MuxStates.{padding-few}
 use Rattle.caption.specs.Answers.{saidRefusal, saidAnswer}
 use Rattle.caption.specs.declared.Answer.{Answer}
 use Rattle.caption.specs.declared.Answer.the-variants as answer
@@ -42,7 +43,7 @@ use Rattle.writer_sending.proofs.Queues.{sets-own}
 use Rattle.writer_sending.proofs.Triples.{left-length, left-triples}
 use Rattle.writer_sending.proofs.Sends.{lengths-queued}
 use Rattle.writer_sending.proofs.Fills.{send-few}
-use Rattle.writer.proofs.Valid.{Shaped, Ok, Order, valid-order, valid-ok, valid-carry, valid-mux}
+use Rattle.writer.proofs.Valid.{Shaped, Ok, Order, valid-order, valid-ok, valid-carry, valid-mux, share-within}
 use Rattle.writer.proofs.Builds.{laid, Builds, built-is, leaves, count-most, count-least, means-frame}
 use Rattle.writer.proofs.Stored.{Grows, grows-switch, grows-pair, stored-switch, stored-first, stored-second, means-stored, means-emptied}
 use Rattle.writer.specs.declared.CCDataWriter.{CCDataWriter}
@@ -97,7 +98,7 @@ module _ (w : CCDataWriter) (h : Shaped w) {v : Bool} (e : v ≡ validWriter w) 
   -- a switch is set
   pub switch-set : (x : Switch) (y : CCDataWriter) → y ≡ switched x w
       → Answers (checked (validWriter w) (gave (withSwitch x (means w)))) (stored w) w (record { answer = answer.Accepted; writer = y })
-  switch-set x y z = accepted-value w e (withSwitch x (means w)) (stored w) y t (z ∙ sym (stored-switch w order x)) (means-stored w order ok _ (grows-switch (means w) (valid-mux w h valid) x))
+  switch-set x y z = accepted-value w e (withSwitch x (means w)) (stored w) y t (z ∙ sym (stored-switch w order x)) (means-stored w order ok _ (grows-switch (means w) (valid-mux w valid) x))
 
   -- flush
   pub flushes : (y : CCDataWriter) → y ≡ emptied w (flushMux (means w)) → Answers (checked (validWriter w) (gave (flushMux (means w)))) (emptied w) w (record { answer = answer.Accepted; writer = y })
@@ -106,7 +107,7 @@ module _ (w : CCDataWriter) (h : Shaped w) {v : Bool} (e : v ≡ validWriter w) 
   -- a pair that goes to its field's queue
   pushes : (y : Cea608) {r : Answer} {x : CCDataWriter} → saidAnswer r ≡ says (pushCea608 y (means w)) → x ≡ after w (mapped (stored w) (pushCea608 y (means w)))
       → Answers (checked (validWriter w) (pushCea608 y (means w))) (stored w) w (record { answer = r; writer = x })
-  pushes y a z = rw valid (answered (pushCea608 y (means w)) a z (given-means (pushCea608 y (means w)) (grows-pair (means w) (valid-mux w h valid) y)))
+  pushes y a z = rw valid (answered (pushCea608 y (means w)) a z (given-means (pushCea608 y (means w)) (grows-pair (means w) (valid-mux w valid) y)))
     where
       -- what it gives is meant
       given-means : (o : Outcome Mux) → Gives (Grows (means w)) o → Gives (λ (x : Mux). means (stored w x) ≡ x) o
@@ -191,11 +192,6 @@ laid-bytes f h =
     rw (sets-eq (flat (f .triples)) (headed (f .count) .bytes) 2 (omega (arith, flat-length (f .triples))))
     (take-at ((0xC0 + f .count) ∷ 0xFF ∷ flat (f .triples)) (drop n (headed (f .count) .bytes)) n (omega arith))
 
--- no more padding than is due
-padding-few : (on : Bool) (n : ℕ) → length (padding on n) ≤ n
-unfolding padding
-padding-few on n = by-cond (λ (l : List Triple). length l ≤ n) on (λ _. rw (length-replicate n (tri 0xFA 0x00 0x00)) (omega arith)) (λ _. omega arith)
-
 -- a frame has no more triples than its count
 pub few-triples : (b : Budgets) (s : Mux) → b .pairs ≤ b .triples → length (writeFrame b s .frame .triples) ≤ countDue b s
 unfolding writeFrame framed
@@ -226,14 +222,9 @@ module _ (w : CCDataWriter) (rate : Framerate) (out : List ℕ) where
 
     module _ (shaped : Shaped w) (h : Share) (given : shareAt (rate .numer) (rate .denom) (means w) ≡ gave h) (f : Made)
         (found : f ≡ builtFrom (h .budgets .pairs) (h .budgets .triples) (carryIn (h .carry)) w) where
-      -- the parts that the model carries are within their limits
-      carries : validCarry (means w .carry) ≡ true
-      unfolding means
-      carries = valid-carry w shaped within
-
       -- what an accepted write gets
       shared : Shared h
-      shared = share-given (means w .carrying) (rate .numer) (rate .denom) (means w .carry) carries given
+      shared = share-within w within rate given
 
       -- what its budgets are
       sane : (h .budgets .pairs ≤ h .budgets .triples) × (h .budgets .triples ≤ 31)
@@ -274,7 +265,7 @@ module _ (w : CCDataWriter) (rate : Framerate) (out : List ℕ) where
           let o : emitted (f .frame) out ≡ bytes ++ drop (length bytes) out = sym (emitted-whole (f .frame) out few e) ∙ rw (d, length-is) in
           record {
             answer = rw (wrote e, made .answer, length-is);
-            means = rw (wrote e, made .writer) (means-frame w h (valid-ok w shaped within) (valid-mux w shaped within) (shared .valid));
+            means = rw (wrote e, made .writer) (means-frame w h (valid-ok w shaped within) (valid-mux w within) (shared .valid));
             places = rw (wrote e) (made .writer);
             output = rw (wrote e) o;
           }
@@ -319,7 +310,7 @@ module _ (w : CCDataWriter) (rate : Framerate) (room : ℕ) where
     as-shared : (g : Got) → outcomeOf g ≡ checked (validCarry (carryOf (w .carry))) (shareBy (w .carrying) (rate .numer) (rate .denom) (carryOf (w .carry)))
         → outcomeOf g ≡ shareAt (rate .numer) (rate .denom) (means w)
     unfolding means
-    as-shared g e = rw (valid-carry w shaped within) at e
+    as-shared g e = rw (valid-carry w within) at e
 
   -- by the state
   pub makes : {v : Bool} → v ≡ validWriter w → Shaped w → (s : Source) → s ≡ sourceOf w

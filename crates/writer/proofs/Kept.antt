@@ -67,7 +67,7 @@ module _ (w : CCDataWriter) (s : Sound w) where
 
   -- the multiplexer that it means is within its limits
   pub sound-mux : validMux (means w) ≡ true
-  sound-mux = valid-mux w (s .shaped) (s .valid)
+  sound-mux = valid-mux w (s .valid)
 
   -- places in order that mean a multiplexer within its limits
   sound-by : (y : CCDataWriter) (x : Mux) → Order y → Shaped y → means y ≡ x → validMux x ≡ true → Sound y

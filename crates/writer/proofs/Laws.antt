@@ -9,18 +9,16 @@ use borrow.Author.Tests.{le-ltb}
 use lib.ListN.{length, getD, drop}
 use Rattle.model.specs.Said.{gave, putInto}
 use Rattle.model.specs.Frame.{frameBytes}
-use Rattle.model.specs.Rate.{validCarry, Share}
-use Rattle.model.specs.Mux.{freshMux, started, validMux, shareAt, writeShare, writeAt}
+use Rattle.model.specs.Rate.{Share}
+use Rattle.model.specs.Mux.{freshMux, started, shareAt, writeShare, writeAt}
 use Rattle.model.proofs.Frames.{frame-length}
-use Rattle.model.proofs.Cases.{both}
-use Rattle.model.proofs.Carrying.{Shared, share-given}
-use Rattle.model.proofs.MuxStates.{mux-facts}
 use Rattle.caption.proofs.Answers.{answerOf, refused-again}
 use Rattle.caption.specs.declared.Framerate.{Framerate}
 use Rattle.writer_queues.specs.Queue.{pairsOf, queueOf, pairBytes, queueOver}
 use Rattle.slots.specs.Slot.{writtenBytes}
-use Rattle.writer.specs.Writer.{means, inOrder, validWriter, fresh}
+use Rattle.writer.specs.Writer.{means, validWriter, fresh}
 use Rattle.writer.specs.Calls.{saidMicros, written}
+use Rattle.writer.proofs.Valid.{share-within}
 use Rattle.writer.proofs.Builds.{count-most}
 use Rattle.writer.proofs.Calls.{few-triples}
 use Rattle.writer.specs.declared.CCDataWriter.{CCDataWriter}
@@ -45,15 +43,6 @@ saidMicros-injective = LeftInverse·injective (answerOf micros Refused) saidMicr
 pub means-fresh : means fresh ≡ freshMux
 unfolding means fresh writtenBytes started queueOf pairsOf queueOver pairBytes
 means-fresh = refl
-
--- the parts that a state within its limits carries are within theirs
-pub carry-within : (w : CCDataWriter) → validWriter w ≡ true → validCarry (means w .carry) ≡ true
-unfolding validWriter
-carry-within w v = mux-facts (means w) (both (inOrder w) (validMux (means w)) v .1) .carry
-
--- what a write of it gets
-pub share-within : (w : CCDataWriter) → validWriter w ≡ true → (rate : Framerate) {h : Share} → shareAt (rate .numer) (rate .denom) (means w) ≡ gave h → Shared h
-share-within w v rate e = share-given (means w .carrying) (rate .numer) (rate .denom) (means w .carry) (carry-within w v) e
 
 -- a write of it that gets a share of the rate, with 95 bytes of room, gives the model's frame
 pub write-given : (w : CCDataWriter) → validWriter w ≡ true → (rate : Framerate) (out : List ℕ) {h : Share} → shareAt (rate .numer) (rate .denom) (means w) ≡ gave h → 95 ≤ length out

@@ -81,7 +81,7 @@ module _ (w : CCDataWriter) (valid : validWriter w ≡ true) (d : DTVCCPacket) w
           let x : Mux = withPackets (means w .packets ++ (packetOf d ∷ [])) (means w) in
           let put : pushPacket (packetOf d) (means w) ≡ gave x = rw (some, k) in
           let v : validPacket (packetOf d) ≡ true = facts-valid (packetOf d) (held-valid d (within-facts d g)) in
-          let grown : Grows (means w) x = gives-at (Grows (means w)) _ put (grows-packet (means w) (valid-mux w shaped valid) (packetOf d) v) in
+          let grown : Grows (means w) x = gives-at (Grows (means w)) _ put (grows-packet (means w) (valid-mux w valid) (packetOf d) v) in
           rw (valid, g, some, k) (answered (gave x) refl (sym (stored-packet w order (packetOf d))) (means-stored w order ok x grown))
 
 -- a packet that gets no slot

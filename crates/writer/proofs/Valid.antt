@@ -1,4 +1,4 @@
--- The places in order are those of a multiplexer within its limits: the test of the places is the whole test. Assumes nothing.
+-- The places in order are those of a multiplexer within its limits: with carried parts within theirs the test of the places is the whole test. Assumes nothing.
 use mathlib.Core.Path.{_≡_, refl, sym, ap, _∙_}
 use mathlib.Core.Bool.{Bool, true, false, _&&_, _||_, false≢true}
 use mathlib.Core.List.{List, [], _∷_}
@@ -9,10 +9,13 @@ use lib.Dec.{eqb, leb}
 use lib.ListN.{length, take, getD, length-map}
 use lib.Seq.{length-take-le}
 use Rattle.model.specs.Lists.{every}
-use Rattle.model.specs.Rate.{validCarry}
-use Rattle.model.specs.Mux.{storable, validMux}
+use Rattle.model.specs.Said.{gave}
+use Rattle.model.specs.Rate.{validCarry, Share}
+use Rattle.model.specs.Mux.{storable, validMux, shareAt}
 use Rattle.model.proofs.Cases.{by-test, both, and-both}
+use Rattle.model.proofs.Carrying.{Shared, share-given}
 use Rattle.model.proofs.MuxStates.{mux-facts, facts-mux}
+use Rattle.caption.specs.declared.Framerate.{Framerate}
 use Rattle.writer_queues.proofs.Queues.{Sized, queue-length}
 use Rattle.writer_shares.specs.Share.{carryOf}
 use Rattle.slots.specs.Slot.{noSlot, writtenLength, writtenBytes, readSlot, writtenSlot}
@@ -173,17 +176,24 @@ module _ (w : CCDataWriter) where
       pub valid-order : Order w
       valid-order = order-facts (both (inOrder w) (validCarry (carryOf (w .carry))) (order-valid ∙ e) .0)
 
-      -- the carried parts are within their limits
-      pub valid-carry : validCarry (carryOf (w .carry)) ≡ true
-      valid-carry = both (inOrder w) (validCarry (carryOf (w .carry))) (order-valid ∙ e) .1
-
       -- the limits as facts
       pub valid-ok : Ok w
       valid-ok = order-ok valid-order
 
-      -- the multiplexer that it means is within its limits
-      pub valid-mux : validMux (means w) ≡ true
-      valid-mux = order-mux valid-order valid-carry
+  -- the multiplexer that a state within its limits means is within its own
+  pub valid-mux : validWriter w ≡ true → validMux (means w) ≡ true
+  unfolding validWriter
+  valid-mux e = both (inOrder w) (validMux (means w)) e .1
+
+  -- and so are the carried parts
+  pub valid-carry : validWriter w ≡ true → validCarry (carryOf (w .carry)) ≡ true
+  unfolding means
+  valid-carry e = mux-facts (means w) (valid-mux e) .carry
+
+  -- and what a write gets
+  pub share-within : validWriter w ≡ true → (rate : Framerate) {h : Share} → shareAt (rate .numer) (rate .denom) (means w) ≡ gave h → Shared h
+  unfolding means
+  share-within e rate given = share-given (w .carrying) (rate .numer) (rate .denom) (carryOf (w .carry)) (valid-carry e) given
 
   -- places in order that mean a multiplexer within its limits
   pub facts-valid : Order w → validMux (means w) ≡ true → validWriter w ≡ true

@@ -1,4 +1,4 @@
--- A frame under construction: [W3], [W7] and [W8]. Assumes nothing.
+-- A frame under construction, whatever is laid into it: [W3], [W7] and [W8]. No public contract of `writer` reaches this file. Assumes nothing.
 use mathlib.Core.Bool.{Bool, cond, _&&_}
 use mathlib.Core.List.{List, [], _∷_, _++_}
 use Prim.Native.Nat.{ℕ, zero, suc, _+_, _-_, _*_}

@@ -71,10 +71,16 @@ module _ (n d : ℕ) (c : model.Carry) where
   unfolding goingOn
   afresh-denom e f = rw (eq-eqb (c .numer) n e, ne-eqb (c .denom) d f)
 
--- a sum of fewer than 32 steps is cut into the budget and what it leaves over
-share-cut : (k n d rest : ℕ) → rest + k * d < 32 * n → cutOf (rest + k * d) n ≡ record { count = carriedBudget k n d rest; rest = leftOver k n d rest }
-unfolding carriedBudget leftOver
-share-cut k n d rest h = cut-exact (rest + k * d) n h
+-- what is left over, below numer, and what comes of a factor k, within 31 · numer, are cut into the budget and what it leaves over
+module _ (k n d rest : ℕ) (less : rest < n) (room : k * d ≤ mostTriples * n) (s : Steps) (e : s ≡ cutOf (rest + k * d) n) where
+  -- the budget
+  share-cut : s ≡ record { count = carriedBudget k n d rest; rest = leftOver k n d rest }
+  unfolding carriedBudget leftOver
+  share-cut = e ∙ cut-exact (rest + k * d) n (omega arith)
+
+  -- and what it leaves over is below numer again
+  share-rest : s .rest < n
+  share-rest = rw share-cut (below k n d rest (omega arith))
 
 -- in the carrying mode, of a rate that has frames and of parts within their limits
 module _ (n d : ℕ) (c : model.Carry) (ok : (validCarry c ≡ true) × (0 < n)) where
@@ -84,34 +90,23 @@ module _ (n d : ℕ) (c : model.Carry) (ok : (validCarry c ≡ true) × (0 < n))
 
   module _ (room : 600 * d ≤ mostTriples * n) (on : Carry) (same : carryOf on ≡ goingOn n d c) where
     -- what is left over is below numer
-    rests : Below n (goingOn n d c)
-    rests = going-below n d c (ok .1) (ok .0)
+    rests : Below n (carryOf on)
+    rests = rw same (going-below n d c (ok .1) (ok .0))
 
-    -- the pairs
-    pairs-cut : (p : Steps) → p ≡ cutOf (on .pairs + 60 * d) n → p ≡ record { count = carriedBudget 60 n d (goingOn n d c .pairs); rest = leftOver 60 n d (goingOn n d c .pairs) }
-    pairs-cut p e =
-        let s = ap (λ (x : model.Carry). x .pairs) same in
-        e ∙ ap (λ r. cutOf (r + 60 * d) n) s ∙ share-cut 60 n d (goingOn n d c .pairs) (omega (arith, rests .pairs))
-
-    -- the triples
-    triples-cut : (t : Steps) → t ≡ cutOf (on .triples + 600 * d) n → t ≡ record { count = carriedBudget 600 n d (goingOn n d c .triples); rest = leftOver 600 n d (goingOn n d c .triples) }
-    triples-cut t e =
-        let s = ap (λ (x : model.Carry). x .triples) same in
-        e ∙ ap (λ r. cutOf (r + 600 * d) n) s ∙ share-cut 600 n d (goingOn n d c .triples) (omega (arith, rests .triples))
-
-    -- what they leave over is below numer
+    -- after the pairs
     pub pairs-rest : (p : Steps) → p ≡ cutOf (on .pairs + 60 * d) n → p .rest < n
-    pairs-rest p e = rw (pairs-cut p e) (below 60 n d (goingOn n d c .pairs) (ok .1))
+    pairs-rest p e = share-rest 60 n d (on .pairs) (rests .pairs) (omega arith) p e
 
-    -- of the triples too
+    -- and after the triples
     pub triples-rest : (t : Steps) → t ≡ cutOf (on .triples + 600 * d) n → t .rest < n
-    triples-rest t e = rw (triples-cut t e) (below 600 n d (goingOn n d c .triples) (ok .1))
+    triples-rest t e = share-rest 600 n d (on .triples) (rests .triples) room t e
 
     -- so both are what the frame gets
     pub carried-is : (p t : Steps) → p ≡ cutOf (on .pairs + 60 * d) n → t ≡ cutOf (on .triples + 600 * d) n
         → gave (record { budgets = record { pairs = p .count; triples = t .count }; carry = record { numer = n; denom = d; pairs = p .rest; triples = t .rest } }) ≡ carriedAt n d c
     unfolding carriedOn
-    carried-is p t e f = rw (pairs-cut p e, triples-cut t f, le-ltb (mostTriples * n) (600 * d) room)
+    carried-is p t e f =
+        rw (le-ltb (mostTriples * n) (600 * d) room, ← same, share-cut 60 n d (on .pairs) (rests .pairs) (omega arith) p e, share-cut 600 n d (on .triples) (rests .triples) room t f)
 
 -- by the mode, of parts within their limits
 module _ (on : Bool) (n d : ℕ) (c : model.Carry) (v : validCarry c ≡ true) (b : Budgets) (said : saidBudgets b ≡ saysWith pairsThenTriples (budgets n d)) where

@@ -1,4 +1,4 @@
--- The turns of the two fields: [W4] to [W6]. Assumes nothing.
+-- The turns of the two fields, in places: [W4] to [W6]. No public contract of `writer` reaches this file. Assumes nothing.
 use mathlib.Core.Bool.{Bool, cond, not, _&&_}
 use mathlib.Core.List.{List}
 use Prim.Native.Nat.{ℕ}

@@ -1,6 +1,7 @@
 -- `writer_shares::Carry::carried_share` meets its contract: a sum of fewer than 32 steps is cut into a budget and what it leaves over. Assumes nothing.
 use mir.Facts.{fits-le}
 use native.Mathlib.Nat.{le-of-lt}
+use native.Mathlib.Omega.{arith}
 use borrow.Author.Needs.{needs}
 use Rattle.writer_shares.specs.Share.{carryOf}
 use Rattle.writer_shares.proofs.Shares.{carried-over, pairs-rest, triples-rest, carried-is}
@@ -21,7 +22,7 @@ mul-if1-2 c = search needs
 
 returns : tie.Need-returns
 returns c = let s = c .before .before .before in
-    carried-over (s .args .rate .numer) (s .args .rate .denom) (carryOf (s .args .self)) (s .pre) (c .if1 .taken)
+    carried-over (s .args .rate .numer) (s .args .rate .denom) (carryOf (s .args .self)) (s .pre) (omega (arith, c .if1 .taken))
 
 going-on-requires : tie.Need-going-on-requires
 going-on-requires c κs = search needs
@@ -54,21 +55,21 @@ cast-t13 : tie.Need-cast-t13
 cast-t13 c = let g = c .before .before .before .before .before in
     let i = g .before in
     let s = i .before .before .before in
-    fits-le (le-of-lt (pairs-rest (s .args .rate .numer) (s .args .rate .denom) (carryOf (s .args .self)) (s .pre) (i .if1 .left) _ (g .going-on .ensures) _ (c .before .before .before .cut .ensures)))
+    fits-le (le-of-lt (pairs-rest (s .args .rate .numer) (s .args .rate .denom) (carryOf (s .args .self)) (s .pre) (omega (arith, i .if1 .left)) _ (g .going-on .ensures) _ (c .before .before .before .cut .ensures)))
     (search needs)
 
 cast-t14 : tie.Need-cast-t14
 cast-t14 c = let g = c .before .before .before .before .before .before in
     let i = g .before in
     let s = i .before .before .before in
-    fits-le (le-of-lt (triples-rest (s .args .rate .numer) (s .args .rate .denom) (carryOf (s .args .self)) (s .pre) (i .if1 .left) _ (g .going-on .ensures) _ (c .before .before .cut2 .ensures)))
+    fits-le (le-of-lt (triples-rest (s .args .rate .numer) (s .args .rate .denom) (carryOf (s .args .self)) (s .pre) (omega (arith, i .if1 .left)) _ (g .going-on .ensures) _ (c .before .before .cut2 .ensures)))
     (search needs)
 
 returns-2 : tie.Need-returns-2
 returns-2 c = let g = c .before .before .before .before .before .before in
     let i = g .before in
     let s = i .before .before .before in
-    carried-is (s .args .rate .numer) (s .args .rate .denom) (carryOf (s .args .self)) (s .pre) (i .if1 .left) _ (g .going-on .ensures) _ _
+    carried-is (s .args .rate .numer) (s .args .rate .denom) (carryOf (s .args .self)) (s .pre) (omega (arith, i .if1 .left)) _ (g .going-on .ensures) _ _
     (c .before .before .before .before .cut .ensures) (c .before .before .cut2 .ensures)
 
 pub carried-share-spec : {M : Type 1} → statement M
