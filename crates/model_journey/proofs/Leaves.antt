@@ -79,10 +79,18 @@ module _ (f : Field) where
       let long = ap length behind in
       rw (came-append f k r) (left-then (others (acceptedOf f k)) i i [] behind (later (omega (arith, length-append (queueOf f s) (others (acceptedOf f k)))) (rw (d .next1) e)) (omega arith))
 
+  -- where nothing is called nothing has to leave, but for half a write
+  none-leaves : (s : Mux) (i : ℕ) {a : List Pair} → a ≡ [] → 2 * i ≤ mine f (s .next1) → Left i (queueOf f s) a (queueOf f s)
+  none-leaves s i e k = record { gone = []; cut = rw e (append-nil _); enough = omega (arith, mine-most f (s .next1)) }
+
+  -- a write, which accepts nothing, and then other calls
+  then-leaves : (s s′ : Mux) (k r : Run) (i j : ℕ) (gone : List Pair) → others (acceptedOf f k) ≡ [] → queueOf f s ≡ gone ++ queueOf f s′ → Goes j s′ r → i ≤ length gone + j → Goes i s (thenRun k r)
+  then-leaves s s′ k r i j gone none cut w h = rw (came-append f k r, none) (left-then [] i j gone (append-nil _ ∙ cut) w h)
+
   -- call by call
   goes : (cs : List Call) (s : Mux) (i : ℕ) → i ≤ length (queueOf f s) → 2 * i ≤ pairedIn (budgetsIn cs) + mine f (s .next1) → Goes i s (run cs s)
   unfolding run call
-  goes [] s i h k = record { gone = []; cut = rw (none-accepted f) (append-nil _); enough = omega (arith, mine-most f (s .next1)) }
+  goes [] s i h k = none-leaves s i (none-accepted f) (omega arith)
   goes (pushes p ∷ cs) s i h k = quiet-left (run cs (call (pushes p) s .last)) i (pairedIn (budgetsIn cs)) (quiet-push p s) (goes cs _ i) h k
   goes (pushes608 x ∷ cs) s i h k = quiet-left (run cs (call (pushes608 x) s .last)) i (pairedIn (budgetsIn cs)) (quiet-608 x s) (goes cs _ i) h k
   goes (sets x ∷ cs) s i h k = quiet-left (run cs (call (sets x) s .last)) i (pairedIn (budgetsIn cs)) (quiet-switch x s) (goes cs _ i) h k
@@ -92,7 +100,7 @@ module _ (f : Field) where
       let j : ℕ = i - length (v .gone) in
       let long = ap length (v .cut) in
       let w = goes cs s′ j (omega (arith, length-append (v .gone) (queueOf f s′))) (v .nearer i (pairedIn (budgetsIn cs)) h k) in
-      rw (came-append f (call (writes b) s) (run cs s′), none-accepted f) (left-then [] i j (v .gone) (append-nil _ ∙ v .cut) w (omega arith))
+      then-leaves s s′ (call (writes b) s) (run cs s′) i j (v .gone) (none-accepted f) (v .cut) w (omega arith)
 
 -- after 2i writes with a pair, or more, the first i places of what was queued have gone, whatever is called between them
 pub leaves-paired : (f : Field) (cs : List Call) (s : Mux) (i : ℕ) → i ≤ length (queueOf f s) → 2 * i ≤ pairedIn (budgetsIn cs)
