@@ -91,7 +91,7 @@ four-by w rate end r s n e f (one-frame h given counts first meant next) =
     let z : n ≡ length (frameBytes (writeShare h (means w) .frame)) = (cc) in
     rw (z, first)
     (record {
-      four = rw (frame-triples (writeShare h (means w) .frame)) (m .four);
+      four = rw (frame-triples (writeShare h (means w) .frame)) (omega (arith, m .four));
       no-other = rw (frame-triples (writeShare h (means w) .frame), meant) (m .no-other);
     })
 
