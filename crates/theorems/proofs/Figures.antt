@@ -1,4 +1,4 @@
--- The bounds in figures: what they come to with queues of the sizes that there are, and a law for each premise that could ask too much. Assumes nothing.
+-- The bounds in figures: what they come to with queues of the sizes that there are; and that rates are free with the carrying mode off. Assumes nothing.
 use mathlib.Core.Path.{_≡_}
 use mathlib.Core.Bool.{Bool, true, false, cond, false≢true}
 use mathlib.Core.List.{List}
