@@ -269,6 +269,13 @@ def grid():
                     for m in range(R.choice([0, 0, 1, 2])): s += [("k", m), ("a", R.choice([1, 7]), some(R.choice([1, 2, 3, 4, 31]))), ("q",)]
                     yield s + [("w", *rate, 95), ("u",), ("w", *rate, 95), ("1", 9, 9), ("w", *rate, 95), ("x",), ("1", 8, 8), ("w", *rate, 95)]
 
+def steps(halves):
+    """Rates at which so many halves of a triple or of a pair are due, exactly or nearly, and their neighbours."""
+    for h in halves:
+        for d in (1, 21, 1001, h, h * R.randrange(1, 2**20), R.randrange(1, 2**28), R.randrange(2**31, 2**32)):
+            for base in (1200 * d // h, 120 * d // h):
+                yield from ((base + e, d) for e in (-1, 0, 1) if 0 <= base + e < 2**32)
+
 def rates(count):
     groups = []
     def ask(n, d): groups.append([("W",), ("S", 1, 1), ("w", n, d, 95)])
@@ -281,6 +288,7 @@ def rates(count):
                 if 0 <= base + e < 2**32: ask(base + e, d)
     top = 2**32 - 1
     for n, d in [(top, top), (top, 1), (1, top), (top, 107374182), (top, 35791394), (top, 35791395), (top, 225485783), (top, 225485782)]: ask(n, d)
+    for n, d in steps(2 * q + 1 for q in range(33)): ask(n, d)
     for _ in range(count):
         d = R.choice([R.randrange(1, 100), R.randrange(1, 2000), R.randrange(1, 2**25)])
         n = int(d * R.uniform(18, 125))
@@ -395,6 +403,7 @@ def carrying_rates(count):
     for d in (1, 2, 3, 7, 20, 21, 22, 31, 1001, 1000000, 35791394, 214748364, TOP):
         for base in (120 * d, 600 * d // 31, 400 * d // 21, 24 * d, 40 * d):
             asked += [(base + e, d) for e in (-1, 0, 1) if 0 <= base + e <= TOP]
+    asked += steps(range(2, 64, 2))
     for _ in range(count):
         d = R.choice([R.randrange(1, 100), R.randrange(1, 2000), R.randrange(1, 2**25)])
         asked.append((int(d * R.uniform(18, 125)), d))

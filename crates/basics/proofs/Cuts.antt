@@ -1,12 +1,12 @@
 -- A sum cut by subtraction: what was taken off is so many steps, and the rest is what remains. Assumes nothing.
 use mathlib.Core.Path.{_≡_, ap}
 use Prim.Native.Nat.{ℕ, _+_, _-_, _*_, _/_, _%_, _≤_, _<_}
-use native.Mathlib.Nat.{add-mul, one-mul, div-eq-of-lt-le, le-div-iff-mul-le, div-add-mod'}
+use native.Mathlib.Nat.{add-mul, one-mul, zero-mul, mul-le-mul-right, div-eq-of-lt-le, le-div-iff-mul-le, div-add-mod'}
 use native.Mathlib.Omega.{arith}
-use lib.Dec.{eqb, leb}
-use borrow.Author.Tests.{ne-eqb, eqb-false, leb-true, leb-false}
+use lib.Dec.{eqb, leb, ltb}
+use borrow.Author.Tests.{ne-eqb, eqb-false, leb-true, leb-false, ltb-true, ltb-false}
 use Rattle.model.proofs.Cases.{by-test}
-use Rattle.basics.specs.Cut.{stepsIn, cutOf}
+use Rattle.basics.specs.Cut.{stepsIn, cutOf, taken}
 use Rattle.basics.specs.declared.Steps.{Steps}
 
 module _ (sum step count rest : ℕ) (e : rest + count * step ≡ sum) where
@@ -15,18 +15,52 @@ module _ (sum step count rest : ℕ) (e : rest + count * step ≡ sum) where
   so-many n = let r : rest ≡ sum - count * step = omega arith in rw (r, n)
 
   -- less than a step is left
-  pub cut-short : count < 31 → rest < step → _≡_ {A = Steps} (record { count = count; rest = rest }) (cutOf sum step)
+  cut-short : count < 31 → rest < step → _≡_ {A = Steps} (record { count = count; rest = rest }) (cutOf sum step)
   cut-short few less =
       let q : sum / step ≡ count = div-eq-of-lt-le {k = count} step {m = sum} (omega arith) (omega (arith, add-mul count 1 step, one-mul step)) in
       so-many (rw (ne-eqb step 0 (λ z. omega arith), q) (omega arith))
 
   -- 31 steps are taken off
-  pub cut-most : count ≡ 31 → _≡_ {A = Steps} (record { count = count; rest = rest }) (cutOf sum step)
+  cut-most : count ≡ 31 → _≡_ {A = Steps} (record { count = count; rest = rest }) (cutOf sum step)
   cut-most n =
       so-many (by-test (eqb step 0) (λ t. rw t n)
       (λ t. let z = eqb-false step 0 t in
       let q : 31 ≤ sum / step = le-div-iff-mul-le {k = step} {x = 31} {y = sum} (omega arith) .1 (omega (arith, ap (λ (k : ℕ). k * step) n)) in
       rw t (omega arith)))
+
+-- Steps taken off a sum: so many that the rest is there, with m more 31 at the most, and fewer only if no more than m are left.
+pub record Cutting (sum step m : ℕ) (s : Steps) : Type 0 where
+  pub all : s .rest + s .count * step ≡ sum
+  pub most : s .count + m ≤ 31
+  pub left : s .count + m < 31 → s .rest < (m + 1) * step
+
+module _ (sum step : ℕ) where
+  -- none is taken off
+  pub begun : Cutting sum step 31 (record { count = 0; rest = sum })
+  begun = record { all = omega (arith, zero-mul step); most = omega arith; left = λ few. omega arith }
+
+  -- of n + m at the most n are taken off at once, n being no more than m + 1, or fewer than n are left
+  pub goes : (n m : ℕ) {s r : Steps} → n ≤ m + 1 → r ≡ taken n step s → Cutting sum step (n + m) s → Cutting sum step m r
+  unfolding taken
+  goes n m {s} {r} half e c =
+      by-test (ltb (s .rest) (n * step))
+      (λ t. let less = ltb-true (s .rest) (n * step) t in
+      rw (e, t) (record { all = c .all; most = omega (arith, c .most); left = λ few. omega (arith, less, mul-le-mul-right {m = n} {n = m + 1} step half) }))
+      (λ t. let more = ltb-false (s .rest) (n * step) t in
+      rw (e, t)
+      (record {
+        all = omega (arith, c .all, more, add-mul (s .count) n step);
+        most = omega (arith, c .most);
+        left = λ few. omega (arith, c .left (omega arith), more, add-mul n (m + 1) step);
+      }))
+
+  -- no more is to be taken
+  pub ended : {s : Steps} → Cutting sum step 0 s → s ≡ cutOf sum step
+  ended {s} c =
+      by-test (ltb (s .count) 31)
+      (λ t. let few = ltb-true (s .count) 31 t in
+      cut-short sum step (s .count) (s .rest) (c .all) few (omega (arith, c .left (omega arith), one-mul step)))
+      (λ t. cut-most sum step (s .count) (s .rest) (c .all) (omega (arith, c .most, ltb-false (s .count) 31 t)))
 
 -- a sum of fewer than 32 steps is divided by its step
 pub cut-exact : (sum step : ℕ) → sum < 32 * step → cutOf sum step ≡ record { count = sum / step; rest = sum % step }

@@ -1,9 +1,9 @@
-// What every part shares: the sizes of the rule book, the lesser of two counts, a sum cut into steps, a byte as a number, and bytes laid into a
+// What every part shares: the numbers of the rule book, the lesser of two counts, a sum cut into steps, a byte as a number, and bytes laid into a
 // buffer.
 ghost use mathlib.Core.Path.{_≡_};
 ghost use Prim.Native.Nat.{_≤_, min};
 ghost use lib.Seq.{sets};
-ghost use Rattle.basics.specs.Cut.{cutOf};
+ghost use Rattle.basics.specs.Cut.{taken, cutOf};
 
 // The most bytes of a packet.
 pub const MOST_PACKET: usize = 128;
@@ -22,6 +22,12 @@ pub const MOST_FRAME: usize = 95;
 
 // The most triples of a frame.
 pub const MOST_TRIPLES: usize = 31;
+
+// The pairs of a field in a second, which are 960 bits.
+pub const PAIRS_A_SECOND: usize = 60;
+
+// The triples in a second, whose two bytes each are 9600 bits.
+pub const TRIPLES_A_SECOND: usize = 600;
 
 // The most packets that wait to be drawn.
 pub const MOST_WAITING: usize = 32;
@@ -48,20 +54,36 @@ pub struct Steps {
     pub rest: usize,
 }
 
-// Cuts a sum into steps, 31 of them at the most, without a division.
-pub fn cut(sum: usize, step: usize) -> Steps
+// Cuts a sum into steps, 31 of them at the most, without a division: sixteen are taken off if there are so many, then eight, four, two and one.
+pub fn cut(sum: usize, step: u32) -> Steps
     ensures { λ r. ⌜ r ≡ cutOf sum step ⌝ }
 {
-    let mut rest = sum;
-    let mut count = 0;
-    while count < MOST_TRIPLES {
-        if rest < step {
-            return Steps { count, rest };
+    let whole = Steps {
+        count: 0,
+        rest: sum,
+    };
+    let by16 = whole.take(16, step);
+    let by8 = by16.take(8, step);
+    let by4 = by8.take(4, step);
+    let by2 = by4.take(2, step);
+    by2.take(1, step)
+}
+
+impl Steps {
+    // Takes `n` more steps off the rest, if there are so many.
+    fn take(self, n: usize, step: u32) -> Steps
+        requires { ⌜ (n ≤ 16) × (self .count ≤ 31) ⌝ }
+        ensures { λ r. ⌜ r ≡ taken n step self ⌝ }
+    {
+        let off = n * step as usize;
+        if self.rest < off {
+            return self;
         }
-        rest -= step;
-        count += 1;
+        Steps {
+            count: self.count + n,
+            rest: self.rest - off,
+        }
     }
-    Steps { count, rest }
 }
 
 // A byte as a number.

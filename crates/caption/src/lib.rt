@@ -1,10 +1,13 @@
 // What every part of the caption gateway shares: the answers of a call, a CEA-608 byte pair, and a frame rate with its two budgets.
 ghost use mathlib.Core.Path.{_≡_};
-ghost use Prim.Native.Nat.{_<_};
+ghost use Prim.Native.Nat.{_*_, _<_};
 ghost use Rattle.model.specs.Said.{saysWith};
 ghost use Rattle.model.specs.Rate.{budgets, pairsThenTriples, rounded};
 ghost use Rattle.caption.specs.Rates.{rate, namedRates, saidBudgets};
 use basics::MOST_TRIPLES;
+use basics::PAIRS_A_SECOND;
+use basics::TRIPLES_A_SECOND;
+use basics::cut;
 
 // Why a call was refused.
 pub enum Refusal {
@@ -134,32 +137,34 @@ impl Framerate {
         self.denom
     }
 
-    // How many 608 pairs and how many triples one frame carries: 960 bits a second for one field of 608, 9600 for 708 [G1] [G2].
+    // How many 608 pairs and how many triples one frame carries [G1] [G2], without a division. Less than half a pair is refused first, and then 31 and
+    // a half triples or more, and with them a numerator of 0; what is left is below 32 of either and can be cut.
     pub fn budgets(self) -> Budgets
         ensures { λ r. ⌜ saidBudgets r ≡ saysWith pairsThenTriples (budgets (self .numer) (self .denom)) ⌝ }
     {
-        let numer = self.numer;
-        let denom = self.denom;
-        if numer == 0 {
+        let numer = self.numer as usize;
+        let denom = self.denom as usize;
+        if 2 * PAIRS_A_SECOND * denom < numer {
             return Budgets::BadRate;
         }
-        let pairs = mul_div_round(60, denom, numer);
-        if pairs == 0 {
+        if (2 * MOST_TRIPLES + 1) * numer <= 2 * TRIPLES_A_SECOND * denom {
             return Budgets::BadRate;
         }
-        let triples = mul_div_round(600, denom, numer);
-        if MOST_TRIPLES < triples {
-            return Budgets::BadRate;
+        Budgets::Of {
+            pairs: self.nearest(PAIRS_A_SECOND),
+            triples: self.nearest(TRIPLES_A_SECOND),
         }
-        Budgets::Of { pairs, triples }
     }
-}
 
-// `k` times `denom` over `numer`, rounded: a half goes up.
-fn mul_div_round(k: u16, denom: u32, numer: u32) -> usize
-    requires { ⌜ 0 < numer ⌝ }
-    ensures { λ r. ⌜ r ≡ rounded k numer denom ⌝ }
-{
-    let twice = 2 * (k as usize * denom as usize);
-    (twice + numer as usize) / (2 * numer as usize)
+    // `k` times `denom` over `numer`, which is below 32, to the nearest whole number: a half goes up.
+    fn nearest(self, k: usize) -> usize
+        requires { ⌜ k * self .denom < 32 * self .numer ⌝ }
+        ensures { λ r. ⌜ r ≡ rounded k (self .numer) (self .denom) ⌝ }
+    {
+        let s = cut(k * self.denom as usize, self.numer);
+        if 2 * s.rest < self.numer as usize {
+            return s.count;
+        }
+        s.count + 1
+    }
 }

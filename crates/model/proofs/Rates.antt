@@ -14,12 +14,12 @@ use Rattle.model.proofs.Cases.{by-test, by-cond, Gives}
 -- x ≤ round(k · d / n) exactly if 2 n x ≤ 2 k d + n: all that is needed of the division
 module _ (k n d x : ℕ) (pos : 0 < n) where
   -- so much is reached
-  least : x * (2 * n) ≤ 2 * (k * d) + n → x ≤ rounded k n d
+  pub least : x * (2 * n) ≤ 2 * (k * d) + n → x ≤ rounded k n d
   unfolding rounded
   least = le-div-iff-mul-le {k = 2 * n} {x = x} {y = 2 * (k * d) + n} (omega arith) .1
 
   -- and no more
-  most : x ≤ rounded k n d → x * (2 * n) ≤ 2 * (k * d) + n
+  pub most : x ≤ rounded k n d → x * (2 * n) ≤ 2 * (k * d) + n
   unfolding rounded
   most = le-div-iff-mul-le {k = 2 * n} {x = x} {y = 2 * (k * d) + n} (omega arith) .0
 

@@ -1,6 +1,7 @@
-// Writes a thousand frames for each byte of its input at 30000/1001 with both paddings on, to set the time beside the crate's (`oracle/src/bin/write_speed.rs`). A pair of
-// each field goes in before each frame, and a packet of 40 bytes before nine frames of ten: as much as the frames carry away. The line written
-// is how many bytes the frames have and a sum over each of them, so that no writing can be left out, and both programs write the same.
+// Writes a thousand frames for each byte of its input at 30000/1001 with both paddings on, to set the time beside the crate's
+// (`oracle/src/bin/write_speed.rs`). The first byte is added to the numerator, so that no budget is known before the run. A pair of each field goes
+// in before each frame, and a packet of 40 bytes before nine frames of ten: as much as the frames carry away. The line written is how many bytes the
+// frames have and a sum over each of them, so that no writing can be left out, and both programs write the same.
 use basics::MOST_FRAME;
 use caption::Cea608;
 use caption::Counted;
@@ -104,9 +105,15 @@ fn started() -> CCDataWriter {
     padded.writer
 }
 
+// The rate that a byte tells.
+fn rate_by(byte: u8) -> Framerate {
+    Framerate::new(30000 + byte as u32, 1001)
+}
+
 // The totals of the frames that so many pairs go into.
 fn write_frames(
     start: CCDataWriter,
+    rate: Framerate,
     block1: Service,
     block2: Service,
     block3: Service,
@@ -124,7 +131,7 @@ fn write_frames(
                 let stored = writer.push_packet(packet(i / 2, block1, block2, block3));
                 writer = stored.writer;
             }
-            let written = writer.write(Framerate::FPS_29_97, frame);
+            let written = writer.write(rate, frame);
             writer = written.writer;
             let answer = written.answer;
             t = with_frame(t, frame, answer);
@@ -141,8 +148,17 @@ fn main() {
     let block2 = block(2);
     let block3 = block(3);
     let start = started();
+    let rate = rate_by(input[0]);
     let mut frame = [0u8; 95];
-    let t = write_frames(start, block1, block2, block3, PAIRS * asked, &mut frame);
+    let t = write_frames(
+        start,
+        rate,
+        block1,
+        block2,
+        block3,
+        PAIRS * asked,
+        &mut frame,
+    );
     io::print_decimal(STDOUT_FILENO, t.bytes);
     io::write_all(STDOUT_FILENO, b" ");
     io::print_decimal(STDOUT_FILENO, t.sum);

@@ -6,6 +6,7 @@ use Prim.Native.Nat.{ℕ, _+_, _-_, _*_, _/_, _%_, min}
 use lib.Dec.{eqb, leb}
 use Rattle.model.specs.Packet.{mostPacket}
 use Rattle.model.specs.Frame.{flat}
+use Rattle.basics.specs.Cut.{stepsIn}
 use Rattle.writer_frames.specs.Frame.{appended, triplesAt, fillers, fits, carries}
 use Rattle.writer_frames.specs.declared.Frame.{Frame}
 use Rattle.slots.specs.declared.Slot.{Slot}
@@ -65,9 +66,9 @@ rested s =
     let none = eqb (leftOf s) 0 in
     record { slot = record { len = cond none 0 (s .slot .len); bytes = s .slot .bytes }; sent = cond none 0 (s .sent); next = s .next; frame = s .frame }
 
--- the triples that a frame lacks up to a count
+-- the triples that a frame lacks up to a count: the first two bytes belong to none
 abbrev pub lacks : ℕ → Frame → ℕ
-lacks count f = count - (f .len - 2) / 3
+lacks count f = count - stepsIn (f .len - 2) 3
 
 -- with output padding on, fillers up to the count [W8]
 abbrev pub padded : Bool → ℕ → Frame → Frame

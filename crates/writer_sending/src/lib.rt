@@ -1,14 +1,16 @@
 // The packet triples of a frame, slot by slot: how many are due, and those that leave. Slots are taken as they are: what they hold is not looked at.
 use basics::MOST_PACKET;
 use basics::MOST_PACKETS;
+use basics::cut;
 use basics::lesser;
 use slots::Slot;
 use writer_frames::Frame;
 ghost use mathlib.Core.Path.{_≡_};
-ghost use Prim.Native.Nat.{_+_, _-_, _*_, _/_, _≤_, min, max};
+ghost use Prim.Native.Nat.{_+_, _-_, _*_, _≤_, min, max};
 ghost use lib.ListN.{take, drop};
 ghost use lib.Seq.{sets};
 ghost use Rattle.model.specs.Duration.{bytesDuration};
+ghost use Rattle.basics.specs.Cut.{stepsIn};
 ghost use Rattle.writer_sending.specs.Slots.{triplesLeft, triplesOf, lengthsIn, countOf, finished, sentOver, rested, filled};
 
 // Where sending stands: the packet being sent and how many of its bytes have left, how many packets of the queue were begun, and the frame.
@@ -121,16 +123,16 @@ pub fn count_of(
 
 // The triples that a frame of `len` bytes lacks up to a count.
 fn lacking(count: usize, len: usize) -> usize
-    ensures { λ r. ⌜ r ≡ count - (len - 2) / 3 ⌝ }
+    ensures { λ r. ⌜ r ≡ count - stepsIn (len - 2) 3 ⌝ }
 {
     if len < 2 {
         return count;
     }
-    let n = (len - 2) / 3;
-    if count < n {
+    let there = cut(len - 2, 3);
+    if count < there.count {
         return 0;
     }
-    count - n
+    count - there.count
 }
 
 // A packet that has left whole is no longer being sent.

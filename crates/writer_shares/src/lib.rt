@@ -1,5 +1,7 @@
 // What a frame gets of a rate: its budgets, rounded or carried from frame to frame, and the parts that are carried on.
 use basics::MOST_TRIPLES;
+use basics::PAIRS_A_SECOND;
+use basics::TRIPLES_A_SECOND;
 use basics::cut;
 use caption::Budgets;
 use caption::Framerate;
@@ -90,12 +92,12 @@ impl Carry {
     {
         let numer = rate.numer as usize;
         let denom = rate.denom as usize;
-        if MOST_TRIPLES * numer < 600 * denom {
+        if MOST_TRIPLES * numer < TRIPLES_A_SECOND * denom {
             return Share::Refused(Refusal::BadRate);
         }
         let on = self.going_on(rate);
-        let pairs = cut(on.pairs as usize + 60 * denom, numer);
-        let triples = cut(on.triples as usize + 600 * denom, numer);
+        let pairs = cut(on.pairs as usize + PAIRS_A_SECOND * denom, rate.numer);
+        let triples = cut(on.triples as usize + TRIPLES_A_SECOND * denom, rate.numer);
         Share::Of {
             pairs: pairs.count,
             triples: triples.count,

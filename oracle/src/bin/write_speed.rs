@@ -1,4 +1,5 @@
-//! Writes a thousand frames for each byte of its input at 30000/1001 with the crate, both paddings on: what `crates/write_speed` does with the port.
+//! Writes a thousand frames for each byte of its input at 30000/1001, the first byte added to the numerator, with the crate, both paddings on: what
+//! `crates/write_speed` does with the port.
 
 use std::io::Read;
 
@@ -28,6 +29,7 @@ fn due(i: usize) -> bool {
 fn main() {
     let mut input = Vec::new();
     std::io::stdin().read_to_end(&mut input).unwrap();
+    let rate = Framerate::new(30000 + *input.first().unwrap_or(&0) as u32, 1001);
     let blocks = [block(1), block(2), block(3)];
     let mut writer = CCDataWriter::default();
     writer.set_output_cea608_padding(true);
@@ -42,7 +44,7 @@ fn main() {
             writer.push_packet(packet(i, &blocks));
         }
         frame.clear();
-        writer.write(Framerate::new(30000, 1001), &mut frame).unwrap();
+        writer.write(rate, &mut frame).unwrap();
         bytes += frame.len();
         sum = frame.iter().fold(sum, |sum, b| sum.wrapping_mul(31).wrapping_add(*b as u64));
     }

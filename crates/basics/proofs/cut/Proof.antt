@@ -1,40 +1,56 @@
--- `basics::cut` meets its contract: what was taken off is `count` steps, and the rest is still there. Assumes nothing.
-use mathlib.Core.Path.{_≡_}
-use Prim.Native.Nat.{_+_, _-_, _*_, _≤_}
-use native.Mathlib.Nat.{add-mul, one-mul, zero-mul}
+-- `basics::cut` meets its contract: 31 steps at the most are cut off, and with each take about half as many are still to come. Assumes nothing.
 use native.Mathlib.Omega.{arith}
-use Rattle.basics.proofs.Cuts.{cut-short, cut-most}
+use borrow.Author.Needs.{needs}
+use Rattle.basics.proofs.Cuts.{Cutting, begun, goes, ended}
 use Rattle.basics.proofs.cut.Statement.{statement}
 use Rattle.basics.proofs.cut.Tie as tie
+use Rattle.basics.proofs.cut.Reads as reads
+use Rattle.basics.proofs.cut.Lts as lts
+use Rattle.basics.proofs.Steps.take.Reads as take-reads
 
-abbrev Inv-loop : tie.InvT-loop
-Inv-loop sum step rest₀ count₀ rest count = (count ≤ 31) × (rest + count * step ≡ sum)
+-- 15 more at the most
+by16 : (c : lts.After-take (take-reads.Asked, take-reads.Learnt) reads.Pre reads.Post) → Cutting (c .before .args .sum) (c .before .args .step) 15 (c .take .result)
+by16 c = goes _ _ 16 15 (omega arith) (c .take .ensures) (begun _ _)
 
-abbrev μ-loop : tie.MeasureT-loop
-μ-loop sum step rest₀ count₀ rest count = 31 - count
+-- 7
+by8 : (c : lts.After-take2 (take-reads.Asked, take-reads.Learnt) reads.Pre reads.Post) → Cutting (c .before .before .args .sum) (c .before .before .args .step) 7 (c .take2 .result)
+by8 c = goes _ _ 8 7 (omega arith) (c .take2 .ensures) (by16 (c .before))
 
-loop-holds : tie.Need-loop-holds Inv-loop μ-loop
-loop-holds c = (omega arith, omega (arith, zero-mul (c .args .step)))
+-- 3
+by4 : (c : lts.After-take3 (take-reads.Asked, take-reads.Learnt) reads.Pre reads.Post)
+    → Cutting (c .before .before .before .args .sum) (c .before .before .before .args .step) 3 (c .take3 .result)
+by4 c = goes _ _ 4 3 (omega arith) (c .take3 .ensures) (by8 (c .before))
 
-returns : tie.Need-returns Inv-loop μ-loop
-returns c = let l = c .before .before in
-    cut-short (l .before .args .sum) (l .before .args .step) (l .loop .count) (l .loop .rest) (l .loop .inv .1) (c .before .loop-test .taken) (c .if1 .taken)
+-- one
+by2 : (c : lts.After-take4 (take-reads.Asked, take-reads.Learnt) reads.Pre reads.Post)
+    → Cutting (c .before .before .before .before .args .sum) (c .before .before .before .before .args .step) 1 (c .take4 .result)
+by2 c = goes _ _ 2 1 (omega arith) (c .take4 .ensures) (by4 (c .before))
 
-add-count : tie.Need-add-count Inv-loop μ-loop
-add-count c = omega arith
+take-requires : tie.Need-take-requires
+take-requires c κs = search needs
 
-loop-less : tie.Need-loop-less Inv-loop μ-loop
-loop-less c = omega arith
+take-requires-2 : tie.Need-take-requires-2
+take-requires-2 c κs = (omega arith, omega (arith, by16 c .most))
 
-loop-again : tie.Need-loop-again Inv-loop μ-loop
-loop-again c = let l = c .before .before in
-    (omega arith, omega (arith, add-mul (l .loop .count) 1 (l .before .args .step), one-mul (l .before .args .step)))
+take-requires-3 : tie.Need-take-requires-3
+take-requires-3 c κs = (omega arith, omega (arith, by8 c .most))
 
-returns-2 : tie.Need-returns-2 Inv-loop μ-loop
-returns-2 c = let l = c .before in
-    cut-most (l .before .args .sum) (l .before .args .step) (l .loop .count) (l .loop .rest) (l .loop .inv .1) (omega arith)
+take-requires-4 : tie.Need-take-requires-4
+take-requires-4 c κs = (omega arith, omega (arith, by4 c .most))
+
+take-requires-5 : tie.Need-take-requires-5
+take-requires-5 c κs = (omega arith, omega (arith, by2 c .most))
+
+returns : tie.Need-returns
+returns c = ended _ _ (goes _ _ 1 0 (omega arith) (c .take5 .ensures) (by2 (c .before)))
 
 pub cut-spec : {M : Type 1} → statement M
 cut-spec =
     tie.close
-    (tie.spec Inv-loop μ-loop loop-holds returns add-count loop-less loop-again returns-2)
+    (tie.spec
+    take-requires
+    take-requires-2
+    take-requires-3
+    take-requires-4
+    take-requires-5
+    returns)

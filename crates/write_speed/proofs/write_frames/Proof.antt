@@ -5,10 +5,10 @@ use Rattle.write_speed.proofs.write_frames.Statement.{statement}
 use Rattle.write_speed.proofs.write_frames.Tie as tie
 
 abbrev Inv-loop : tie.InvT-loop
-Inv-loop block1 block2 block3 pairs frame₀ writer₀ t₀ i₀ frame writer t i = i ≤ pairs
+Inv-loop rate block1 block2 block3 pairs frame₀ writer₀ t₀ i₀ frame writer t i = i ≤ pairs
 
 abbrev μ-loop : tie.MeasureT-loop
-μ-loop block1 block2 block3 pairs frame₀ writer₀ t₀ i₀ frame writer t i = pairs - i
+μ-loop rate block1 block2 block3 pairs frame₀ writer₀ t₀ i₀ frame writer t i = pairs - i
 
 loop-holds : tie.Need-loop-holds Inv-loop μ-loop
 loop-holds c = search needs

@@ -1,34 +1,66 @@
 -- `caption::Framerate::budgets` meets its contract: one law of `Rates` for each way out. Assumes nothing.
 use borrow.Author.Needs.{needs}
-use Rattle.caption.proofs.Rates.{numer-zero, pairs-zero, triples-over, rate-accepted}
+use Rattle.caption.proofs.Rates.{too-fast, too-slow, rate-accepted}
 use Rattle.caption.proofs.Framerate.budgets.Statement.{statement}
 use Rattle.caption.proofs.Framerate.budgets.Tie as tie
 
-returns : tie.Need-returns
-returns c = search (needs, numer-zero)
+cast-numer : tie.Need-cast-numer
+cast-numer c = search needs
 
-mul-div-round-requires : tie.Need-mul-div-round-requires
-mul-div-round-requires c κs = search needs
+cast-denom : tie.Need-cast-denom
+cast-denom c = search needs
+
+mul-if1 : tie.Need-mul-if1
+mul-if1 c = search needs
+
+mul-if1-2 : tie.Need-mul-if1-2
+mul-if1-2 c = search needs
+
+returns : tie.Need-returns
+returns c = search (needs, too-fast)
+
+mul-if2 : tie.Need-mul-if2
+mul-if2 c = search needs
+
+add-if2 : tie.Need-add-if2
+add-if2 c = search needs
+
+mul-if2-2 : tie.Need-mul-if2-2
+mul-if2-2 c = search needs
+
+mul-if2-3 : tie.Need-mul-if2-3
+mul-if2-3 c = search needs
+
+mul-if2-4 : tie.Need-mul-if2-4
+mul-if2-4 c = search needs
 
 returns-2 : tie.Need-returns-2
-returns-2 c = search (needs, pairs-zero)
+returns-2 c = search (needs, too-slow)
 
-mul-div-round-requires-2 : tie.Need-mul-div-round-requires-2
-mul-div-round-requires-2 c κs = search needs
+nearest-requires : tie.Need-nearest-requires
+nearest-requires c κs = search needs
+
+nearest-requires-2 : tie.Need-nearest-requires-2
+nearest-requires-2 c κs = search needs
 
 returns-3 : tie.Need-returns-3
-returns-3 c = search (needs, triples-over)
-
-returns-4 : tie.Need-returns-4
-returns-4 c = search (needs, rate-accepted)
+returns-3 c = search (needs, rate-accepted)
 
 pub budgets-spec : {M : Type 1} → statement M
 budgets-spec =
     tie.close
     (tie.spec
+    cast-numer
+    cast-denom
+    mul-if1
+    mul-if1-2
     returns
-    mul-div-round-requires
+    mul-if2
+    add-if2
+    mul-if2-2
+    mul-if2-3
+    mul-if2-4
     returns-2
-    mul-div-round-requires-2
-    returns-3
-    returns-4)
+    nearest-requires
+    nearest-requires-2
+    returns-3)
