@@ -58,7 +58,7 @@ class Module:
         """An object of the module, or of another source, for a target."""
         out = os.path.join(self.work, "compiled.o")
         given = ["-x", "ir", self.path] if source is None else [source]
-        done = subprocess.run([self.clang, f"--target={target}", "-Wno-override-module", "-O3", "-c", *words, *given, "-o", out], capture_output=True)
+        done = subprocess.run([self.clang, f"--target={target}", "-Wno-override-module", "-O3", "-c", *words, *given, "-o", out], capture_output=True, text=True)
         if done.returncode != 0:
-            raise Missing(f"the compiler makes nothing for {target}")
+            raise Missing(f"the compiler makes nothing for {target}: " + (done.stderr.strip().split("\n")[-1]))
         return out

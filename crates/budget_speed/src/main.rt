@@ -1,6 +1,6 @@
 // Works out the budgets of each rate of its input a hundred thousand times, to set the time beside the crate's (`oracle/src/bin/budget_speed.rs`). A
-// rate is eight bytes, the numerator and the denominator, higher bytes first. Each time the numerator goes up by what was found the time before, so
-// that nothing can be left out or worked out ahead. The line written is how many rates were accepted and the sums of their pairs and triples, and both
+// rate is eight bytes, the numerator and the denominator, higher bytes first. Each time the budgets found the time before are added to both, so that
+// the next ones cannot be worked out ahead. The line written is how often a rate was accepted and the sums of the pairs and of the triples, and both
 // programs write the same.
 use basics::wide;
 use caption::Budgets;
@@ -24,9 +24,9 @@ fn number(a: u8, b: u8, c: u8, d: u8) -> usize {
     (wide(a) * 256 + wide(b)) * 65536 + wide(c) * 256 + wide(d)
 }
 
-// The lower 32 bits of a number.
-fn low(n: usize) -> u32 {
-    (n % 4294967296) as u32
+// The lower 32 bits of a sum.
+fn moved(n: usize, by: usize) -> u32 {
+    (std::num::wrapping_add_usize(n, by) % 4294967296) as u32
 }
 
 // The totals with the budgets of a rate; a refused one adds nothing.
@@ -52,7 +52,7 @@ fn with_rate(start: Totals, numer: usize, denom: usize) -> Totals {
     let mut t = start;
     let mut i: usize = 0;
     while i < TIMES {
-        let rate = Framerate::new(low(std::num::wrapping_add_usize(numer, t.last)), low(denom));
+        let rate = Framerate::new(moved(numer, t.last), moved(denom, t.last));
         t = with_budgets(t, rate.budgets());
         i += 1;
     }

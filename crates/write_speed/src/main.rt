@@ -1,7 +1,8 @@
-// Writes a thousand frames for each byte of its input at 30000/1001 with both paddings on, to set the time beside the crate's
-// (`oracle/src/bin/write_speed.rs`). The first byte is added to the numerator, so that no budget is known before the run. A pair of each field goes
-// in before each frame, and a packet of 40 bytes before nine frames of ten: as much as the frames carry away. The line written is how many bytes the
-// frames have and a sum over each of them, so that no writing can be left out, and both programs write the same.
+// Writes a thousand frames for each byte of its input at about 30000/1001 with both paddings on, to set the time beside the crate's
+// (`oracle/src/bin/write_speed.rs`). The rate of a frame depends on the first byte, which is to be 0, and on the frame before it, so that its budgets
+// have to be worked out in each write. A pair of each field goes in before each frame, and a packet of 40 bytes before nine frames of ten: as much as
+// the frames carry away. The line written is how many bytes the frames have and a sum over each of them, so that no writing can be left out, and both
+// programs write the same.
 use basics::MOST_FRAME;
 use caption::Cea608;
 use caption::Counted;
@@ -105,15 +106,16 @@ fn started() -> CCDataWriter {
     padded.writer
 }
 
-// The rate that a byte tells.
-fn rate_by(byte: u8) -> Framerate {
-    Framerate::new(30000 + byte as u32, 1001)
+// The rate of a frame, by the first byte of the input and the last of the frame before it: two pairs and 20 triples, where the first is 0.
+fn rate_by(first: u8, last: u8) -> Framerate {
+    let more = first as u32 * 65536;
+    Framerate::new(30000 + more + last as u32, 1001 + more)
 }
 
 // The totals of the frames that so many pairs go into.
 fn write_frames(
     start: CCDataWriter,
-    rate: Framerate,
+    first: u8,
     block1: Service,
     block2: Service,
     block3: Service,
@@ -131,7 +133,7 @@ fn write_frames(
                 let stored = writer.push_packet(packet(i / 2, block1, block2, block3));
                 writer = stored.writer;
             }
-            let written = writer.write(rate, frame);
+            let written = writer.write(rate_by(first, frame[61]), frame);
             writer = written.writer;
             let answer = written.answer;
             t = with_frame(t, frame, answer);
@@ -148,11 +150,10 @@ fn main() {
     let block2 = block(2);
     let block3 = block(3);
     let start = started();
-    let rate = rate_by(input[0]);
     let mut frame = [0u8; 95];
     let t = write_frames(
         start,
-        rate,
+        input[0],
         block1,
         block2,
         block3,

@@ -66,7 +66,7 @@ rested s =
     let none = eqb (leftOf s) 0 in
     record { slot = record { len = cond none 0 (s .slot .len); bytes = s .slot .bytes }; sent = cond none 0 (s .sent); next = s .next; frame = s .frame }
 
--- the triples that a frame lacks up to a count: the first two bytes belong to none
+-- the triples that a frame lacks up to a count; its first two bytes belong to none, and it is taken to have 31 at the most
 abbrev pub lacks : ℕ → Frame → ℕ
 lacks count f = count - stepsIn (f .len - 2) 3
 

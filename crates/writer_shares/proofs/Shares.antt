@@ -1,5 +1,5 @@
 -- What a frame gets of a rate: what the tests and the cuts of the code come to. Assumes nothing.
-use mathlib.Core.Path.{_≡_, refl, sym, ap, _∙_}
+use mathlib.Core.Path.{_≡_, refl, sym, _∙_}
 use mathlib.Core.Bool.{Bool, true, false, _&&_}
 use mathlib.Mathlib.Logic.Function.Defs.{Injective, LeftInverse, LeftInverse·injective}
 use Prim.Native.Nat.{ℕ, _+_, _*_, _≤_, _<_}

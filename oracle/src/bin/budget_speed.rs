@@ -25,7 +25,7 @@ fn main() {
     for rate in input.chunks_exact(8) {
         let (numer, denom) = (number(&rate[..4]), number(&rate[4..]));
         for _ in 0..100_000 {
-            match budgets(Framerate::new(numer.wrapping_add(last as u32), denom)) {
+            match budgets(Framerate::new(numer.wrapping_add(last as u32), denom.wrapping_add(last as u32))) {
                 Some((p, t)) => {
                     accepted += 1;
                     pairs += p;

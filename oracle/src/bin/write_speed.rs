@@ -1,5 +1,4 @@
-//! Writes a thousand frames for each byte of its input at 30000/1001, the first byte added to the numerator, with the crate, both paddings on: what
-//! `crates/write_speed` does with the port.
+//! Writes a thousand frames for each byte of its input at about 30000/1001 with the crate, both paddings on: what `crates/write_speed` does with the port.
 
 use std::io::Read;
 
@@ -29,7 +28,7 @@ fn due(i: usize) -> bool {
 fn main() {
     let mut input = Vec::new();
     std::io::stdin().read_to_end(&mut input).unwrap();
-    let rate = Framerate::new(30000 + *input.first().unwrap_or(&0) as u32, 1001);
+    let more = 65536 * *input.first().unwrap_or(&0) as u32;
     let blocks = [block(1), block(2), block(3)];
     let mut writer = CCDataWriter::default();
     writer.set_output_cea608_padding(true);
@@ -43,8 +42,9 @@ fn main() {
         if due(i) {
             writer.push_packet(packet(i, &blocks));
         }
+        let last = frame.get(61).copied().unwrap_or(0);
         frame.clear();
-        writer.write(rate, &mut frame).unwrap();
+        writer.write(Framerate::new(30000 + more + last as u32, 1001 + more), &mut frame).unwrap();
         bytes += frame.len();
         sum = frame.iter().fold(sum, |sum, b| sum.wrapping_mul(31).wrapping_add(*b as u64));
     }

@@ -10,21 +10,21 @@ use Rattle.basics.proofs.Steps.take.Reads as take-reads
 
 -- 15 more at the most
 by16 : (c : lts.After-take (take-reads.Asked, take-reads.Learnt) reads.Pre reads.Post) → Cutting (c .before .args .sum) (c .before .args .step) 15 (c .take .result)
-by16 c = goes _ _ 16 15 (omega arith) (c .take .ensures) (begun _ _)
+by16 c = goes _ _ _ 15 (omega arith) (c .take .ensures) (begun _ _)
 
 -- 7
 by8 : (c : lts.After-take2 (take-reads.Asked, take-reads.Learnt) reads.Pre reads.Post) → Cutting (c .before .before .args .sum) (c .before .before .args .step) 7 (c .take2 .result)
-by8 c = goes _ _ 8 7 (omega arith) (c .take2 .ensures) (by16 (c .before))
+by8 c = goes _ _ _ 7 (omega arith) (c .take2 .ensures) (by16 (c .before))
 
 -- 3
 by4 : (c : lts.After-take3 (take-reads.Asked, take-reads.Learnt) reads.Pre reads.Post)
     → Cutting (c .before .before .before .args .sum) (c .before .before .before .args .step) 3 (c .take3 .result)
-by4 c = goes _ _ 4 3 (omega arith) (c .take3 .ensures) (by8 (c .before))
+by4 c = goes _ _ _ 3 (omega arith) (c .take3 .ensures) (by8 (c .before))
 
 -- one
 by2 : (c : lts.After-take4 (take-reads.Asked, take-reads.Learnt) reads.Pre reads.Post)
     → Cutting (c .before .before .before .before .args .sum) (c .before .before .before .before .args .step) 1 (c .take4 .result)
-by2 c = goes _ _ 2 1 (omega arith) (c .take4 .ensures) (by4 (c .before))
+by2 c = goes _ _ _ 1 (omega arith) (c .take4 .ensures) (by4 (c .before))
 
 take-requires : tie.Need-take-requires
 take-requires c κs = search needs
@@ -42,7 +42,7 @@ take-requires-5 : tie.Need-take-requires-5
 take-requires-5 c κs = (omega arith, omega (arith, by2 c .most))
 
 returns : tie.Need-returns
-returns c = ended _ _ (goes _ _ 1 0 (omega arith) (c .take5 .ensures) (by2 (c .before)))
+returns c = ended _ _ (goes _ _ _ 0 (omega arith) (c .take5 .ensures) (by2 (c .before)))
 
 pub cut-spec : {M : Type 1} → statement M
 cut-spec =

@@ -5,10 +5,10 @@ use Rattle.write_speed.proofs.write_frames.Statement.{statement}
 use Rattle.write_speed.proofs.write_frames.Tie as tie
 
 abbrev Inv-loop : tie.InvT-loop
-Inv-loop rate block1 block2 block3 pairs frame₀ writer₀ t₀ i₀ frame writer t i = i ≤ pairs
+Inv-loop first block1 block2 block3 pairs frame₀ writer₀ t₀ i₀ frame writer t i = i ≤ pairs
 
 abbrev μ-loop : tie.MeasureT-loop
-μ-loop rate block1 block2 block3 pairs frame₀ writer₀ t₀ i₀ frame writer t i = pairs - i
+μ-loop first block1 block2 block3 pairs frame₀ writer₀ t₀ i₀ frame writer t i = pairs - i
 
 loop-holds : tie.Need-loop-holds Inv-loop μ-loop
 loop-holds c = search needs
@@ -27,6 +27,12 @@ packet-requires c κs = search needs
 
 push-packet-requires : tie.Need-push-packet-requires Inv-loop μ-loop
 push-packet-requires c κs = search needs
+
+element-copy-out-rate-by : tie.Need-element-copy-out-rate-by Inv-loop μ-loop
+element-copy-out-rate-by c = search needs
+
+rate-by-requires : tie.Need-rate-by-requires Inv-loop μ-loop
+rate-by-requires c κs = search needs
 
 write-requires : tie.Need-write-requires Inv-loop μ-loop
 write-requires c κs = search needs
@@ -58,6 +64,8 @@ write-frames-spec =
     due-requires
     packet-requires
     push-packet-requires
+    element-copy-out-rate-by
+    rate-by-requires
     write-requires
     with-frame-requires
     add-i
