@@ -1,12 +1,13 @@
 -- A sum cut by subtraction: what was taken off is so many steps, and the rest is what remains. Assumes nothing.
-use mathlib.Core.Path.{_≡_, ap}
+use mathlib.Core.Path.{_≡_, ap, _∙_}
+use mathlib.Core.Bool.{cond}
 use Prim.Native.Nat.{ℕ, _+_, _-_, _*_, _/_, _%_, _≤_, _<_}
-use native.Mathlib.Nat.{add-mul, one-mul, zero-mul, mul-le-mul-right, div-eq-of-lt-le, le-div-iff-mul-le, div-add-mod'}
+use native.Mathlib.Nat.{add-mul, one-mul, zero-mul, mul-le-mul-right, div-eq-of-lt-le, le-div-iff-mul-le, div-add-mod', mod-lt}
 use native.Mathlib.Omega.{arith}
 use lib.Dec.{eqb, leb, ltb}
 use borrow.Author.Tests.{ne-eqb, eqb-false, leb-true, leb-false, ltb-true, ltb-false}
 use Rattle.model.proofs.Cases.{by-test}
-use Rattle.basics.specs.Cut.{stepsIn, cutOf, taken}
+use Rattle.basics.specs.Cut.{stepsIn, cutOf}
 use Rattle.basics.specs.declared.Steps.{Steps}
 
 module _ (sum step count rest : ℕ) (e : rest + count * step ≡ sum) where
@@ -40,19 +41,24 @@ module _ (sum step : ℕ) where
   begun = record { all = omega (arith, zero-mul step); most = omega arith; left = λ few. omega arith }
 
   -- of n + m at the most n are taken off at once, n being no more than m + 1, or fewer than n are left
-  pub goes : (n m : ℕ) {s r : Steps} → n ≤ m + 1 → r ≡ taken n step s → Cutting sum step (n + m) s → Cutting sum step m r
-  unfolding taken
+  pub goes : (n m : ℕ) {s r : Steps} → n ≤ m + 1 → (r .count ≡ s .count + cond (leb (n * step) (s .rest)) n 0) × (r .rest + r .count * step ≡ s .rest + s .count * step)
+      → Cutting sum step (n + m) s → Cutting sum step m r
   goes n m {s} {r} half e c =
-      by-test (ltb (s .rest) (n * step))
-      (λ t. let less = ltb-true (s .rest) (n * step) t in
-      rw (e, t) (record { all = c .all; most = omega (arith, c .most); left = λ few. omega (arith, less, mul-le-mul-right {m = n} {n = m + 1} step half) }))
-      (λ t. let more = ltb-false (s .rest) (n * step) t in
-      rw (e, t)
-      (record {
-        all = omega (arith, c .all, more, add-mul (s .count) n step);
-        most = omega (arith, c .most);
-        left = λ few. omega (arith, c .left (omega arith), more, add-mul n (m + 1) step);
-      }))
+      by-test (leb (n * step) (s .rest))
+      (λ t. let f : r .count ≡ s .count + n = rw t at (e .0) in
+      let g : r .count * step ≡ s .count * step + n * step = ap (λ (k : ℕ). k * step) f ∙ add-mul (s .count) n step in
+      record {
+        all = omega (arith, c .all, e .1);
+        most = omega (arith, c .most, f);
+        left = λ few. omega (arith, c .left (omega arith), leb-true (n * step) (s .rest) t, add-mul n (m + 1) step, e .1, g);
+      })
+      (λ t. let f : r .count ≡ s .count = omega (arith, rw t at (e .0)) in
+      let g : r .count * step ≡ s .count * step = ap (λ (k : ℕ). k * step) f in
+      record {
+        all = omega (arith, c .all, e .1);
+        most = omega (arith, c .most, f);
+        left = λ few. omega (arith, leb-false (n * step) (s .rest) t, mul-le-mul-right {m = n} {n = m + 1} step half, e .1, g);
+      })
 
   -- no more is to be taken
   pub ended : {s : Steps} → Cutting sum step 0 s → s ≡ cutOf sum step
@@ -71,3 +77,17 @@ cut-exact sum step few =
     let n : stepsIn sum step ≡ sum / step = rw (ne-eqb step 0 (λ z. omega arith)) (omega arith) in
     let r : sum - sum / step * step ≡ sum % step = omega arith in
     rw (n, r)
+
+-- what such a cut has
+module _ (sum step : ℕ) (few : sum < 32 * step) {s : Steps} (e : s ≡ cutOf sum step) where
+  -- its steps are few
+  pub few-steps : s .count ≤ 31
+  few-steps = rw (e, ne-eqb step 0 (λ z. omega arith)) (omega arith)
+
+  -- the rest is less than a step
+  pub less-left : s .rest < step
+  less-left = rw (e ∙ cut-exact sum step few) (mod-lt sum {m = step} (omega arith))
+
+  -- and with the steps it is the whole
+  pub whole : s .count * step + s .rest ≡ sum
+  whole = rw (e ∙ cut-exact sum step few) (div-add-mod' sum step)

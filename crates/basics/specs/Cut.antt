@@ -1,7 +1,7 @@
 -- A sum cut into steps. No public contract of `writer` reaches this file. Assumes nothing.
 use mathlib.Core.Bool.{cond}
-use Prim.Native.Nat.{ℕ, _+_, _-_, _*_, _/_, min}
-use lib.Dec.{eqb, ltb}
+use Prim.Native.Nat.{ℕ, _-_, _*_, _/_, min}
+use lib.Dec.{eqb}
 use Rattle.model.specs.Rate.{mostTriples}
 use Rattle.basics.specs.declared.Steps.{Steps}
 
@@ -12,7 +12,3 @@ stepsIn sum step = cond (eqb step 0) mostTriples (min mostTriples (sum / step))
 -- these, and what they leave over
 abbrev pub cutOf : ℕ → ℕ → Steps
 cutOf sum step = record { count = stepsIn sum step; rest = sum - stepsIn sum step * step }
-
--- n steps more, if there are so many
-unfoldable pub taken : ℕ → ℕ → Steps → Steps
-taken n step s = cond (ltb (s .rest) (n * step)) s (record { count = s .count + n; rest = s .rest - n * step })

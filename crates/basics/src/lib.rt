@@ -1,9 +1,11 @@
 // What every part shares: the numbers of the rule book, the lesser of two counts, a sum cut into steps, a byte as a number, and bytes laid into a
 // buffer.
 ghost use mathlib.Core.Path.{_≡_};
-ghost use Prim.Native.Nat.{_≤_, min};
+ghost use mathlib.Core.Bool.{cond};
+ghost use Prim.Native.Nat.{_+_, _*_, _≤_, min};
+ghost use lib.Dec.{leb};
 ghost use lib.Seq.{sets};
-ghost use Rattle.basics.specs.Cut.{taken, cutOf};
+ghost use Rattle.basics.specs.Cut.{cutOf};
 
 // The most bytes of a packet.
 pub const MOST_PACKET: usize = 128;
@@ -70,10 +72,10 @@ pub fn cut(sum: usize, step: u32) -> Steps
 }
 
 impl Steps {
-    // Takes `n` more steps off the rest, if there are so many.
+    // Takes `n` more steps off the rest, if there are so many; nothing is lost.
     fn take(self, n: usize, step: u32) -> Steps
         requires { ⌜ (n ≤ 16) × (self .count ≤ 31) ⌝ }
-        ensures { λ r. ⌜ r ≡ taken n step self ⌝ }
+        ensures { λ r. ⌜ (r .count ≡ self .count + cond (leb (n * step) (self .rest)) n 0) × (r .rest + r .count * step ≡ self .rest + self .count * step) ⌝ }
     {
         let off = n * step as usize;
         if self.rest < off {

@@ -19,9 +19,13 @@ module _ (k n d x : ℕ) (pos : 0 < n) where
   least = le-div-iff-mul-le {k = 2 * n} {x = x} {y = 2 * (k * d) + n} (omega arith) .1
 
   -- and no more
-  pub most : x ≤ rounded k n d → x * (2 * n) ≤ 2 * (k * d) + n
+  most : x ≤ rounded k n d → x * (2 * n) ≤ 2 * (k * d) + n
   unfolding rounded
   most = le-div-iff-mul-le {k = 2 * n} {x = x} {y = 2 * (k * d) + n} (omega arith) .0
+
+  -- so much is not reached
+  pub fewer : 2 * (k * d) + n < x * (2 * n) → rounded k n d < x
+  fewer h = by-test (leb x (rounded k n d)) (λ t. absurd (omega (arith, most (leb-true x (rounded k n d) t)))) (λ t. leb-false x (rounded k n d) t)
 
 -- budgets of one to three pairs and five to 31 triples, at least four of which are no pair
 pub record Sane (b : Budgets) : Type 0 where

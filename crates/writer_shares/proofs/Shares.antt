@@ -11,9 +11,9 @@ use Rattle.model.specs.Rate as model
 use Rattle.model.specs.Rate.{pairsThenTriples, budgets, mostTriples, validCarry, goingOn, carriedBudget, leftOver, carriedOn, carriedAt, carriedShare, shareBy}
 use Rattle.model.proofs.Cases.{by-test, both, gives-at}
 use Rattle.model.proofs.Rates.{Rated, budgets-rated}
-use Rattle.model.proofs.Carrying.{Below, going-below, below}
+use Rattle.model.proofs.Carrying.{Below, going-below}
 use Rattle.basics.specs.Cut.{cutOf}
-use Rattle.basics.proofs.Cuts.{cut-exact}
+use Rattle.basics.proofs.Cuts.{cut-exact, less-left}
 use Rattle.basics.specs.declared.Steps.{Steps}
 use Rattle.caption.specs.Rates.{saidBudgets}
 use Rattle.caption.proofs.Answers.{answerOf, refused-again}
@@ -80,7 +80,7 @@ module _ (k n d rest : ℕ) (less : rest < n) (room : k * d ≤ mostTriples * n)
 
   -- and what it leaves over is below numer again
   share-rest : s .rest < n
-  share-rest = rw share-cut (below k n d rest (omega arith))
+  share-rest = less-left (rest + k * d) n (omega arith) e
 
 -- in the carrying mode, of a rate that has frames and of parts within their limits
 module _ (n d : ℕ) (c : model.Carry) (ok : (validCarry c ≡ true) × (0 < n)) where

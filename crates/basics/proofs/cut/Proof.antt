@@ -42,7 +42,7 @@ take-requires-5 : tie.Need-take-requires-5
 take-requires-5 c κs = (omega arith, omega (arith, by2 c .most))
 
 returns : tie.Need-returns
-returns c = ended _ _ (goes _ _ _ 0 (omega arith) (c .take5 .ensures) (by2 (c .before)))
+returns c = ended _ _ (goes _ _ 1 0 (omega arith) (c .take5 .ensures) (by2 (c .before)))
 
 pub cut-spec : {M : Type 1} → statement M
 cut-spec =

@@ -1,7 +1,9 @@
 -- `caption::Framerate::nearest` meets its contract: of fewer than 32 steps the cut tells both the whole ones and the rest. Assumes nothing.
+use Prim.Native.Nat.{_*_}
 use native.Mathlib.Omega.{arith}
 use borrow.Author.Needs.{needs}
-use Rattle.caption.proofs.Rates.{few-steps, less, goes-down, goes-up}
+use Rattle.basics.proofs.Cuts.{few-steps, less-left}
+use Rattle.caption.proofs.Rates.{goes-down, goes-up}
 use Rattle.caption.proofs.Framerate.nearest.Statement.{statement}
 use Rattle.caption.proofs.Framerate.nearest.Tie as tie
 
@@ -16,7 +18,7 @@ cut-requires c κs = search needs
 
 mul-if1 : tie.Need-mul-if1
 mul-if1 c = let s = c .before .before .before in
-    omega (arith, less (s .args .k) (s .args .self .numer) (s .args .self .denom) (s .pre) (c .before .cut .ensures))
+    omega (arith, less-left (s .args .k * s .args .self .denom) (s .args .self .numer) (s .pre) (c .before .cut .ensures))
 
 cast-if1 : tie.Need-cast-if1
 cast-if1 c = search needs
@@ -27,7 +29,7 @@ returns c = let s = c .before .before .before .before .before in
 
 add-result : tie.Need-add-result
 add-result c = let s = c .before .before .before .before .before .before in
-    omega (arith, few-steps (s .args .k) (s .args .self .numer) (s .args .self .denom) (s .pre) (c .before .before .before .before .cut .ensures))
+    omega (arith, few-steps (s .args .k * s .args .self .denom) (s .args .self .numer) (s .pre) (c .before .before .before .before .cut .ensures))
 
 returns-2 : tie.Need-returns-2
 returns-2 c = let s = c .before .before .before .before .before .before in
