@@ -1,5 +1,5 @@
-"""Operations with the lines that the rule book (docs/RULES.md) asks for: its examples, the carrying mode, and raw fields set by `B`,
-`K`, `D`, `Q` and `C`.
+"""Operations with the lines that the rule book (docs/RULES.md) asks for: its examples, the true count, the carrying mode, and raw fields
+set by `B`, `K`, `D`, `Q` and `C`.
 
 What follows a raw field is derived from the rules and not from the crate, whose fields are private: a value within the
 limits is what its fields say, and every call on another is refused with 11 before anything else.
@@ -58,6 +58,17 @@ TABLE = [
     (("p", data("82 21 41 00")), "ok 2 1:41"),
     (("q",), "ok"),
     (("w", 30, 1, 11), out("C4 FF FC 94 2C FF 82 21 FE 41 00", 11)),
+    (("f", data("C4 FF FC 94 2C FF 82 21 FE 41 00")), "refused 1 13 11"),
+    (("W",), "ok"),
+    (("S", 0, 0, 0, 1), "ok"),
+    (("1", 0x94, 0x2C), "ok"),
+    (("1", 0x94, 0x2C), "ok"),
+    (("q",), "ok"),
+    (("w", 30, 1, 11), out("C3 FF FC 94 2C FF 82 21 FE 41 00", 11)),
+    (("f", data("C3 FF FC 94 2C FF 82 21 FE 41 00")), "ok"),
+    (("n",), "ok field1 942C"),
+    (("n",), "ok packet 2 1:41"),
+    (("n",), "ok none"),
     (("W",), "ok"),
     (("S", 1, 0), "ok"),
     (("1", 0x94, 0x2C), "ok"),
@@ -90,6 +101,61 @@ def padded(pairs, triples, field=1):
     turns = "".join(["F8 80 80", "F9 80 80"][(field - 1 + turn) % 2] for turn in range(pairs))
     return out(f"{0xC0 + triples:02X} FF" + turns + "FA 00 00" * (triples - pairs), 95)
 
+
+COUNTING = [
+    # two pairs of field 1: two turns, of which the second, field 2's, sends nothing; it is counted, or with the true count it is not
+    (("W",), "ok"),
+    (("1", 0x94, 0x2C), "ok"),
+    (("1", 0x94, 0x20), "ok"),
+    (("w", 30, 1, 5), out("C2 FF FC 94 2C", 5)),
+    (("w", 30, 1, 5), out("C1 FF FC 94 20", 5)),
+    (("W",), "ok"),
+    (("S", 0, 0, 0, 1), "ok"),
+    (("1", 0x94, 0x2C), "ok"),
+    (("1", 0x94, 0x20), "ok"),
+    (("w", 30, 1, 5), out("C1 FF FC 94 2C", 5)),
+    (("w", 30, 1, 5), out("C1 FF FC 94 20", 5)),
+    # the turn was taken: the next is field 2's, and field 1's pair waits for its own
+    (("1", 0x94, 0x2C), "ok"),
+    (("w", 60, 1, 2), out("C0 FF", 2)),
+    (("w", 60, 1, 5), out("C1 FF FC 94 2C", 5)),
+    # field 2 begins: its pair, and then a turn of field 1 that finds nothing, for it was the last
+    (("2", 0x15, 0x2C), "ok"),
+    (("w", 30, 1, 5), out("C1 FF FD 15 2C", 5)),
+    (("2", 0x15, 0x2C), "ok"),
+    (("2", 0x15, 0x20), "ok"),
+    (("w", 25, 1, 8), out("C2 FF FD 15 2C FC 80 80", 8)),
+    (("w", 25, 1, 5), out("C1 FF FD 15 20", 5)),
+    # without the true count the same is counted above what is sent
+    (("S", 0, 0), "ok"),
+    (("w", 60, 1, 2), out("C0 FF", 2)),
+    (("2", 0x15, 0x2C), "ok"),
+    (("2", 0x15, 0x2C), "ok"),
+    (("w", 20, 1, 11), out("C3 FF FD 15 2C FC 80 80 FD 15 2C", 11)),
+    (("2", 0x15, 0x2C), "ok"),
+    (("w", 30, 1, 8), out("C2 FF FC 80 80 FD 15 2C", 8)),
+    # with a padding on nothing changes
+    (("S", 1, 0, 0, 1), "ok"),
+    (("1", 0x94, 0x2C), "ok"),
+    (("w", 30, 1, 8), out("C2 FF FC 94 2C F9 80 80", 8)),
+    (("S", 0, 1, 0, 1), "ok"),
+    (("1", 0x94, 0x2C), "ok"),
+    (("1", 0x94, 0x2C), "ok"),
+    (("w", 60, 1, 32), out("CA FF FC 94 2C" + "FA 00 00" * 9, 32)),
+    (("S", 1, 1, 0, 1), "ok"),
+    (("w", 60, 1, 32), out("CA FF F9 80 80" + "FA 00 00" * 9, 32)),
+    # a flush leaves the switch; so does a write that is refused
+    (("S", 0, 0, 0, 1), "ok"),
+    (("x",), "ok"),
+    (("1", 0x94, 0x2C), "ok"),
+    (("1", 0x94, 0x20), "ok"),
+    (("w", 30, 1, 4), "refused 9 5 A5A5A5A5"),
+    (("w", 121, 1, 5), "refused 8 A5A5A5A5A5"),
+    (("w", 30, 1, 5), out("C1 FF FC 94 2C", 5)),
+    # the other bits are not looked at
+    (("raw", [0x53, 0xF8]), "ok"),
+    (("w", 30, 1, 5), out("C1 FF FC 94 20", 5)),
+]
 
 # Beside a rate stands what is due in each frame, and so what its frames get.
 CARRYING = [
@@ -160,6 +226,19 @@ CARRYING = [
     (("1", 0x94, 0x2C), "ok"),
     (("1", 0x94, 0x2C), "ok"),
     (("w", 24, 1, 14), out("C5 FF FC 94 2C FC 94 2C FF 82 21 FE 41 00", 14)),
+    # the true count is free of the mode: at 24/1 three turns, of which the second sends nothing
+    (("W",), "ok"),
+    (("S", 0, 0, 1, 1), "ok"),
+    (("w", 24, 1, 2), out("C0 FF", 2)),
+    (("1", 0x94, 0x2C), "ok"),
+    (("1", 0x94, 0x20), "ok"),
+    (("1", 0x94, 0x25), "ok"),
+    (("w", 24, 1, 8), out("C2 FF FC 94 2C FC 94 20", 8)),
+    (("w", 24, 1, 2), out("C0 FF", 2)),
+    (("S", 0, 0, 1, 0), "ok"),
+    (("w", 24, 1, 5), out("C1 FF FC 94 25", 5)),
+    (("1", 0x94, 0x2C), "ok"),
+    (("w", 24, 1, 2), out("C1 FF", 2)),
     # 24000/1001: 25.025 triples, so 25 in 39 frames and 26 in the fortieth
     (("W",), "ok"),
     (("S", 0, 1, 1), "ok"),

@@ -1,4 +1,4 @@
-"""A second reckoning of `ccscript`'s multiplexer, with its carrying mode: the lines that a script has to print.
+"""A second reckoning of `ccscript`'s multiplexer, with its carrying mode and its true count: the lines that a script has to print.
 
 It is written from the rules (docs/RULES.md, whose numbers stand in square brackets), with exact fractions. What a frame
 gets in the carrying mode is the difference of two sums, what is due up to it and what was due before it; no rest is handed
@@ -137,6 +137,7 @@ class Multiplexer(NamedTuple):
     pair_padding: bool = False
     output_padding: bool = False
     carrying: bool = False
+    true_count: bool = False
     sum: Sum = Sum()
     packets: tuple = ()  # no triple of which has left
     sending: tuple = ()  # the triples left of the packet being sent
@@ -146,10 +147,10 @@ class Multiplexer(NamedTuple):
 
 
 def switch(mux, bits):
-    """[W12]; the sum of the carrying mode goes on only where the mode was on and stays on."""
-    pair_padding, output_padding, carrying = (bits >> place & 1 == 1 for place in range(3))
+    """[W12] and [W17]; the sum of the carrying mode goes on only where the mode was on and stays on."""
+    pair_padding, output_padding, carrying, true_count = (bits >> place & 1 == 1 for place in range(4))
     kept = mux.sum if mux.carrying and carrying else Sum()
-    return mux._replace(pair_padding=pair_padding, output_padding=output_padding, carrying=carrying, sum=kept)
+    return mux._replace(pair_padding=pair_padding, output_padding=output_padding, carrying=carrying, true_count=true_count, sum=kept)
 
 
 def push_packet(mux, packet):
@@ -217,13 +218,14 @@ def left_to_send(mux, triples):
 
 
 def write(mux, numer, denom):
-    """The next frame ([W1] to [W3], [W7] to [W9]), and the multiplexer behind it."""
+    """The next frame ([W1] to [W3], [W7] to [W9], [W17]), and the multiplexer behind it."""
     pairs, triples, behind = budgets(mux, numer, denom)
     wanted = max(len(mux.field1), 2 * len(mux.field2))
     turns = pairs if mux.pair_padding else min(pairs, wanted)
     unsent = [*mux.sending, *(triple for packet in mux.packets for triple in packet_triples(packet))]
-    count = triples if mux.output_padding else min(triples, turns + len(unsent))
     sent, mux = pair_triples(mux, turns)
+    counted = len(sent) if mux.true_count else turns
+    count = triples if mux.output_padding else min(triples, counted + len(unsent))
     room = count - len(sent)
     sent += unsent[:room]
     if mux.output_padding:

@@ -23,10 +23,10 @@ def reckoned(script):
     return [*reckoning.answers(records), f"end {len(records)}", "exit 0"]
 
 
-def written(several):
-    """For each of several scripts the frames that it writes by the crate."""
+def written(several, program=CRATE):
+    """For each of several scripts the frames that it writes by a program."""
     whole = [op for script in several for op in FRESH + script]
-    answers = iter(zip(whole, lines(CRATE, whole)))
+    answers = iter(zip(whole, lines(program, whole)))
     for script in several:
         for _ in FRESH:
             next(answers)

@@ -2,7 +2,7 @@
 
 An operation is a tuple of its letter and its arguments, or of "raw" and a record's bytes; a script is a list of operations.
 `generate(seed, written)` gives each kind with its scripts, and `generate_carrying(seed)` those of the carrying mode, which the
-crate does not have.
+crate does not have. `generate_counting` and `generate_carrying_counting` give those with writes once more, with the true count.
 """
 import random, itertools
 R = random.Random()
@@ -305,8 +305,8 @@ def durations():
         for _ in range(6): s += [("w", *a_rate(), 95), ("u",)]
         yield s
 
-def journeys(count, written):
-    """What a multiplexer writes, read back by the demultiplexer, some frames damaged or lost. `written` gives scripts' frames."""
+def journeys(count, written, set_up=list):
+    """What a multiplexer writes, set up in some way, read back by the demultiplexer, some frames damaged or lost. `written` gives scripts' frames."""
     fronts = []
     for _ in range(count):
         s = [("S", *R.choice([(0, 1), (1, 0), (1, 1), (0, 0)]))]
@@ -318,6 +318,7 @@ def journeys(count, written):
             elif r < .65: queue_packet(s)
             else: s.append(("w", *rate, 95))
         fronts.append(s + [("w", *rate, 95)] * R.choice([1, 4, 12]))
+    fronts = list(set_up(fronts))
     for s, frames in zip(fronts, written(fronts)):
         back = [("H",)]
         for f in frames:
@@ -474,6 +475,35 @@ def carrying_records():
         for n in [*range(21), 253, 254]:
             yield [("S", 1, 1, 1), ("w", 24, 1, 95), ("raw", [letter] + [R.choice([0, 7])] * n), ("u",), ("w", 24, 1, 95)]
 
+def counting(several):
+    """Scripts with the true count on from the start and from each fresh multiplexer on, and mostly on where the switches are set."""
+    def on(): return ("S", bit(), bit(), 0, 1)
+    for script in several:
+        s = [on()]
+        for op in script:
+            s.append((*op, *[0] * (4 - len(op)), bit(.8)) if op[0] == "S" else op)
+            if op[0] == "W": s.append(on())
+        yield s
+
+def exact(count):
+    """Pushes and writes in any order, each write with a padding or the true count on, in every such setting of the four switches."""
+    settings = [bits for bits in itertools.product((0, 1), repeat=4) if bits[0] or bits[1] or bits[3]]
+    for i in range(count):
+        s, rate = [("S", *settings[i % len(settings)])], R.choice(CARRIED)
+        for _ in range(R.choice([10, 30, 60])):
+            r = R.random()
+            if r < .2: s.append(("1", byte(), byte()))
+            elif r < .35: s.append(("2", byte(), byte()))
+            elif r < .5: queue_blocks(s)
+            elif r < .55: s.append(("S", *R.choice(settings)))
+            elif r < .6: rate = R.choice(CARRIED)
+            else: s.append(("w", *rate, 95))
+        yield s
+
+def read_whole(frames):
+    """Frames given to a demultiplexer, which is emptied after each."""
+    return [("H",)] + [op for f in frames for op in [("f", list(f))] + [("n",)] * (len(f) // 3 + 1)]
+
 def not_there():
     """Every operation byte with every number of argument bytes up to 12, and a record of no bytes."""
     yield [("raw", [])]
@@ -528,6 +558,19 @@ def generate(seed, written, scale=1.0):
     yield "anything", anything(c(1000))
     yield "operations that are not there", not_there()
 
+def generate_counting(seed, written, scale=1.0):
+    """The kinds with writes, with the true count."""
+    R.seed(seed)
+    c = lambda n: max(1, int(n * scale))
+    yield "true count, multiplexer", counting(mux(c(1000)))
+    yield "true count, queues full", counting(mux_full())
+    yield "true count, every queue near the budgets", counting(grid())
+    yield "true count, rates", counting(rates(c(300)))
+    yield "true count, durations", counting(durations())
+    yield "true count, multiplexer into demultiplexer", journeys(c(400), written, counting)
+    yield "true count, raw fields", counting(raw_fields(c(100)))
+    yield "true count, anything", counting(anything(c(600)))
+
 def generate_carrying(seed, scale=1.0):
     """The kinds for the carrying mode, of operations that the reckoning knows."""
     R.seed(seed)
@@ -537,3 +580,7 @@ def generate_carrying(seed, scale=1.0):
     yield "carrying mode, any order of calls", carrying(c(600))
     yield "carrying mode, raw parts", carrying_raw()
     yield "carrying mode, records of other lengths", carrying_records()
+
+def generate_carrying_counting(seed, scale=1.0):
+    """The same with the true count."""
+    for kind, several in generate_carrying(seed + 1, scale / 3): yield kind.replace("carrying mode,", "carrying mode with the true count,"), counting(several)

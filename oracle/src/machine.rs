@@ -269,7 +269,7 @@ impl Machine {
                 *w = None;
                 done()
             }
-            (b'S', &[bits]) => plain(within(w).map(|w| w.switch(bits & 1 == 1, bits & 2 == 2))),
+            (b'S', &[bits]) => plain(within(w).map(|w| w.switch(bits & 1 == 1, bits & 2 == 2, bits & 8 == 8))),
             (b'x', []) => plain(within(w).map(|w| w.flush())),
             (b'q', []) => plain(within(w).and_then(|w| w.push_packet(p.value()?))),
             (b'1' | b'2', &[a, b]) => plain(within(w).and_then(|w| w.push_pair(op == b'1', a, b))),

@@ -1,4 +1,4 @@
-//! The crate's multiplexer with the rule book's sizes, its rates and its lent output.
+//! The crate's multiplexer with the rule book's sizes, its rates, its true count and its lent output.
 
 use cea708_types::{CCDataWriter, Cea608, DTVCCPacket, Framerate};
 
@@ -23,6 +23,7 @@ pub struct Mux {
     done: Vec<Done>,
     /// packets pushed of which no triple has left
     queued: usize,
+    true_count: bool,
 }
 
 /// k · denom / numer, rounded as the rule book says.
@@ -34,6 +35,12 @@ fn rounded(k: u64, rate: Framerate) -> u64 {
 /// Refusal 8.
 fn accepted(rate: Framerate) -> bool {
     rate.numer() != 0 && rounded(60, rate) != 0 && rounded(600, rate) <= 31
+}
+
+/// The frame with its count mended: the triples that follow.
+fn mended(mut frame: Vec<u8>) -> Vec<u8> {
+    frame[0] = frame[0] & 0xE0 | ((frame.len() - 2) / 3) as u8;
+    frame
 }
 
 fn apply(writer: &mut CCDataWriter, step: &Done) -> Vec<u8> {
@@ -58,8 +65,9 @@ impl Mux {
         frame
     }
 
-    pub fn switch(&mut self, pairs: bool, output: bool) {
+    pub fn switch(&mut self, pairs: bool, output: bool, true_count: bool) {
         self.step(Done::Switch(pairs, output));
+        self.true_count = true_count;
     }
 
     pub fn flush(&mut self) {
@@ -113,7 +121,8 @@ impl Mux {
         if !accepted(rate) {
             return Err(BadRate);
         }
-        let frame = self.step(Done::Write(rate));
+        let written = self.step(Done::Write(rate));
+        let frame = if self.true_count { mended(written) } else { written };
         if out.len() < frame.len() {
             self.done.pop();
             self.writer = CCDataWriter::default();

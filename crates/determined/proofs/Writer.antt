@@ -23,6 +23,8 @@ use Rattle.writer.proofs.CCDataWriter.set_output_padding.Reads as set_output_pa
 use Rattle.writer.proofs.CCDataWriter.output_padding.Reads as output_padding
 use Rattle.writer.proofs.CCDataWriter.set_carrying.Reads as set_carrying
 use Rattle.writer.proofs.CCDataWriter.carrying.Reads as carrying
+use Rattle.writer.proofs.CCDataWriter.set_true_count.Reads as set_true_count
+use Rattle.writer.proofs.CCDataWriter.true_count.Reads as true_count
 use Rattle.writer.proofs.CCDataWriter.push_packet.Reads as push_packet
 use Rattle.writer.proofs.CCDataWriter.push_cea608.Reads as push_cea608
 use Rattle.writer.proofs.CCDataWriter.flush.Reads as flush
@@ -83,6 +85,14 @@ CCDataWriter-set-carrying = answers
 -- `writer.carrying()`
 pub CCDataWriter-carrying : Determines (carrying.Post (tt {0}))
 CCDataWriter-carrying = said saidTruth-injective
+
+-- `writer.set_true_count(on)`
+pub CCDataWriter-set-true-count : Determines (set_true_count.Post (tt {0}))
+CCDataWriter-set-true-count = answers
+
+-- `writer.true_count()`
+pub CCDataWriter-true-count : Determines (true_count.Post (tt {0}))
+CCDataWriter-true-count = said saidTruth-injective
 
 -- `writer.push_packet(packet)`
 pub CCDataWriter-push-packet : Determines (push_packet.Post (tt {0}))

@@ -1,5 +1,6 @@
 // One block's way through both machines: pushed into a packet, the packet into a multiplexer, a frame written, the frame read and the packet
-// drawn again.
+// drawn again. Then the same where a turn sends nothing, without and with the true count.
+use caption::Cea608;
 use caption::Counted;
 use caption::Framerate;
 use libc::STDOUT_FILENO;
@@ -8,16 +9,35 @@ use parser::CCDataParser;
 use parser::Item;
 use writer::CCDataWriter;
 
-// The frame of a multiplexer that carries fractions and holds one packet: service 1 says "A".
-fn write_one(frame: &mut [u8; 95]) -> Counted {
+// A packet in which service 1 says "A".
+fn one_block() -> DTVCCPacket {
     let empty = DTVCCPacket::new(2);
     let packet = empty.packet;
     let pushed = packet.push_code(1, b"A");
-    let full = pushed.packet;
+    pushed.packet
+}
+
+// The frame of a multiplexer that carries fractions and holds the packet.
+fn write_one(frame: &mut [u8; 95]) -> Counted {
     let fresh = CCDataWriter::new();
     let carrying = fresh.set_carrying(true);
     let ready = carrying.writer;
-    let queued = ready.push_packet(full);
+    let queued = ready.push_packet(one_block());
+    let writer = queued.writer;
+    let done = writer.write(Framerate::new(30, 1), frame);
+    done.answer
+}
+
+// The frame of one that keeps both paddings off and holds two pairs of field 1 and the packet. Two turns are due: the second, field 2's, sends nothing.
+fn write_pairs(frame: &mut [u8; 95], true_count: bool) -> Counted {
+    let fresh = CCDataWriter::new();
+    let counting = fresh.set_true_count(true_count);
+    let ready = counting.writer;
+    let first = ready.push_cea608(Cea608::Field1(0x94, 0x2C));
+    let one = first.writer;
+    let second = one.push_cea608(Cea608::Field1(0x94, 0x2C));
+    let two = second.writer;
+    let queued = two.push_packet(one_block());
     let writer = queued.writer;
     let done = writer.write(Framerate::new(30, 1), frame);
     done.answer
@@ -41,16 +61,26 @@ fn bytes_of(counted: Counted) -> usize {
     }
 }
 
-fn main() {
-    let mut frame = [0u8; 95];
-    let n = bytes_of(write_one(&mut frame));
-    let item = read_one(&frame, n);
+// Says what came back.
+fn tell(item: Item) {
     match item {
         Item::Packet => {
             io::write_all(STDOUT_FILENO, b"the packet came back\n");
         }
         _ => {
-            io::write_all(STDOUT_FILENO, b"something else came back\n");
+            io::write_all(STDOUT_FILENO, b"the packet is lost\n");
         }
     }
+}
+
+fn main() {
+    let mut frame = [0u8; 95];
+    let n = bytes_of(write_one(&mut frame));
+    tell(read_one(&frame, n));
+    io::write_all(STDOUT_FILENO, b"two pairs before it, the count one above: ");
+    let counted = bytes_of(write_pairs(&mut frame, false));
+    tell(read_one(&frame, counted));
+    io::write_all(STDOUT_FILENO, b"the same with the true count: ");
+    let exact = bytes_of(write_pairs(&mut frame, true));
+    tell(read_one(&frame, exact));
 }

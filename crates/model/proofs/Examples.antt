@@ -2,7 +2,7 @@
 -- Assumes nothing.
 use mathlib.Core.Path.{_≡_, refl}
 use mathlib.Core.Bool.{true, false}
-use mathlib.Core.List.{List, [], _∷_, _++_, map}
+use mathlib.Core.List.{List, [], _∷_, map}
 use Prim.Native.Nat.{ℕ}
 use Rattle.model.specs.Said.{Said, Outcome, gave, refused, mapped}
 use Rattle.model.specs.Block.{headerLength, numberIn, needed, isShort, blockIn, readBlock, writtenHeader, writtenBlock, blockLength}
@@ -10,7 +10,7 @@ use Rattle.model.specs.Packet.{Packet, sequenceIn, packetSize, plainMove
 use Rattle.model.specs.Frame.{pair, Cea608, field1, field2, seen, seenAll, flat, triplesIn, flagged, frameBytes}
 use Rattle.model.specs.Demux.{turn608On, freshDemux, pairsIn, lateAfter, lateFrom, carries708, closed, packetsOf, kept, wants, gather, ended, gathered, takeGathered, takeTriples, unread, takeFrame}
 use Rattle.model.specs.Rate.{rounded, budgets, goingOn, carriedBudget, leftOver, carriedOn, carriedShare, shareBy}
-use Rattle.model.specs.Mux.{freshMux, paddings, carryingMode, queued, pushPacket, isNull, pushPair, pushCea608, turnsDue, turn1, turn2, turned, continued, started, packetTriples, triplesQueued, countDue, send, padding, framed, writeFrame, shareAt, writeShare}
+use Rattle.model.specs.Mux.{freshMux, paddings, carryingMode, trueCounting, queued, pushPacket, isNull, pushPair, pushCea608, turnsDue, turn1, turn2, turned, continued, started, packetTriples, triplesQueued, turnsSending, turnsCounted, countDue, send, padding, framed, writeFrame, shareAt, writeShare}
 use Rattle.model.specs.Run.{Call, pushes, pushes608, sets, call, run, readFrames}
 
 -- what a row asks
@@ -19,7 +19,7 @@ pub data Input : Type 0 where
   written : Packet → Input
   plain tidy : List ℕ → Input
   frames : List (List ℕ) → Input
-  frame : ℕ → ℕ → List Call → Input
+  frame readBack : ℕ → ℕ → List Call → Input
 
 -- what the rule book says of it
 pub data Result : Type 0 where
@@ -48,14 +48,19 @@ afterCalls numer denom calls =
     let s = run calls freshMux .last in
     mapped (λ h. frameBytes (writeShare h s .frame)) (shareAt numer denom s)
 
+-- what a demultiplexer with 608 on makes of frames
+abbrev read : List (List ℕ) → Result
+read fs = let r = readFrames fs (turn608On freshDemux) in items (r .answers) (r .pairs) (r .packets)
+
 -- what the definitions compute
 abbrev answer : Input → Result
 answer (header h) = size (sequenceIn h) (packetSize h)
 answer (written p) = bytes (writtenPacket p)
 answer (plain d) = told packet (readPacket d)
 answer (tidy d) = told packet (readTidy d)
-answer (frames fs) = let r = readFrames fs (turn608On freshDemux) in items (r .answers) (r .pairs) (r .packets)
+answer (frames fs) = read fs
 answer (frame numer denom calls) = told bytes (afterCalls numer denom calls)
+answer (readBack numer denom calls) = told (λ f. read (f ∷ [])) (afterCalls numer denom calls)
 
 -- an example of the rule book
 pub record Row : Type 0 where
@@ -66,9 +71,9 @@ pub record Row : Type 0 where
 abbrev row : Input → Result → Row
 row i r = record { input = i; result = r }
 
--- the pair 94 2C of field 1 twice
-abbrev twice942C : List Call
-twice942C = pushes608 (field1 (pair 0x94 0x2C)) ∷ pushes608 (field1 (pair 0x94 0x2C)) ∷ []
+-- the pair 94 2C of field 1 twice, and a packet: at 30 frames a second without padding the second turn sends nothing
+abbrev silentTurn : List Call
+silentTurn = pushes608 (field1 (pair 0x94 0x2C)) ∷ pushes608 (field1 (pair 0x94 0x2C)) ∷ pushes (one 2 1 (0x41 ∷ [])) ∷ []
 
 -- the starred examples, in the rule book's order
 unfoldable pub table : List Row
@@ -91,8 +96,15 @@ table =
     (items (says 0 [] ∷ says 0 [] ∷ []) [] (one 0 1 (0x41 ∷ []) ∷ []))
     ∷ row (frame 30 1 (pushes608 (field2 (pair 0x15 0x2C)) ∷ [])) (bytes (0xC2 ∷ 0xFF ∷ 0xFC ∷ 0x80 ∷ 0x80 ∷ 0xFD ∷ 0x15 ∷ 0x2C ∷ []))
     ∷ row
-    (frame 30 1 (twice942C ++ (pushes (one 2 1 (0x41 ∷ [])) ∷ [])))
+    (frame 30 1 silentTurn)
     (bytes (0xC4 ∷ 0xFF ∷ 0xFC ∷ 0x94 ∷ 0x2C ∷ 0xFF ∷ 0x82 ∷ 0x21 ∷ 0xFE ∷ 0x41 ∷ 0x00 ∷ []))
+    ∷ row (readBack 30 1 silentTurn) (items (says 1 (13 ∷ 11 ∷ []) ∷ []) [] [])
+    ∷ row
+    (frame 30 1 (sets (trueCounting true) ∷ silentTurn))
+    (bytes (0xC3 ∷ 0xFF ∷ 0xFC ∷ 0x94 ∷ 0x2C ∷ 0xFF ∷ 0x82 ∷ 0x21 ∷ 0xFE ∷ 0x41 ∷ 0x00 ∷ []))
+    ∷ row
+    (readBack 30 1 (sets (trueCounting true) ∷ silentTurn))
+    (items (says 0 [] ∷ []) (field1 (pair 0x94 0x2C) ∷ []) (one 2 1 (0x41 ∷ []) ∷ []))
     ∷ row (frame 24 1 (sets (paddings true false) ∷ [])) (bytes (0xC3 ∷ 0xFF ∷ 0xF8 ∷ 0x80 ∷ 0x80 ∷ 0xF9 ∷ 0x80 ∷ 0x80 ∷ 0xF8 ∷ 0x80 ∷ 0x80 ∷ []))
     ∷ row (frame 24 1 (sets (paddings true false) ∷ sets (carryingMode true) ∷ [])) (bytes (0xC2 ∷ 0xFF ∷ 0xF8 ∷ 0x80 ∷ 0x80 ∷ 0xF9 ∷ 0x80 ∷ 0x80 ∷ []))
     ∷ []
@@ -104,6 +116,6 @@ unfolding table
     packetSize plainMove tidyMove blocksFrom readBy readPacket reads readTidy blocksLength packetLength writtenBlocks packetHeader fill writtenPacket
     seen seenAll flat triplesIn flagged frameBytes
     pairsIn lateAfter lateFrom carries708 closed packetsOf kept wants gather ended gathered takeGathered takeTriples unread takeFrame
-    rounded budgets goingOn carriedBudget leftOver carriedOn carriedShare shareBy queued pushPacket isNull pushPair pushCea608 turnsDue turn1 turn2 turned continued started packetTriples triplesQueued countDue send padding framed writeFrame
+    rounded budgets goingOn carriedBudget leftOver carriedOn carriedShare shareBy queued pushPacket isNull pushPair pushCea608 turnsDue turn1 turn2 turned continued started packetTriples triplesQueued turnsSending turnsCounted countDue send padding framed writeFrame
     call run readFrames
 examples = refl

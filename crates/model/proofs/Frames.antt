@@ -208,3 +208,8 @@ flat-length (tri h a b ∷ ts) = omega (arith, flat-length ts)
 pub frame-length : (f : Frame) → length (frameBytes f) ≡ 3 * length (f .triples) + 2
 unfolding frameBytes
 frame-length f = omega (arith, flat-length (f .triples))
+
+-- they are read from its bytes
+pub frame-triples : (f : Frame) → triplesIn (drop 2 (frameBytes f)) ≡ f .triples
+unfolding frameBytes
+frame-triples f = unflat (f .triples)

@@ -14,4 +14,5 @@ pub mod Pushing
 pub mod Examples
 pub mod Slips
 pub mod DemuxStates
+pub mod Turns
 pub mod MuxStates

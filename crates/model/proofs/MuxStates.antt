@@ -11,12 +11,13 @@ use Rattle.model.specs.Lists.{every}
 use Rattle.model.specs.Packet.{Packet, validPacket}
 use Rattle.model.specs.Frame.{Triple, Pair, pair, Cea608, field1, field2, frameBytes, mostFrame}
 use Rattle.model.specs.Rate.{Budgets, Carry, noCarry, validCarry}
-use Rattle.model.specs.Mux.{Mux, freshMux, withPads, withCarry, withMode, Switch, paddings, carryingMode, withSwitch, flushMux, storable, validMux, queued, pushPacket, isNull, pushPair, pushCea608, Turned, turnsDue, turn1, turn2, turned, packetTriples, triplesQueued, unsent, countDue, Sent, send, padding, framed, writeFrame}
+use Rattle.model.specs.Mux.{Mux, freshMux, withPads, withCarry, withMode, withTrueCount, Switch, paddings, carryingMode, trueCounting, withSwitch, flushMux, storable, validMux, queued, pushPacket, isNull, pushPair, pushCea608, Turned, turnsDue, turn1, turn2, turned, packetTriples, triplesQueued, unsent, turnsSending, turnsCounted, countDue, Sent, send, padding, framed, writeFrame}
 use Rattle.model.specs.Run.{Accepted}
-use Rattle.model.proofs.Cases.{by-test, by-cond, both, and-both, Gives, gives-mapped}
+use Rattle.model.proofs.Cases.{by-cond, both, and-both, Gives, gives-mapped}
 use Rattle.model.proofs.Lists.{every-append}
 use Rattle.model.proofs.Packets.{valid-facts}
 use Rattle.model.proofs.Sends.{triples-length}
+use Rattle.model.proofs.Turns.{turns-count}
 use Rattle.model.proofs.Frames.{frame-length}
 
 -- the limits of a multiplexer, as facts
@@ -62,6 +63,12 @@ pads-valid a b s e =
     let f = mux-facts s e in
     facts-mux (withPads a b s) (record { packets = f .packets; stored = f .stored; sending = f .sending; queue1 = f .queue1; queue2 = f .queue2; carry = f .carry })
 
+-- so does the true count
+true-valid : (on : Bool) (s : Mux) → validMux s ≡ true → validMux (withTrueCount on s) ≡ true
+true-valid on s e =
+    let f = mux-facts s e in
+    facts-mux (withTrueCount on s) (record { packets = f .packets; stored = f .stored; sending = f .sending; queue1 = f .queue1; queue2 = f .queue2; carry = f .carry })
+
 -- parts that are 0 are within their limits
 none-valid : validCarry noCarry ≡ true
 unfolding validCarry
@@ -81,6 +88,7 @@ mode-valid on s e = carry-valid on _ s e (by-cond (λ (c : Carry). validCarry c 
 pub switch-valid : (x : Switch) (s : Mux) → validMux s ≡ true → validMux (withSwitch x s) ≡ true
 switch-valid (paddings a b) s e = pads-valid a b s e
 switch-valid (carryingMode on) s e = mode-valid on s e
+switch-valid (trueCounting on) s e = true-valid on s e
 
 -- and flush
 pub flush-mux : (s : Mux) → validMux (flushMux s) ≡ true
@@ -137,9 +145,8 @@ push-valid p s v e =
     gives-mapped (λ (r : Mux). validMux r ≡ true) Queued (queued 16 p (s .packets)) _ (queued-stored p (s .packets) (and-both _ _ v some) (f .stored))
     (λ ps h. facts-mux _ (record { packets = h .few; stored = h .stored; sending = f .sending; queue1 = f .queue1; queue2 = f .queue2; carry = f .carry })))
 
--- turns send at most one triple each, and leave queues no longer than they were
-record Shorter (n : ℕ) (q1 q2 : List Pair) (t : Turned) : Type 0 where
-  out : length (t .out) ≤ n
+-- turns leave queues no longer than they were
+record Shorter (q1 q2 : List Pair) (t : Turned) : Type 0 where
   queue1 : length (t .queue1) ≤ length q1
   queue2 : length (t .queue2) ≤ length q2
 
@@ -147,28 +154,24 @@ mutual
   unfolding turn1 turn2
 
   -- from a field 1 turn on
-  shorter1 : (n : ℕ) (pad : Bool) (q1 q2 : List Pair) → Shorter n q1 q2 (turn1 n pad q1 q2)
-  shorter1 zero pad q1 q2 = record { out = omega arith; queue1 = omega arith; queue2 = omega arith }
-  shorter1 (suc n) pad (pair a b ∷ q1) q2 =
-      let r = shorter2 n pad q1 q2 in
-      record { out = omega (arith, r .out); queue1 = omega (arith, r .queue1); queue2 = r .queue2 }
-  shorter1 (suc n) pad [] (x ∷ q2) = let r = shorter2 n pad [] (x ∷ q2) in record { out = omega (arith, r .out); queue1 = r .queue1; queue2 = r .queue2 }
-  shorter1 (suc n) true [] [] = let r = shorter2 n true [] [] in record { out = omega (arith, r .out); queue1 = r .queue1; queue2 = r .queue2 }
-  shorter1 (suc n) false [] [] = let r = shorter2 n false [] [] in record { out = omega (arith, r .out); queue1 = r .queue1; queue2 = r .queue2 }
+  shorter1 : (n : ℕ) (pad : Bool) (q1 q2 : List Pair) → Shorter q1 q2 (turn1 n pad q1 q2)
+  shorter1 zero pad q1 q2 = record { queue1 = omega arith; queue2 = omega arith }
+  shorter1 (suc n) pad (pair a b ∷ q1) q2 = let r = shorter2 n pad q1 q2 in record { queue1 = omega (arith, r .queue1); queue2 = r .queue2 }
+  shorter1 (suc n) pad [] (x ∷ q2) = let r = shorter2 n pad [] (x ∷ q2) in record { queue1 = r .queue1; queue2 = r .queue2 }
+  shorter1 (suc n) true [] [] = let r = shorter2 n true [] [] in record { queue1 = r .queue1; queue2 = r .queue2 }
+  shorter1 (suc n) false [] [] = let r = shorter2 n false [] [] in record { queue1 = r .queue1; queue2 = r .queue2 }
 
   -- from a field 2 turn on
-  shorter2 : (n : ℕ) (pad : Bool) (q1 q2 : List Pair) → Shorter n q1 q2 (turn2 n pad q1 q2)
-  shorter2 zero pad q1 q2 = record { out = omega arith; queue1 = omega arith; queue2 = omega arith }
-  shorter2 (suc n) pad q1 (pair a b ∷ q2) =
-      let r = shorter1 n pad q1 q2 in
-      record { out = omega (arith, r .out); queue1 = r .queue1; queue2 = omega (arith, r .queue2) }
-  shorter2 (suc n) true q1 [] = let r = shorter1 n true q1 [] in record { out = omega (arith, r .out); queue1 = r .queue1; queue2 = r .queue2 }
-  shorter2 (suc n) false q1 [] = let r = shorter1 n false q1 [] in record { out = omega (arith, r .out); queue1 = r .queue1; queue2 = r .queue2 }
+  shorter2 : (n : ℕ) (pad : Bool) (q1 q2 : List Pair) → Shorter q1 q2 (turn2 n pad q1 q2)
+  shorter2 zero pad q1 q2 = record { queue1 = omega arith; queue2 = omega arith }
+  shorter2 (suc n) pad q1 (pair a b ∷ q2) = let r = shorter1 n pad q1 q2 in record { queue1 = r .queue1; queue2 = omega (arith, r .queue2) }
+  shorter2 (suc n) true q1 [] = let r = shorter1 n true q1 [] in record { queue1 = r .queue1; queue2 = r .queue2 }
+  shorter2 (suc n) false q1 [] = let r = shorter1 n false q1 [] in record { queue1 = r .queue1; queue2 = r .queue2 }
 
 -- whoever has the first turn
-shorter : (n : ℕ) (s : Mux) → Shorter n (s .queue1) (s .queue2) (turned n s)
+shorter : (n : ℕ) (s : Mux) → Shorter (s .queue1) (s .queue2) (turned n s)
 unfolding turned
-shorter n s = by-cond (Shorter n (s .queue1) (s .queue2)) (s .next1) (λ _. shorter1 n (s .pad608) (s .queue1) (s .queue2)) (λ _. shorter2 n (s .pad608) (s .queue1) (s .queue2))
+shorter n s = by-cond (Shorter (s .queue1) (s .queue2)) (s .next1) (λ _. shorter1 n (s .pad608) (s .queue1) (s .queue2)) (λ _. shorter2 n (s .pad608) (s .queue1) (s .queue2))
 
 -- m packet triples at most are sent, and leave no more packets than there were and at most a packet's triples
 record Leaves (m : ℕ) (ps : List Packet) (o : Sent) : Type 0 where
@@ -211,18 +214,34 @@ pub padding-few : (on : Bool) (n : ℕ) → length (padding on n) ≤ n
 unfolding padding
 padding-few on n = by-cond (λ (l : List Triple). length l ≤ n) on (λ _. rw length-replicate (omega arith)) (λ _. omega arith)
 
--- the count has room for the turns, and is at most the budget of triples
-count-room : (b : Budgets) (s : Mux) → b .pairs ≤ b .triples → (turnsDue (b .pairs) s ≤ countDue b s) × (countDue b s ≤ b .triples)
-unfolding countDue turnsDue
-count-room b s h = by-test (s .padOut) (λ p. by-test (s .pad608) (λ q. simp (p, q) (omega arith, omega arith)) (λ q. simp (p, q) (omega arith, omega arith)))
-    (λ p. by-test (s .pad608) (λ q. simp (p, q) (omega arith, omega arith)) (λ q. simp (p, q) (omega arith, omega arith)))
+-- no more turns than pairs
+pub turns-most : (pairs : ℕ) (s : Mux) → turnsDue pairs s ≤ pairs
+unfolding turnsDue
+turns-most pairs s = by-cond (λ (n : ℕ). n ≤ pairs) (s .pad608) (λ _. omega arith) (λ _. omega arith)
+
+-- every turn that sends is counted
+pub turns-counted : (pairs : ℕ) (s : Mux) → length (turned (turnsDue pairs s) s .out) ≤ turnsCounted pairs s
+unfolding turnsCounted turnsSending
+turns-counted pairs s =
+    let n : ℕ = turnsDue pairs s in
+    by-cond (λ k. length (turned n s .out) ≤ k) (s .trueCount) (λ _. omega arith) (λ _. turns-count n s .most)
+
+-- the count is at most the budget of triples
+pub count-most : (b : Budgets) (s : Mux) → countDue b s ≤ b .triples
+unfolding countDue
+count-most b s = by-cond (λ (n : ℕ). n ≤ b .triples) (s .padOut) (λ _. omega arith) (λ _. omega arith)
+
+-- and has room for the turns that send
+pub count-room : (b : Budgets) (s : Mux) → b .pairs ≤ b .triples → length (turned (turnsDue (b .pairs) s) s .out) ≤ countDue b s
+unfolding countDue
+count-room b s h =
+    let n : ℕ = turnsDue (b .pairs) s in
+    let few = turns-count n s .most in
+    let most = turns-most (b .pairs) s in
+    by-cond (λ k. length (turned n s .out) ≤ k) (s .padOut) (λ _. omega arith) (λ _. omega (arith, turns-counted (b .pairs) s))
 
 module _ (b : Budgets) (s : Mux) (f : MuxLimits s) where
-  -- the turns of the frame, and its packet triples
-  turns-frame : Shorter (turnsDue (b .pairs) s) (s .queue1) (s .queue2) (turned (turnsDue (b .pairs) s) s)
-  turns-frame = shorter (turnsDue (b .pairs) s) s
-
-  -- and its packet triples, m at most
+  -- the packet triples of the frame, m at most
   sends-frame : (m : ℕ) → Leaves m (s .packets) (send m (s .sending) (s .packets))
   sends-frame m = send-leaves m (s .sending) (s .packets) (f .sending) (f .stored)
 
@@ -230,7 +249,7 @@ module _ (b : Budgets) (s : Mux) (f : MuxLimits s) where
   written-within : MuxLimits (writeFrame b s .next)
   unfolding writeFrame framed
   written-within =
-      let t = turns-frame in
+      let t = shorter (turnsDue (b .pairs) s) s in
       let o = sends-frame (countDue b s - length (turned (turnsDue (b .pairs) s) s .out)) in
       record {
         packets = omega (arith, o .packets, f .packets);
@@ -245,14 +264,12 @@ module _ (b : Budgets) (s : Mux) (f : MuxLimits s) where
   triples-most : b .pairs ≤ b .triples → length (writeFrame b s .frame .triples) ≤ b .triples
   unfolding writeFrame framed
   triples-most h =
-      let t = turns-frame in
       let n : ℕ = countDue b s in
       let ts : List Triple = turned (turnsDue (b .pairs) s) s .out in
       let us : List Triple = send (n - length ts) (s .sending) (s .packets) .out in
       let o = sends-frame (n - length ts) in
-      let c = count-room b s h in
       rw (length-append, length-append)
-      (omega (arith, t .out, o .out, padding-few (s .padOut) (n - length ts - length us), c .0, c .1))
+      (omega (arith, o .out, padding-few (s .padOut) (n - length ts - length us), count-room b s h, count-most b s))
 
 -- a frame written keeps the limits
 pub write-valid : (b : Budgets) (s : Mux) → validMux s ≡ true → validMux (writeFrame b s .next) ≡ true

@@ -10,23 +10,24 @@ use Rattle.model.specs.Packet.{Packet, packetHeader, writtenBlocks, most
 use Rattle.model.specs.Frame.{Frame, Triple, tri, Pair, pair, Cea608, field1, field2, frameBytes}
 use Rattle.model.specs.Rate.{Budgets, Carry, noCarry, validCarry, Share, shareBy}
 
--- the two paddings, the carrying mode and the carried parts, the packets queued, the triples left of the packet being sent, each field's queue,
--- and whether field 1 has the next turn
+-- the two paddings, the carrying mode and the carried parts, the true count, the packets queued, the triples left of the packet being sent, each
+-- field's queue, and whether field 1 has the next turn
 pub record Mux : Type 0 where
   pub pad608 : Bool
   pub padOut : Bool
   pub carrying : Bool
   pub carry : Carry
+  pub trueCount : Bool
   pub packets : List Packet
   pub sending : List Triple
   pub queue1 : List Pair
   pub queue2 : List Pair
   pub next1 : Bool
 
--- a fresh multiplexer: it holds nothing, the switches are off [W12] [W15] and the first turn is field 1's [W4]
+-- a fresh multiplexer: it holds nothing, the switches are off [W12] [W15] [W17] and the first turn is field 1's [W4]
 abbrev pub freshMux : Mux
 freshMux =
-    record { pad608 = false; padOut = false; carrying = false; carry = noCarry; packets = []; sending = []; queue1 = []; queue2 = []; next1 = true }
+    record { pad608 = false; padOut = false; carrying = false; carry = noCarry; trueCount = false; packets = []; sending = []; queue1 = []; queue2 = []; next1 = true }
 
 -- the multiplexer with its padding switches set [W12]
 abbrev pub withPads : Bool → Bool → Mux → Mux
@@ -36,6 +37,7 @@ withPads a b s =
       padOut = b;
       carrying = s .carrying;
       carry = s .carry;
+      trueCount = s .trueCount;
       packets = s .packets;
       sending = s .sending;
       queue1 = s .queue1;
@@ -51,6 +53,7 @@ withCarry on c s =
       padOut = s .padOut;
       carrying = on;
       carry = c;
+      trueCount = s .trueCount;
       packets = s .packets;
       sending = s .sending;
       queue1 = s .queue1;
@@ -62,15 +65,33 @@ withCarry on c s =
 abbrev pub withMode : Bool → Mux → Mux
 withMode on s = withCarry on (cond (on && s .carrying) (s .carry) noCarry) s
 
--- what is set: the two paddings, or the carrying mode
+-- the multiplexer with its true count set [W17]
+abbrev pub withTrueCount : Bool → Mux → Mux
+withTrueCount on s =
+    record {
+      pad608 = s .pad608;
+      padOut = s .padOut;
+      carrying = s .carrying;
+      carry = s .carry;
+      trueCount = on;
+      packets = s .packets;
+      sending = s .sending;
+      queue1 = s .queue1;
+      queue2 = s .queue2;
+      next1 = s .next1;
+    }
+
+-- what is set: the two paddings, the carrying mode, or the true count
 pub data Switch : Type 0 where
   paddings : Bool → Bool → Switch
   carryingMode : Bool → Switch
+  trueCounting : Bool → Switch
 
 -- the multiplexer with it set
 abbrev pub withSwitch : Switch → Mux → Mux
 withSwitch (paddings a b) s = withPads a b s
 withSwitch (carryingMode on) s = withMode on s
+withSwitch (trueCounting on) s = withTrueCount on s
 
 -- A flush drops what is queued and being sent, and sets the carried parts to 0; the switches and the next turn stay [W13].
 abbrev pub flushMux : Mux → Mux
@@ -80,6 +101,7 @@ flushMux s =
       padOut = s .padOut;
       carrying = s .carrying;
       carry = noCarry;
+      trueCount = s .trueCount;
       packets = [];
       sending = [];
       queue1 = [];
@@ -118,6 +140,7 @@ withPackets ps s =
       padOut = s .padOut;
       carrying = s .carrying;
       carry = s .carry;
+      trueCount = s .trueCount;
       packets = ps;
       sending = s .sending;
       queue1 = s .queue1;
@@ -133,6 +156,7 @@ withQueues q1 q2 s =
       padOut = s .padOut;
       carrying = s .carrying;
       carry = s .carry;
+      trueCount = s .trueCount;
       packets = s .packets;
       sending = s .sending;
       queue1 = q1;
@@ -222,9 +246,17 @@ triplesQueued (p ∷ ps) = length (packetTriples p) + triplesQueued ps
 abbrev pub unsent : Mux → ℕ
 unsent s = length (s .sending) + triplesQueued (s .packets)
 
+-- the turns of a frame that will send: each sends one triple or none [W5] [W6]
+unfoldable pub turnsSending : ℕ → Mux → ℕ
+turnsSending pairs s = length (turned (turnsDue pairs s) s .out)
+
+-- the turns that the count counts: all, or with the true count those that will send [W17]
+unfoldable pub turnsCounted : ℕ → Mux → ℕ
+turnsCounted pairs s = cond (s .trueCount) (turnsSending pairs s) (turnsDue pairs s)
+
 -- the count of a frame [W2]
 unfoldable pub countDue : Budgets → Mux → ℕ
-countDue b s = cond (s .padOut) (b .triples) (min (b .triples) (turnsDue (b .pairs) s + unsent s))
+countDue b s = cond (s .padOut) (b .triples) (min (b .triples) (turnsCounted (b .pairs) s + unsent s))
 
 -- packet triples sent, and what they leave
 pub record Sent : Type 0 where
@@ -262,6 +294,7 @@ framed n t o s =
         padOut = s .padOut;
         carrying = s .carrying;
         carry = s .carry;
+        trueCount = s .trueCount;
         packets = o .packets;
         sending = o .sending;
         queue1 = t .queue1;

@@ -10,7 +10,7 @@ use Rattle.model.specs.Packet.{Packet, validPacket}
 use Rattle.model.specs.Frame.{Pair, Cea608, field1, field2, frameBytes}
 use Rattle.model.specs.Demux.{Demux, Item, draw, takeFrame}
 use Rattle.model.specs.Rate.{Rate, Budgets, mostTriples, Share}
-use Rattle.model.specs.Mux.{Mux, Framed, Switch, paddings, carryingMode, withSwitch, pushPacket, pushPair, pushCea608, isNull, shareAt, writeShare}
+use Rattle.model.specs.Mux.{Mux, Framed, Switch, paddings, carryingMode, trueCounting, withSwitch, pushPacket, pushPair, pushCea608, isNull, shareAt, writeShare}
 
 -- what is done to a multiplexer, in any order; no flush [J0]. A write is with its share
 pub data Call : Type 0 where
@@ -78,9 +78,9 @@ abbrev pub AllPaired : List Budgets → Type 0
 AllPaired [] = Unit {0}
 AllPaired (b ∷ bs) = (1 ≤ b .pairs) × AllPaired bs
 
--- whether a padding is on [J0]
-abbrev pub anyPadding : Mux → Bool
-anyPadding s = s .pad608 || s .padOut
+-- whether a padding or the true count is on [J0]
+abbrev pub exactCount : Mux → Bool
+exactCount s = s .pad608 || (s .padOut || s .trueCount)
 
 -- a write has accepted budgets and is of a multiplexer that passes a test; a packet is one that breaks no limit
 abbrev pub AllowedCall : (Mux → Bool) → Call → Mux → Type 0
@@ -98,6 +98,7 @@ Allowed passes (c ∷ cs) s = AllowedCall passes c s × Allowed passes cs (call 
 abbrev pub StaysSwitch : Bool → Switch → Type 0
 StaysSwitch on (paddings a b) = Unit {0}
 StaysSwitch on (carryingMode x) = x ≡ on
+StaysSwitch on (trueCounting x) = Unit {0}
 
 -- A write gets its share at a rate; with the mode on that is always the rate r.
 abbrev pub StaysCall : Bool → Rate → Call → Mux → Type 0

@@ -10,7 +10,7 @@ use borrow.Author.Tests.{eqb-false}
 use Rattle.model.specs.Said.{Outcome, gave, refused, isGiven, after, mapped}
 use Rattle.model.specs.Packet.{Packet}
 use Rattle.model.specs.Frame.{Pair, Cea608, field1, field2}
-use Rattle.model.specs.Mux.{Mux, Switch, paddings, carryingMode, withPackets, withQueues, queued, pushPacket, isNull, pushPair, pushCea608, mostPackets, mostQueued}
+use Rattle.model.specs.Mux.{Mux, Switch, paddings, carryingMode, trueCounting, withPads, withMode, withTrueCount, withPackets, withQueues, queued, pushPacket, isNull, pushPair, pushCea608, mostPackets, mostQueued}
 use Rattle.model.specs.Run.{pushes, pushes608, sets, Run, onlyIf, call, run, StaysSwitch, others}
 use Rattle.model.proofs.Cases.{by-test}
 use Rattle.model.proofs.Packets.{Valid}
@@ -75,13 +75,24 @@ pub record Quiet (s : Mux) (k : Run) : Type 0 where
   pub packets : s .packets ++ k .packets ≡ k .last .packets
   pub pairs : (f : Field) → Grown (queueOf f s) (acceptedOf f k) (queueOf f (k .last))
 
+-- nothing is accepted, and all that is queued and being sent stays
+quiet-same : (s s′ : Mux) → s′ .sending ≡ s .sending → s′ .next1 ≡ s .next1 → s .packets ≡ s′ .packets → ((f : Field) → queueOf f s ≡ queueOf f s′)
+    → Quiet s (record { frames = []; packets = []; pairs1 = []; pairs2 = []; last = s′ })
+quiet-same s s′ a b c q =
+    record {
+      frames = refl;
+      sending = a;
+      next1 = b;
+      packets = append-nil (s .packets) ∙ c;
+      pairs = elim [ one ↦ rw (← q one) (grown-none (s .queue1)) | two ↦ rw (← q two) (grown-none (s .queue2)) ];
+    }
+
 -- a switch is set
 pub quiet-switch : (x : Switch) (s : Mux) → Quiet s (call (sets x) s)
 unfolding call
-quiet-switch (paddings a b) s =
-    record { frames = refl; sending = refl; next1 = refl; packets = append-nil (s .packets); pairs = elim [ one ↦ grown-none (s .queue1) | two ↦ grown-none (s .queue2) ] }
-quiet-switch (carryingMode on) s =
-    record { frames = refl; sending = refl; next1 = refl; packets = append-nil (s .packets); pairs = elim [ one ↦ grown-none (s .queue1) | two ↦ grown-none (s .queue2) ] }
+quiet-switch (paddings a b) s = quiet-same s (withPads a b s) refl refl refl (λ f. refl)
+quiet-switch (carryingMode on) s = quiet-same s (withMode on s) refl refl refl (λ f. refl)
+quiet-switch (trueCounting on) s = quiet-same s (withTrueCount on s) refl refl refl (λ f. refl)
 
 -- the queues of pairs grow
 quiet-queues : (s : Mux) {x1 x2 q1 q2 : List Pair} → Grown (s .queue1) x1 q1 → Grown (s .queue2) x2 q2
@@ -139,14 +150,16 @@ unfolding call pushCea608
 sum-608 (field1 x) s = rw (after1 s (pushPair x (s .queue1))) (record { carrying = refl; carry = refl })
 sum-608 (field2 x) s = rw (after2 s (pushPair x (s .queue2))) (record { carrying = refl; carry = refl })
 
--- and so do the paddings, and turning the mode on where it is on
+-- and so do the paddings and the true count, and turning the mode on where it is on
 pub sum-switch : (x : Switch) (s : Mux) → StaysSwitch true x → s .carrying ≡ true → SameSum s (call (sets x) s .last)
 unfolding call
 sum-switch (paddings a b) s e m = record { carrying = refl; carry = refl }
 sum-switch (carryingMode on) s e m = record { carrying = e ∙ sym m; carry = rw (e, m) }
+sum-switch (trueCounting on) s e m = record { carrying = refl; carry = refl }
 
 -- the mode stays what it is
 pub mode-switch : (on : Bool) (x : Switch) (s : Mux) → StaysSwitch on x → s .carrying ≡ on → call (sets x) s .last .carrying ≡ on
 unfolding call
 mode-switch on (paddings a b) s e m = m
 mode-switch on (carryingMode x) s e m = e
+mode-switch on (trueCounting x) s e m = m

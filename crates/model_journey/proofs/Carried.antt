@@ -10,7 +10,7 @@ use Rattle.model.specs.Frame.{Pair, Cea608, field1, field2, frameBytes}
 use Rattle.model.specs.Demux.{Demux, takeFrame}
 use Rattle.model.specs.Rate.{Share}
 use Rattle.model.specs.Mux.{Mux, writeShare}
-use Rattle.model.specs.Run.{Call, pushes, pushes608, sets, writes, Run, call, run, anyPadding, AllowedCall, Allowed, Read, emptied, readFrames, ofField1, ofField2, others}
+use Rattle.model.specs.Run.{Call, pushes, pushes608, sets, writes, Run, call, run, exactCount, AllowedCall, Allowed, Read, emptied, readFrames, ofField1, ofField2, others}
 use Rattle.model.proofs.Packets.{valid-facts}
 use Rattle.model_journey.specs.Bounds.{Field, one, two, queueOf, acceptedOf}
 use Rattle.model_journey.proofs.Turns.{ofField, others-append}
@@ -61,8 +61,8 @@ quiet-carried {s} {g} {k} d new h =
       pairs = λ f. record { same = rw (none-read f) (d .pairs f .accepts) };
     })
 
--- a write at an accepted rate with a padding on
-write-carried : (b : Share) (s : Mux) (g : List ℕ) → AllowedCall anyPadding (writes b) s → Ready s g → Carried s g (call (writes b) s) (readFrames (call (writes b) s .frames) (holding g))
+-- a write at an accepted rate with a padding or the true count on
+write-carried : (b : Share) (s : Mux) (g : List ℕ) → AllowedCall exactCount (writes b) s → Ready s g → Carried s g (call (writes b) s) (readFrames (call (writes b) s .frames) (holding g))
 unfolding call readFrames
 write-carried b s g w h =
     let d = round (b .budgets) s g (fits (w .0)) (counted (b .budgets) s (fits (w .0)) (w .1)) h in
@@ -79,7 +79,7 @@ write-carried b s g w h =
     }
 
 -- any call that is allowed
-call-carried : (c : Call) (s : Mux) (g : List ℕ) → AllowedCall anyPadding c s → Ready s g → Carried s g (call c s) (readFrames (call c s .frames) (holding g))
+call-carried : (c : Call) (s : Mux) (g : List ℕ) → AllowedCall exactCount c s → Ready s g → Carried s g (call c s) (readFrames (call c s .frames) (holding g))
 unfolding call
 call-carried (pushes p) s g w h = quiet-carried (quiet-push p s) (stored-push p s (valid-facts p w)) h
 call-carried (pushes608 (field1 x)) s g w h = quiet-carried (quiet-608 (field1 x) s) none h
@@ -121,7 +121,7 @@ then-carried {s} {g} {k} {r} {o} {p} c d =
     }
 
 -- a run of calls that are allowed
-pub carried : (cs : List Call) (s : Mux) (g : List ℕ) → Allowed anyPadding cs s → Ready s g → Carried s g (run cs s) (readFrames (run cs s .frames) (holding g))
+pub carried : (cs : List Call) (s : Mux) (g : List ℕ) → Allowed exactCount cs s → Ready s g → Carried s g (run cs s) (readFrames (run cs s .frames) (holding g))
 unfolding run
 carried [] s g w h = quiet-carried (quiet-none s) none h
 carried (c ∷ cs) s g w h =

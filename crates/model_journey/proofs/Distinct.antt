@@ -4,7 +4,7 @@ use mathlib.Core.List.{List}
 use Prim.Native.Nat.{ℕ}
 use Rattle.model.specs.Demux.{freshDemux, turn608On}
 use Rattle.model.specs.Mux.{freshMux}
-use Rattle.model.specs.Run.{Call, Run, run, anyPadding, Allowed, Drained, Read, readFrames, ofField1, ofField2, others}
+use Rattle.model.specs.Run.{Call, Run, run, exactCount, Allowed, Drained, Read, readFrames, ofField1, ofField2, others}
 use Rattle.model_journey.specs.Trip.{RoundTrip, SameItems}
 use Rattle.model_journey.proofs.Trip.{round-trip}
 
@@ -18,6 +18,6 @@ same-items e t t′ =
     }
 
 -- two drained runs with different items never make the same frames [J2]
-pub distinct : (cs cs′ : List Call) → Allowed anyPadding cs freshMux → Allowed anyPadding cs′ freshMux → Drained (run cs freshMux .last) → Drained (run cs′ freshMux .last)
+pub distinct : (cs cs′ : List Call) → Allowed exactCount cs freshMux → Allowed exactCount cs′ freshMux → Drained (run cs freshMux .last) → Drained (run cs′ freshMux .last)
     → run cs freshMux .frames ≡ run cs′ freshMux .frames → SameItems (run cs freshMux) (run cs′ freshMux)
 distinct cs cs′ w w′ d d′ e = same-items (ap (λ (fs : List (List ℕ)). readFrames fs (turn608On freshDemux)) e) (round-trip cs w d) (round-trip cs′ w′ d′)

@@ -7,7 +7,7 @@ use native.Mathlib.Omega.{arith}
 use lib.ListN.{length, replicate}
 use Rattle.model.specs.Rate.{Share}
 use Rattle.model.specs.Mux.{Mux, withPads, paddings, unsent, framed, writeFrame, writeShare}
-use Rattle.model.specs.Run.{Call, sets, writes, call, run, Accepted, anyPadding, Allowed, Drained}
+use Rattle.model.specs.Run.{Call, sets, writes, call, run, Accepted, exactCount, Allowed, Drained}
 use Rattle.model_journey.specs.Bounds.{budgetsIn, writesIn, pairedIn, AtRates, NoPush}
 use Rattle.model_journey.proofs.Drains.{drains-paired}
 
@@ -18,7 +18,7 @@ last-append [] ds s = refl
 last-append (c ∷ cs) ds s = last-append cs ds (call c s .last)
 
 -- they are allowed if both are
-allowed-append : (cs ds : List Call) (s : Mux) → Allowed anyPadding cs s → Allowed anyPadding ds (run cs s .last) → Allowed anyPadding (cs ++ ds) s
+allowed-append : (cs ds : List Call) (s : Mux) → Allowed exactCount cs s → Allowed exactCount ds (run cs s .last) → Allowed exactCount (cs ++ ds) s
 unfolding run
 allowed-append [] ds s w v = v
 allowed-append (c ∷ cs) ds s w v = (w .0, allowed-append cs ds (call c s .last) (w .1) v)
@@ -29,7 +29,7 @@ module _ (h : Share) (a : Accepted (h .budgets)) (some : 1 ≤ h .budgets .pairs
   writing n = replicate n (writes h)
 
   -- are allowed while 608 padding is on, which a write leaves as it is
-  allowed-writing : (n : ℕ) (s : Mux) → s .pad608 ≡ true → Allowed anyPadding (writing n) s
+  allowed-writing : (n : ℕ) (s : Mux) → s .pad608 ≡ true → Allowed exactCount (writing n) s
   unfolding call writeFrame framed
   allowed-writing zero s on = tt
   allowed-writing (suc n) s on = ((a, rw on), allowed-writing n (writeShare h s .next) on)
@@ -55,8 +55,8 @@ module _ (h : Share) (a : Accepted (h .budgets)) (some : 1 ≤ h .budgets .pairs
   paired-in (suc n) = rw (paired-in n) (omega arith)
 
   -- with both paddings turned on, so many writes more drain any run
-  pub drainable : (cs : List Call) (s : Mux) → Allowed anyPadding cs s
-      → (n : ℕ) × Allowed anyPadding (cs ++ (sets (paddings true true) ∷ writing n)) s × Drained (run (cs ++ (sets (paddings true true) ∷ writing n)) s .last)
+  pub drainable : (cs : List Call) (s : Mux) → Allowed exactCount cs s
+      → (n : ℕ) × Allowed exactCount (cs ++ (sets (paddings true true) ∷ writing n)) s × Drained (run (cs ++ (sets (paddings true true) ∷ writing n)) s .last)
   unfolding run call
   drainable cs s w =
       let t : Mux = run cs s .last in

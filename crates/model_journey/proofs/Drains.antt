@@ -7,7 +7,7 @@ use native.Mathlib.Omega.{arith}
 use lib.ListN.{length, length-append}
 use Rattle.model.specs.Packet.{Packet}
 use Rattle.model.specs.Rate.{Rate, Budgets}
-use Rattle.model.specs.Mux.{Mux, withPads, withMode, paddings, carryingMode, triplesQueued, unsent, writeFrame, writeShare}
+use Rattle.model.specs.Mux.{Mux, withPads, withMode, withTrueCount, paddings, carryingMode, trueCounting, triplesQueued, unsent, writeFrame, writeShare}
 use Rattle.model.specs.Run.{Call, pushes, pushes608, sets, writes, call, run, Stays, Drained}
 use Rattle.model_journey.specs.Bounds.{Field, one, two, queueOf, budgetsIn, writesIn, pairedIn, AtRates, NoPush, DrainsInTime}
 use Rattle.model_journey.proofs.Turns.{mine, mine-most}
@@ -49,6 +49,7 @@ drain [] s n r k u =
     }
 drain (sets (paddings a b) ∷ cs) s n r k u = drain cs (withPads a b s) n r (elim [ one ↦ k one | two ↦ k two ]) u
 drain (sets (carryingMode on) ∷ cs) s n r k u = drain cs (withMode on s) n r (elim [ one ↦ k one | two ↦ k two ]) u
+drain (sets (trueCounting on) ∷ cs) s n r k u = drain cs (withTrueCount on s) n r (elim [ one ↦ k one | two ↦ k two ]) u
 drain (writes h ∷ cs) s n r k u =
     let b : Budgets = h .budgets in
     let left : ℕ = pairedIn (budgetsIn cs) in

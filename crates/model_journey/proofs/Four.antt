@@ -5,17 +5,18 @@ use mathlib.Core.List.{List, [], _∷_, _++_}
 use Prim.Native.Nat.{ℕ, _+_, _-_, _≤_, min}
 use native.Mathlib.Omega.{arith}
 use lib.ListN.{length}
-use Rattle.model.specs.Frame.{Triple, Seen, seenAll}
+use Rattle.model.specs.Frame.{Seen, seenAll}
 use Rattle.model.specs.Rate.{Budgets, Share}
-use Rattle.model.specs.Mux.{Mux, Sent, turnsDue, turned, unsent, countDue, padding, framed, writeFrame, writeShare}
+use Rattle.model.specs.Mux.{Mux, turnsDue, turned, unsent, turnsCounted, countDue, framed, writeFrame, writeShare}
 use Rattle.model.specs.Run.{Call, pushes, pushes608, sets, writes, call, run, Accepted}
+use Rattle.model.proofs.MuxStates.{turns-most, turns-counted}
+use Rattle.model.proofs.Turns.{turns-count}
 use Rattle.model_journey.specs.Bounds.{packetTriplesIn, SendsFour}
-use Rattle.model_journey.proofs.Parts.{In608, end6, one6, two6, void6, seen-append}
+use Rattle.model_journey.proofs.Parts.{In608, end6, one6, two6, void6}
 use Rattle.model_journey.proofs.Padding.{padding-none}
-use Rattle.model_journey.proofs.Turns.{turns-seen, turns-count}
 use Rattle.model_journey.proofs.Sending.{numbers, sentBy, remains}
 use Rattle.model_journey.proofs.Triples.{Follow, sent-only}
-use Rattle.model_journey.proofs.Count.{turns-most}
+use Rattle.model_journey.proofs.Seen.{turnsOf, padsOf, seen708, seen-parts, seen-608}
 use Rattle.model_journey.proofs.Calls.{quiet-switch, quiet-608, quiet-push}
 
 -- a 608 part has no packet triple
@@ -27,9 +28,9 @@ none-608 (two6 h) ys = none-608 h ys
 none-608 (void6 h) ys = none-608 h ys
 
 -- the triples budget leaves four places beside the turns
-room : (b : Bool) (t p u n x : ℕ) → p + 4 ≤ t → n ≤ p → x ≤ n → min 4 u ≤ min (cond b t (min t (n + u)) - x) u
-room true t p u n x h k l = omega arith
-room false t p u n x h k l = omega arith
+room : (b : Bool) (t u k x : ℕ) → x + 4 ≤ t → x ≤ k → min 4 u ≤ min (cond b t (min t (k + u)) - x) u
+room true t u k x h l = omega arith
+room false t u k x h l = omega arith
 
 -- so four triples are sent, or all that remain
 pub sends-four : (b : Budgets) (s : Mux) → b .pairs + 4 ≤ b .triples → min 4 (unsent s) ≤ length (sentBy b s .out)
@@ -37,18 +38,16 @@ unfolding countDue
 sends-four b s apart =
     let n : ℕ = turnsDue (b .pairs) s in
     let x : ℕ = length (turned n s .out) in
-    rw (numbers (countDue b s - x) (s .sending) (s .packets) .sent) (room (s .padOut) (b .triples) (b .pairs) (unsent s) n x apart (turns-most (b .pairs) s) (turns-count n s .most))
+    let four : x + 4 ≤ b .triples = omega (arith, turns-count n s .most, turns-most (b .pairs) s) in
+    rw (numbers (countDue b s - x) (s .sending) (s .packets) .sent)
+    (room (s .padOut) (b .triples) (unsent s) (turnsCounted (b .pairs) s) x four (turns-counted (b .pairs) s))
 
 -- the packet triples of a frame are those that are sent
 sent-in : (b : Budgets) (s : Mux) → Follow (s .sending) → packetTriplesIn (seenAll (writeFrame b s .frame .triples)) ≡ length (sentBy b s .out)
-unfolding writeFrame framed
 sent-in b s f =
-    let n : ℕ = turnsDue (b .pairs) s in
-    let m : ℕ = countDue b s - length (turned n s .out) in
-    let o : Sent = sentBy b s in
-    let pad : List Triple = padding (s .padOut) (m - length (o .out)) in
-    rw (seen-append (turned n s .out) (o .out ++ pad), none-608 (turns-seen n s) (seenAll (o .out ++ pad)), seen-append (o .out) pad)
-    (omega (arith, sent-only m f (s .packets) .number (seenAll pad), padding-none (s .padOut) (m - length (o .out))))
+    let m : ℕ = countDue b s - length (turnsOf b s) in
+    rw (seen-parts b s, none-608 (seen-608 b s) (seen708 b s))
+    (omega (arith, sent-only m f (s .packets) .number (seenAll (padsOf b s)), padding-none (s .padOut) (m - length (sentBy b s .out))))
 
 -- the triples left of one write go on with a packet
 pub follow-write : (h : Share) (s : Mux) → Follow (s .sending) → Follow (writeShare h s .next .sending)

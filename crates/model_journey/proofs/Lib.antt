@@ -3,6 +3,7 @@ pub mod Turns
 pub mod Padding
 pub mod Sending
 pub mod Triples
+pub mod Seen
 pub mod Gather
 pub mod Count
 pub mod Taking
@@ -15,6 +16,7 @@ pub mod Draws
 pub mod Paces
 pub mod Leaves
 pub mod Four
+pub mod Mended
 pub mod Drains
 pub mod Sums
 pub mod Drainable

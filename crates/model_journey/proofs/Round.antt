@@ -9,21 +9,24 @@ use borrow.Author.Tests.{ne-eqb}
 use Rattle.model.specs.Said.{accepted}
 use Rattle.model.specs.Packet.{Packet}
 use Rattle.model.specs.Frame.{Triple, tri, Seen, seenAll, frameBytes}
-use Rattle.model.specs.Demux.{Gathered, Taken, carries708, packetsOf, kept, wants, gather, ended, gathered, takeFrame}
+use Rattle.model.specs.Demux.{Demux, Gathered, Taken, carries708, packetsOf, kept, wants, gather, ended, gathered, takeFrame}
 use Rattle.model.specs.Rate.{Budgets}
-use Rattle.model.specs.Mux.{Mux, freshMux, Framed, Sent, Turned, turnsDue, turned, countDue, padding, framed, writeFrame}
+use Rattle.model.specs.Mux.{Mux, freshMux, Framed, Sent, turnsDue, countDue, framed, writeFrame}
 use Rattle.model.specs.Run.{others}
 use Rattle.model.proofs.Cases.{by-cond}
 use Rattle.model.proofs.Frames.{packets-append, packets-kept}
+use Rattle.model.proofs.MuxStates.{count-most}
 use Rattle.model_journey.specs.Bounds.{Field, queueOf}
-use Rattle.model_journey.proofs.Parts.{In708, seen-append, join-708, gather-none}
-use Rattle.model_journey.proofs.Padding.{padding-seen, padding-inert}
-use Rattle.model_journey.proofs.Turns.{ofField, turns-seen, turns-serve, gone-seen}
+use Rattle.model_journey.specs.Trip.{OnlyFull}
+use Rattle.model_journey.proofs.Parts.{In708, gather-none}
+use Rattle.model_journey.proofs.Padding.{padding-inert}
+use Rattle.model_journey.proofs.Turns.{ofField, turns-serve, gone-seen}
 use Rattle.model_journey.proofs.Sending.{sentBy}
-use Rattle.model_journey.proofs.Triples.{bytesOf, Follow, stop, more, sent-only}
+use Rattle.model_journey.proofs.Triples.{bytesOf, Follow, stop, more}
+use Rattle.model_journey.proofs.Seen.{turnsOf, padsOf, seen-parts, seen-608, seen-708}
 use Rattle.model_journey.proofs.Gather.{AllStored, none, Link, still, part, underway, wants-part, wants-none, closed-none, Passed, carry}
-use Rattle.model_journey.proofs.Count.{Fits, count-most}
-use Rattle.model_journey.proofs.Taking.{holding, taken}
+use Rattle.model_journey.proofs.Count.{Fits}
+use Rattle.model_journey.proofs.Taking.{holding, taken, not-refused}
 
 -- At a frame's end: the bytes gathered and the triples left are linked as before, what is complete is given and nothing complete is kept.
 record Closed (ts : List Triple) (g : List ℕ) (gs : List (List ℕ)) (o : Gathered) : Type 0 where
@@ -92,23 +95,17 @@ pub record Round (s : Mux) (g : List ℕ) (w : Framed) (t : Taken) : Type 0 wher
   pub packets : underway g (s .sending) ++ s .packets ≡ t .next .waiting ++ (underway (t .next .pending) (w .next .sending) ++ w .next .packets)
   pub pairs : (f : Field) → others (queueOf f s) ≡ others (ofField f (t .next .pairs)) ++ others (queueOf f (w .next))
 
--- It needs of the budgets only that they fit, and of the paddings only that the count is true.
+-- It needs of the budgets only that they fit, and of the switches only that the count is true.
 pub round : (b : Budgets) (s : Mux) (g : List ℕ) → Fits b → length (writeFrame b s .frame .triples) ≡ countDue b s → Ready s g
     → Round s g (writeFrame b s) (takeFrame (frameBytes (writeFrame b s .frame)) (holding g))
 unfolding writeFrame framed
 round b s g fit true-count k =
     let n : ℕ = turnsDue (b .pairs) s in
-    let t : Turned = turned n s in
-    let m : ℕ = countDue b s - length (t .out) in
-    let o : Sent = sentBy b s in
-    let pad : List Triple = padding (s .padOut) (m - length (o .out)) in
-    let xs : List Seen = seenAll (t .out) in
-    let ys : List Seen = seenAll (o .out) ++ seenAll pad in
-    let cut : seenAll (t .out ++ (o .out ++ pad)) ≡ xs ++ ys = seen-append (t .out) (o .out ++ pad) ∙ ap (λ (l : List Seen). xs ++ l) (seen-append (o .out) pad) in
-    let js : In708 ys = join-708 (sent-only m (link-follow (k .linked)) (s .packets) .in708) (padding-seen (s .padOut) (m - length (o .out))) in
-    let c = carry (seenAll pad) (padding-inert (s .padOut) (m - length (o .out))) m (k .linked) (k .stored) in
+    let m : ℕ = countDue b s - length (turnsOf b s) in
+    let js = seen-708 b s (link-follow (k .linked)) in
+    let c = carry (seenAll (padsOf b s)) (padding-inert (s .padOut) (m - length (sentBy b s .out))) m (k .linked) (k .stored) in
     let d = settled js (k .rested) c in
-    rw (taken (writeFrame b s .frame) g true-count (omega (arith, count-most b s, fit .triples)) cut (turns-seen n s) js)
+    rw (taken (writeFrame b s .frame) g true-count (omega (arith, count-most b s, fit .triples)) (seen-parts b s) (seen-608 b s) js)
     (record {
       answer = refl;
       on = refl;
@@ -116,3 +113,10 @@ round b s g fit true-count k =
       packets = d .same;
       pairs = λ f. gone-seen (turns-serve f n s);
     })
+
+-- Any demultiplexer takes a frame whose count is true, whatever it holds, unless too many packets would wait.
+pub round-any : (b : Budgets) (s : Mux) (d : Demux) → Fits b → length (writeFrame b s .frame .triples) ≡ countDue b s → Follow (s .sending)
+    → OnlyFull d (takeFrame (frameBytes (writeFrame b s .frame)) d .answer)
+unfolding writeFrame framed
+round-any b s d fit true-count f =
+    not-refused d (writeFrame b s .frame) true-count (omega (arith, count-most b s, fit .triples)) (seen-parts b s) (seen-608 b s) (seen-708 b s f)

@@ -3,26 +3,25 @@
 use mathlib.Core.Path.{_≡_, refl, sym, ap, _∙_}
 use mathlib.Core.Bool.{true, _&&_}
 use mathlib.Core.List.{List, [], _∷_, _++_}
-use Prim.Native.Nat.{ℕ, suc, _+_, _-_, _*_, _/_, _<_}
+use Prim.Native.Nat.{ℕ, suc, _+_, _*_, _/_, _<_}
 use native.Mathlib.Nat.{add-mul, one-mul, mul-add, zero-mul, mul-zero, zero-div, div-eq-of-lt-le}
 use native.Mathlib.Omega.{arith}
 use lib.Dec.{eqb}
 use lib.ListN.{length}
 use borrow.Author.Tests.{eqb-true, eqb-false, ne-eqb}
-use Rattle.model.specs.Frame.{Triple, field1, field2, Seen, seenAll, frameBytes}
+use Rattle.model.specs.Frame.{field1, field2, Seen, seenAll, frameBytes}
 use Rattle.model.specs.Rate.{Rate, rate, Budgets, rounded, pairsAt, triplesAt, Carry, noCarry, goingOn, Share, carriedOn}
-use Rattle.model.specs.Mux.{Mux, turnsDue, turned, countDue, padding, framed, writeFrame, writeShare}
+use Rattle.model.specs.Mux.{Mux, turnsDue, countDue, framed, writeFrame, writeShare}
 use Rattle.model.specs.Run.{Call, pushes, pushes608, sets, writes, call, run, Accepted, Allowed, Stays}
 use Rattle.model.proofs.Cases.{by-test, by-cond, both}
 use Rattle.model.proofs.Frames.{unflat}
 use Rattle.model.proofs.Carrying.{whole, below, going-on}
+use Rattle.model.proofs.Turns.{turns-count}
 use Rattle.model_journey.specs.Bounds.{budgetsIn, writesIn}
 use Rattle.model_journey.specs.Sums.{Kind, ofPairs, ofTriples, due, budgetOf, restOf, total, Afresh, no-parts, other-numer, other-denom, dueOf, AddUp, fills, pairTriplesIn, shown, shownAll}
-use Rattle.model_journey.proofs.Parts.{In608, end6, one6, two6, void6, In708, end7, start7, more7, void7, seen-append, seen-length, join-708}
-use Rattle.model_journey.proofs.Padding.{padding-seen}
-use Rattle.model_journey.proofs.Turns.{turns-seen, turns-count}
-use Rattle.model_journey.proofs.Sending.{sentBy}
-use Rattle.model_journey.proofs.Triples.{Follow, sent-only}
+use Rattle.model_journey.proofs.Parts.{In608, end6, one6, two6, void6, In708, end7, start7, more7, void7, seen-length}
+use Rattle.model_journey.proofs.Triples.{Follow}
+use Rattle.model_journey.proofs.Seen.{turnsOf, seen708, seen-parts, seen-608, seen-708}
 use Rattle.model_journey.proofs.Calls.{SameSum, sum-push, sum-608, sum-switch, mode-switch, quiet-switch, quiet-608, quiet-push}
 use Rattle.model_journey.proofs.Four.{follow-write}
 use Rattle.model_journey.proofs.Paces.{on-share}
@@ -138,17 +137,11 @@ count-708 (void7 h) = count-708 h
 
 -- the turns of a frame with 608 padding are its pairs, and a reader sees each of them
 turns-shown : (b : Budgets) (s : Mux) → s .pad608 ≡ true → Follow (s .sending) → pairTriplesIn (seenAll (writeFrame b s .frame .triples)) ≡ b .pairs
-unfolding writeFrame framed turnsDue
+unfolding turnsDue
 turns-shown b s on f =
-    let n : ℕ = turnsDue (b .pairs) s in
-    let ts : List Triple = turned n s .out in
-    let m : ℕ = countDue b s - length ts in
-    let us : List Triple = sentBy b s .out in
-    let pad : List Triple = padding (s .padOut) (m - length us) in
-    let js : In708 (seenAll us ++ seenAll pad) = join-708 (sent-only m f (s .packets) .in708) (padding-seen (s .padOut) (m - length us)) in
-    let all : n ≡ b .pairs = rw on in
-    rw (seen-append ts (us ++ pad), seen-append us pad, count-608 (turns-seen n s) (seenAll us ++ seenAll pad), count-708 js, seen-length ts)
-    (omega (arith, turns-count n s .all on))
+    let all : turnsDue (b .pairs) s ≡ b .pairs = rw on in
+    rw (seen-parts b s, count-608 (seen-608 b s) (seen708 b s), count-708 (seen-708 b s f), seen-length (turnsOf b s))
+    (omega (arith, turns-count (turnsDue (b .pairs) s) s .all on))
 
 -- the count of a frame with output padding is its triples
 count-shown : (b : Budgets) (s : Mux) → s .padOut ≡ true → writeFrame b s .frame .count ≡ b .triples

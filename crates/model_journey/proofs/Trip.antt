@@ -7,7 +7,7 @@ use lib.ListN.{length}
 use Rattle.model.specs.Frame.{Triple}
 use Rattle.model.specs.Demux.{freshDemux, turn608On, wants}
 use Rattle.model.specs.Mux.{freshMux}
-use Rattle.model.specs.Run.{Call, run, anyPadding, Allowed, Drained, readFrames, others}
+use Rattle.model.specs.Run.{Call, run, exactCount, Allowed, Drained, readFrames, others}
 use Rattle.model_journey.specs.Bounds.{one, two}
 use Rattle.model_journey.specs.Trip.{RoundTrip}
 use Rattle.model_journey.proofs.Gather.{Link, underway, underway-one}
@@ -23,9 +23,9 @@ none-underway {ts} {g} l rest e = empty (underway g ts) (omega (arith, underway-
 all-out : {A : Type 0} {i o now : List A} → Kept [] i o now → now ≡ [] → o ≡ i
 all-out {o} k e = sym (rw (e, append-nil o) at (k .same))
 
--- Any calls on a fresh multiplexer, without a flush and with a padding on at each accepted write: once drained, a fresh demultiplexer with 608 on,
--- given every frame and drawn empty after each, has given exactly the items that were accepted, in order, once each [J1].
-pub round-trip : (cs : List Call) → Allowed anyPadding cs freshMux → Drained (run cs freshMux .last) → RoundTrip (run cs freshMux) (readFrames (run cs freshMux .frames) (turn608On freshDemux))
+-- Any calls on a fresh multiplexer, without a flush and with a padding or the true count on at each accepted write: once drained, a fresh
+-- demultiplexer with 608 on, given every frame and drawn empty after each, has given exactly the items that were accepted, in order, once each [J1].
+pub round-trip : (cs : List Call) → Allowed exactCount cs freshMux → Drained (run cs freshMux .last) → RoundTrip (run cs freshMux) (readFrames (run cs freshMux .frames) (turn608On freshDemux))
 unfolding others
 round-trip cs w d =
     let c = carried cs freshMux [] w ready-fresh in

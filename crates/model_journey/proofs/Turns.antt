@@ -1,7 +1,7 @@
 -- The turns of a frame: a reader sees them as its 608 part, and each field's pairs leave its queue in order, one in each of its turns.
 -- Assumes nothing.
 use mathlib.Core.Path.{_≡_, refl, sym, ap, _∙_}
-use mathlib.Core.Bool.{Bool, true, false, cond, false≢true}
+use mathlib.Core.Bool.{Bool, true, false, cond}
 use mathlib.Core.List.{List, [], _∷_, _++_}
 use Prim.Native.Nat.{ℕ, zero, suc, _+_, _*_, _≤_, min}
 use native.Mathlib.Omega.{arith}
@@ -35,41 +35,6 @@ mutual
 pub turns-seen : (n : ℕ) (s : Mux) → In608 (seenAll (turned n s .out))
 unfolding turned
 turns-seen n s = by-cond (λ (t : Turned). In608 (seenAll (t .out))) (s .next1) (λ e. seen1 n (s .pad608) (s .queue1) (s .queue2)) (λ e. seen2 n (s .pad608) (s .queue1) (s .queue2))
-
--- how many triples n turns make: no more than n, and with 608 padding n
-pub record Counts (n : ℕ) (pad : Bool) (t : Turned) : Type 0 where
-  pub most : length (t .out) ≤ n
-  pub all : pad ≡ true → length (t .out) ≡ n
-
--- a turn that makes a triple
-one-more : {n : ℕ} {pad : Bool} {t : Turned} → Counts n pad t → {t′ : Turned} → length (t′ .out) ≡ suc (length (t .out)) → Counts (suc n) pad t′
-one-more c e = record { most = omega (arith, c .most); all = λ p. omega (arith, c .all p) }
-
--- a turn that makes none
-no-more : {n : ℕ} {t : Turned} → Counts n false t → Counts (suc n) false t
-no-more c = record { most = omega (arith, c .most); all = λ p. absurd (false≢true p) }
-
--- by the field that has the first turn
-mutual
-  unfolding turn1 turn2
-
-  counts1 : (n : ℕ) (pad : Bool) (q1 q2 : List Pair) → Counts n pad (turn1 n pad q1 q2)
-  counts1 zero pad q1 q2 = record { most = omega arith; all = λ p. refl }
-  counts1 (suc n) pad (pair a b ∷ q1) q2 = one-more (counts2 n pad q1 q2) refl
-  counts1 (suc n) pad [] (x ∷ q2) = one-more (counts2 n pad [] (x ∷ q2)) refl
-  counts1 (suc n) true [] [] = one-more (counts2 n true [] []) refl
-  counts1 (suc n) false [] [] = no-more (counts2 n false [] [])
-
-  counts2 : (n : ℕ) (pad : Bool) (q1 q2 : List Pair) → Counts n pad (turn2 n pad q1 q2)
-  counts2 zero pad q1 q2 = record { most = omega arith; all = λ p. refl }
-  counts2 (suc n) pad q1 (pair a b ∷ q2) = one-more (counts1 n pad q1 q2) refl
-  counts2 (suc n) true q1 [] = one-more (counts1 n true q1 []) refl
-  counts2 (suc n) false q1 [] = no-more (counts1 n false q1 [])
-
--- so it is of the turns of a frame
-pub turns-count : (n : ℕ) (s : Mux) → Counts n (s .pad608) (turned n s)
-unfolding turned
-turns-count n s = by-cond (Counts n (s .pad608)) (s .next1) (λ e. counts1 n (s .pad608) (s .queue1) (s .queue2)) (λ e. counts2 n (s .pad608) (s .queue1) (s .queue2))
 
 -- 1 if the next turn is the field's
 abbrev pub mine : Field → Bool → ℕ

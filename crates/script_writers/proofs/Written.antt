@@ -1,13 +1,12 @@
 -- What is left of the multiplexer, by what its calls promise. Assumes nothing.
-use mathlib.Core.Path.{_≡_, sym, ap, _∙_}
-use mathlib.Core.Bool.{Bool, true, false}
+use mathlib.Core.Path.{_≡_, _∙_}
+use mathlib.Core.Bool.{Bool}
 use mathlib.Core.List.{List, [], _∷_}
 use Prim.Native.Nat.{ℕ}
 use lib.ListN.{getD, drop}
-use Rattle.model.specs.Said.{Outcome, accepted, gave, says, checked, mapped, after, measured}
+use Rattle.model.specs.Said.{accepted, gave, checked, measured}
 use Rattle.model.specs.Duration.{field1Duration, field2Duration, packetDuration}
-use Rattle.model.specs.Mux.{Mux, withPads, withMode, paddings, carryingMode}
-use Rattle.model.proofs.Cases.{by-test}
+use Rattle.model.specs.Mux.{withPads, withMode, withTrueCount, paddings, carryingMode, trueCounting}
 use Rattle.caption.specs.declared.Counted.{Counted}
 use Rattle.caption.specs.declared.Framerate.{Framerate}
 use Rattle.caption.specs.Answers.{saidAnswer, saidCounted}
@@ -19,8 +18,7 @@ use Rattle.writer.specs.declared.WriterAnswer.{WriterAnswer}
 use Rattle.writer.specs.declared.WriterCount.{WriterCount}
 use Rattle.writer.specs.Writer.{means, validWriter, stored}
 use Rattle.writer.specs.Calls.{Answers, Writes, saidMicros}
-use Rattle.writer.specs.Making.{switched}
-use Rattle.writer.proofs.Kept.{switch-is, switch-valid, switches-are}
+use Rattle.writer.proofs.Switches.{Left, none-set, left-within, left-as, one-set, set-answer}
 use Rattle.program_text.specs.Laid.{Laid}
 use Rattle.program_records.specs.Reading.{highestFirst}
 use Rattle.script_answers.specs.Script.{answerLine, lentLine, countOf, together}
@@ -52,35 +50,25 @@ pub times-measured : {out after : List ℕ} {at r : ℕ} (w : CCDataWriter) (a b
 unfolding durations
 times-measured w a b c x y z e f g i j k l = same-line (three-measured _ _ _ (validWriter w) a b c (i ∙ e) (j ∙ f) (k ∙ g)) l
 
--- The switches set, one after the other: each call keeps the limits, so that all are refused where the first was.
-module _ (a b on : Bool) (w : CCDataWriter) (f s t : WriterAnswer)
+-- the switches set, one after the other
+module _ (a b on exact : Bool) (w : CCDataWriter) (f s t u : WriterAnswer)
     (x : Answers (checked (validWriter w) (gave (withPads a (w .«output_padding») (means w)))) (stored w) w f)
     (y : Answers (checked (validWriter (f .writer)) (gave (withPads (f .writer .«output_cea608_padding») b (means (f .writer))))) (stored (f .writer)) (f .writer) s)
-    (z : Answers (checked (validWriter (s .writer)) (gave (withMode on (means (s .writer))))) (stored (s .writer)) (s .writer) t) where
-  -- what all come to
-  abbrev all : Outcome Mux
-  all = checked (validWriter w) (gave (withMode on (withPads a b (means w))))
+    (z : Answers (checked (validWriter (s .writer)) (gave (withMode on (means (s .writer))))) (stored (s .writer)) (s .writer) t)
+    (q : Answers (checked (validWriter (t .writer)) (gave (withTrueCount exact (means (t .writer))))) (stored (t .writer)) (t .writer) u) where
+  -- the paddings
+  padded : Left w (withPads a b (means w)) (s .writer)
+  unfolding means
+  padded =
+      let first = one-set (none-set w) (paddings a (w .«output_padding»)) f x in
+      let second = one-set first (paddings (f .writer .«output_cea608_padding») b) s y in
+      left-as second (withPads a b (means w)) (λ e. rw (left-within first e))
 
-  -- within the limits
-  switched-within : validWriter w ≡ true → (saidAnswer (t .answer) ≡ says all) × (t .writer ≡ after w (mapped (stored w) all))
-  switched-within e =
-      let first : f .writer ≡ switched (paddings a (w .«output_padding»)) w = rw e at (x .places) ∙ switch-is w e (paddings a (w .«output_padding»)) in
-      let good : validWriter (f .writer) ≡ true = rw first (switch-valid w e (paddings a (w .«output_padding»))) in
-      let second : s .writer ≡ switched (paddings (f .writer .«output_cea608_padding») b) (f .writer) = rw good at (y .places) ∙ switch-is (f .writer) good (paddings (f .writer .«output_cea608_padding») b) in
-      let fine : validWriter (s .writer) ≡ true = rw second (switch-valid (f .writer) good (paddings (f .writer .«output_cea608_padding») b)) in
-      let third : t .writer ≡ switched (carryingMode on) (s .writer) = rw fine at (z .places) ∙ switch-is (s .writer) fine (carryingMode on) in (
-        rw fine at (z .answer) ∙ rw e,
-        third ∙ ap (switched (carryingMode on)) (second ∙ ap (λ (v : CCDataWriter). switched (paddings (v .«output_cea608_padding») b) v) first) ∙ sym (switches-are w e a b on) ∙ rw e,
-      )
+  -- and the mode
+  carried : Left w (withMode on (withPads a b (means w))) (t .writer)
+  carried = one-set padded (carryingMode on) t z
 
-  -- outside them
-  switched-outside : validWriter w ≡ false → (saidAnswer (t .answer) ≡ says all) × (t .writer ≡ after w (mapped (stored w) all))
-  switched-outside e =
-      let first : f .writer ≡ w = rw e at (x .places) in
-      let bad : validWriter (f .writer) ≡ false = rw first e in
-      let second : s .writer ≡ w = rw bad at (y .places) ∙ first in
-      let worse : validWriter (s .writer) ≡ false = rw second e in
-      (rw worse at (z .answer) ∙ rw e, rw worse at (z .places) ∙ second ∙ rw e)
-
-  pub did-switch : {out now : List ℕ} {at laid : ℕ} (state : CCDataWriter) → Did (tells (saidAnswer (t .answer)) (t .writer)) out at laid state now → Did (lays stored w all) out at laid state now
-  did-switch state d = let k = by-test (validWriter w) switched-within switched-outside in record { told = rw (← k .0) (d .told); left = d .left ∙ k .1 }
+  pub did-switch : {out now : List ℕ} {at laid : ℕ} (state : CCDataWriter) → Did (tells (saidAnswer (u .answer)) (u .writer)) out at laid state now
+      → Did (lays stored w (checked (validWriter w) (gave (withTrueCount exact (withMode on (withPads a b (means w))))))) out at laid state now
+  did-switch state d =
+      record { told = rw (← set-answer carried (trueCounting exact) u q) (d .told); left = d .left ∙ one-set carried (trueCounting exact) u q .places }

@@ -6,7 +6,7 @@ use lib.Dec.{eqb}
 use lib.ListN.{length, drop}
 use Rattle.model.specs.Said.{Said, gave, checked, saysWith, mapped, after}
 use Rattle.model.specs.Duration.{field1Duration, field2Duration, packetDuration}
-use Rattle.model.specs.Mux.{withPads, withMode, flushMux, pushPacket, pushCea608}
+use Rattle.model.specs.Mux.{withPads, withMode, withTrueCount, flushMux, pushPacket, pushCea608}
 use Rattle.caption.specs.declared.Framerate.{Framerate}
 use Rattle.caption.specs.declared.Cea608.{Cea608}
 use Rattle.caption.specs.declared.Cea608.the-variants.{Field1, Field2}
@@ -26,11 +26,12 @@ use Rattle.script_answers.specs.Rows.{Row, row, exactly, byte}
 abbrev pub renewsWriter : Effect CCDataWriter
 renewsWriter = becomes fresh
 
--- its three switches: the 608 padding by bit 0, the output padding by bit 1, and then the carrying mode by bit 2
+-- its four switches: the 608 padding by bit 0, the output padding by bit 1, then the carrying mode by bit 2, and last the true count by bit 3
 abbrev pub switches : List ℕ → CCDataWriter → Effect CCDataWriter
 switches a w =
     let padded = withPads (eqb (byte a 0 % 2) 1) (eqb (byte a 0 / 2 % 2) 1) (means w) in
-    lays stored w (checked (validWriter w) (gave (withMode (eqb (byte a 0 / 4 % 2) 1) padded)))
+    let carrying = withMode (eqb (byte a 0 / 4 % 2) 1) padded in
+    lays stored w (checked (validWriter w) (gave (withTrueCount (eqb (byte a 0 / 8 % 2) 1) carrying)))
 
 -- a packet pushed
 abbrev pub pushesPacket : DTVCCPacket → CCDataWriter → Effect CCDataWriter
@@ -79,6 +80,7 @@ setsWriter a w =
       field1 = record { bytes = w .field1 .bytes; count = byte a 2 };
       field2 = record { bytes = w .field2 .bytes; count = byte a 3 };
       «field2_next» = w .«field2_next»;
+      «true_count» = w .«true_count»;
       carrying = w .carrying;
       carry = w .carry;
     })
@@ -97,6 +99,7 @@ setsCarry a w =
       field1 = w .field1;
       field2 = w .field2;
       «field2_next» = w .«field2_next»;
+      «true_count» = w .«true_count»;
       carrying = w .carrying;
       carry = record { numer = highestFirst (drop 0 a); denom = highestFirst (drop 4 a); pairs = highestFirst (drop 8 a); triples = highestFirst (drop 12 a) };
     })

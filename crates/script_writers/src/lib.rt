@@ -1,4 +1,4 @@
-// The operations of a script, by their letters, on its multiplexer: each makes its call (that of the switches one for each of the three), lays the
+// The operations of a script, by their letters, on its multiplexer: each makes its call (that of the switches one for each of the four), lays the
 // line that tells of it into a lent buffer from a place on, and answers the place behind the line beside what is left.
 ghost use mathlib.Core.Path.{_≡_};
 ghost use Rattle.model.specs.Said.{mapped, after};
@@ -52,7 +52,7 @@ fn told_writer(out: &mut [u8], at: usize, done: WriterAnswer) -> OnWriter
     }
 }
 
-// The three switches set, by three bits.
+// The four switches set, by four bits.
 fn switch(out: &mut [u8], at: usize, before: CCDataWriter, args: &[u8]) -> OnWriter
     ensures { λ r. ⌜ Runs (switches (now (args .entry)) before) (now (out .entry)) at (r .ran) (r .laid) (r .writer) (now (out .exit)) ⌝ }
 {
@@ -60,8 +60,10 @@ fn switch(out: &mut [u8], at: usize, before: CCDataWriter, args: &[u8]) -> OnWri
     let first = before.set_output_cea608_padding(bits % 2 == 1);
     let padded = first.writer;
     let second = padded.set_output_padding(bits / 2 % 2 == 1);
-    let writer = second.writer;
-    told_writer(out, at, writer.set_carrying(bits / 4 % 2 == 1))
+    let filled = second.writer;
+    let third = filled.set_carrying(bits / 4 % 2 == 1);
+    let writer = third.writer;
+    told_writer(out, at, writer.set_true_count(bits / 8 % 2 == 1))
 }
 
 // A pair of field 1 pushed.

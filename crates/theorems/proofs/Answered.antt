@@ -3,7 +3,7 @@ use mathlib.Core.Path.{_≡_, refl, sym, ap, _∙_}
 use mathlib.Core.List.{[]}
 use native.Mathlib.Omega.{arith}
 use Rattle.model.specs.Said.{Outcome, gave, refused, checked}
-use Rattle.model.specs.Mux.{Mux, Switch, paddings, carryingMode, withSwitch}
+use Rattle.model.specs.Mux.{Mux, Switch, paddings, carryingMode, trueCounting, withSwitch}
 use Rattle.model.specs.Run.{sets, call, StaysSwitch, others}
 use Rattle.model_journey.proofs.Calls.{quiet-switch}
 use Rattle.caption.specs.Answers.{saidRefusal}
@@ -61,3 +61,4 @@ switch-moves w r x s a =
     same-sending : (w : CCDataWriter) (x : Switch) → sendingOf (stored w (withSwitch x (means w))) ≡ sendingOf w
     same-sending w (paddings a b) = refl
     same-sending w (carryingMode on) = refl
+    same-sending w (trueCounting on) = refl

@@ -4,19 +4,18 @@ use mathlib.Core.Bool.{Bool, true, false≢true}
 use mathlib.Core.List.{List}
 use Prim.Native.Nat.{ℕ, _+_, _*_, _≤_}
 use native.Mathlib.Omega.{arith}
-use lib.ListN.{length, take, drop, length-map}
+use lib.ListN.{length, take, length-map}
 use lib.Seq.{length-take-le}
 use contract.Lifetimes.{Lfts}
 use denote.Ref.{now}
 use Rattle.model.specs.Said.{Outcome, gave, refused, isGiven}
 use Rattle.model.specs.Packet.{Packet}
-use Rattle.model.specs.Frame as model
-use Rattle.model.specs.Frame.{frameBytes, triplesIn}
+use Rattle.model.specs.Frame.{frameBytes}
 use Rattle.model.specs.Rate.{Budgets, budgets, mostTriples, goingOn, Share, carriedOn}
 use Rattle.model.specs.Mux.{Mux, shareAt, writeShare}
 use Rattle.model.specs.Run as runs
 use Rattle.model.proofs.Cases.{by-test}
-use Rattle.model.proofs.Frames.{unflat}
+use Rattle.model.proofs.Frames.{frame-triples}
 use Rattle.model.proofs.Carrying.{share-accepts, share-rounds}
 use Rattle.model_journey.specs.Bounds as journey
 use Rattle.model_journey.specs.Bounds.{Field, one, two, acceptedOf, pace}
@@ -44,11 +43,6 @@ use Rattle.theorems.proofs.Following.{Tests, Staying, Follows}
 use Rattle.theorems.proofs.Frames.{Writes, no-frame, one-frame, write-does}
 use Rattle.theorems.proofs.Sequences.{follows}
 use Rattle.theorems.proofs.Reached.{holds}
-
--- the triples in a frame's bytes are the frame's
-frame-triples : (f : model.Frame) → triplesIn (drop 2 (frameBytes f)) ≡ f .triples
-unfolding frameBytes
-frame-triples f = unflat (f .triples)
 
 -- a field's queue is the model's
 pub queue-means : (f : Field) (w : CCDataWriter) → journey.queueOf f (means w) ≡ queueAt f w

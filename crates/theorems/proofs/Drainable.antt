@@ -30,7 +30,7 @@ use Rattle.writer.specs.declared.WriterAnswer.{WriterAnswer}
 use Rattle.writer.specs.declared.WriterCount.{WriterCount}
 use Rattle.theorems.specs.Items.{Items, noItems, andThen, ifNonempty, onePair}
 use Rattle.theorems.specs.Allowed.{Lent, NewWriter, Write}
-use Rattle.theorems.specs.Writing.{ifAccepted, Calls, no-call, push-packet, push-cea608, set-cea608-padding, set-padding, set-carrying, write, frameIn, Padded, Stays, Drained, Drains}
+use Rattle.theorems.specs.Writing.{ifAccepted, Calls, no-call, push-packet, push-cea608, set-cea608-padding, set-padding, set-carrying, set-true-count, write, frameIn, Exact, Stays, Drained, Drains}
 use Rattle.theorems.specs.Writing as writing
 use Rattle.theorems.specs.Bounds.{unsentOf}
 use Rattle.theorems.proofs.Following.{items-same}
@@ -81,19 +81,19 @@ writable κs w s =
       still = refl;
     })
 
--- n writes at the rate, each accepted and with a padding on, the mode left as it is
+-- n writes at the rate, each accepted and with a padding or the true count on, the mode left as it is
 record Written (n : ℕ) (w : CCDataWriter) : Type 0 where
   frames : List (List ℕ)
   last : CCDataWriter
   calls : Calls w frames noItems last
-  padded : Padded calls
+  exact : Exact calls
   steady : (mode : Bool) → Stays mode rate calls
   number : length frames ≡ n
 
 -- there are such
 written-all : (κs : Lfts 1) (n : ℕ) (w : CCDataWriter) → Sound w → w .«output_cea608_padding» ≡ true → Written n w
 unfolding means
-written-all κs zero w s on = record { frames = []; last = w; calls = no-call; padded = tt; steady = λ mode. tt; number = refl }
+written-all κs zero w s on = record { frames = []; last = w; calls = no-call; exact = tt; steady = λ mode. tt; number = refl }
 written-all κs (suc n) w s on =
     let k = writable κs w s in
     let m = written-all κs n (k .result .writer) (k .sound) (k .same ∙ on) in
@@ -101,7 +101,7 @@ written-all κs (suc n) w s on =
       frames = frameIn (k .result .answer) (now (k .end)) ++ m .frames;
       last = m .last;
       calls = write κs rate out (k .end) (k .result) (k .allowed) (m .calls);
-      padded = (λ n e. rw on, m .padded);
+      exact = (λ n e. rw on, m .exact);
       steady = λ mode. (λ n e on′. refl, m .steady mode);
       number = rw (k .counts) (ap suc (m .number));
     }
@@ -111,7 +111,7 @@ record Draining (w : CCDataWriter) : Type 0 where
   frames : List (List ℕ)
   last : CCDataWriter
   calls : Calls w frames noItems last
-  padded : Padded calls
+  exact : Exact calls
   drained : Drained last
 
 -- 608 padding turned on, and as many writes as drain what is there
@@ -132,7 +132,7 @@ draining {w} κs new before =
       frames = m .frames;
       last = m .last;
       calls = c;
-      padded = m .padded;
+      exact = m .exact;
       drained = writes-drain (writing.called (writing.fresh new) before) (w .carrying) rate c refl (m .steady (w .carrying)) (enough (w .carrying) (w .field1 .count) (omega arith)) (enough (w .carrying) (w .field2 .count) (omega arith))
           (omega arith);
     }
@@ -141,38 +141,39 @@ draining {w} κs new before =
 then-assoc : (a b c : Items) → andThen (andThen a b) c ≡ andThen a (andThen b c)
 then-assoc a b c = rw (append-assoc (a .packets) (b .packets) (c .packets), append-assoc (a .pairs1) (b .pairs1) (c .pairs1), append-assoc (a .pairs2) (b .pairs2) (c .pairs2))
 
--- calls with a padding on at each write, if `pad` holds
-record Joined (w : CCDataWriter) (fs : List (List ℕ)) (is : Items) (w′ : CCDataWriter) (pad : Type 0) : Type 0 where
+-- calls with a padding or the true count on at each write, if `both` holds
+record Joined (w : CCDataWriter) (fs : List (List ℕ)) (is : Items) (w′ : CCDataWriter) (both : Type 0) : Type 0 where
   calls : Calls w fs is w′
-  padded : pad → Padded calls
+  exact : both → Exact calls
 
 -- items and frames that are said in another way
-again : {w w₂ : CCDataWriter} {fs gs : List (List ℕ)} {is js : Items} {pad : Type 0} → gs ≡ fs → js ≡ is → Joined w fs is w₂ pad → Joined w gs js w₂ pad
+again : {w w₂ : CCDataWriter} {fs gs : List (List ℕ)} {is js : Items} {both : Type 0} → gs ≡ fs → js ≡ is → Joined w fs is w₂ both → Joined w gs js w₂ both
 again e f d = rw (e, f) d
 
 -- calls, and then others
-join : {w w₁ w₂ : CCDataWriter} {fs fs′ : List (List ℕ)} {is is′ : Items} (c : Calls w fs is w₁) (k : Calls w₁ fs′ is′ w₂) → Joined w (fs ++ fs′) (andThen is is′) w₂ (Padded c × Padded k)
-join no-call k = record { calls = k; padded = λ p. p .1 }
+join : {w w₁ w₂ : CCDataWriter} {fs fs′ : List (List ℕ)} {is is′ : Items} (c : Calls w fs is w₁) (k : Calls w₁ fs′ is′ w₂) → Joined w (fs ++ fs′) (andThen is is′) w₂ (Exact c × Exact k)
+join no-call k = record { calls = k; exact = λ p. p .1 }
 join {is′} (push-packet {is} d r t a c) k =
     let m = join c k in
-    again refl (then-assoc (ifAccepted (r .answer) (ifNonempty (packetOf d))) is is′) (record { calls = push-packet d r t a (m .calls); padded = m .padded })
+    again refl (then-assoc (ifAccepted (r .answer) (ifNonempty (packetOf d))) is is′) (record { calls = push-packet d r t a (m .calls); exact = m .exact })
 join {is′} (push-cea608 {is} x r a c) k =
     let m = join c k in
-    again refl (then-assoc (ifAccepted (r .answer) (onePair (cea608Of x))) is is′) (record { calls = push-cea608 x r a (m .calls); padded = m .padded })
-join (set-cea608-padding on r a c) k = let m = join c k in record { calls = set-cea608-padding on r a (m .calls); padded = m .padded }
-join (set-padding on r a c) k = let m = join c k in record { calls = set-padding on r a (m .calls); padded = m .padded }
-join (set-carrying on r a c) k = let m = join c k in record { calls = set-carrying on r a (m .calls); padded = m .padded }
+    again refl (then-assoc (ifAccepted (r .answer) (onePair (cea608Of x))) is is′) (record { calls = push-cea608 x r a (m .calls); exact = m .exact })
+join (set-cea608-padding on r a c) k = let m = join c k in record { calls = set-cea608-padding on r a (m .calls); exact = m .exact }
+join (set-padding on r a c) k = let m = join c k in record { calls = set-padding on r a (m .calls); exact = m .exact }
+join (set-carrying on r a c) k = let m = join c k in record { calls = set-carrying on r a (m .calls); exact = m .exact }
+join (set-true-count on r a c) k = let m = join c k in record { calls = set-true-count on r a (m .calls); exact = m .exact }
 join {fs′} (write {fs} κs rate out end r a c) k =
     let m = join c k in
-    again (append-assoc (frameIn (r .answer) (now end)) fs fs′) refl (record { calls = write κs rate out end r a (m .calls); padded = λ p. (p .0 .0, m .padded (p .0 .1, p .1)) })
+    again (append-assoc (frameIn (r .answer) (now end)) fs fs′) refl (record { calls = write κs rate out end r a (m .calls); exact = λ p. (p .0 .0, m .exact (p .0 .1, p .1)) })
 
 -- no items behind others
 then-none : (a : Items) → andThen a noItems ≡ a
 then-none a = items-same (andThen a noItems) a (append-nil (a .packets)) (append-nil (a .pairs1)) (append-nil (a .pairs2))
 
 -- any calls go on to drained ones
-pub drainable : {w₀ w : CCDataWriter} {fs : List (List ℕ)} {is : Items} (κs : Lfts 1) → NewWriter w₀ → (c : Calls w₀ fs is w) → Padded c → Drains w₀ w fs is
-drainable {w₀} {fs} {is} κs new c padded =
+pub drainable : {w₀ w : CCDataWriter} {fs : List (List ℕ)} {is : Items} (κs : Lfts 1) → NewWriter w₀ → (c : Calls w₀ fs is w) → Exact c → Drains w₀ w fs is
+drainable {w₀} {fs} {is} κs new c exact =
     let d = draining κs new c in
     let j = rw (then-none is) at (join c (d .calls)) in
-    record { more = d .frames; last = d .last; rest = d .calls; rest-padded = d .padded; whole = j .calls; padded = j .padded (padded, d .padded); drained = d .drained }
+    record { more = d .frames; last = d .last; rest = d .calls; rest-exact = d .exact; whole = j .calls; exact = j .exact (exact, d .exact); drained = d .drained }

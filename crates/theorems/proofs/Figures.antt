@@ -22,7 +22,7 @@ use Rattle.writer.specs.declared.CCDataWriter.{CCDataWriter}
 use Rattle.writer.specs.declared.WriterCount.{WriterCount}
 use Rattle.theorems.specs.Items.{Items, noItems}
 use Rattle.theorems.specs.Allowed.{Lent, Write}
-use Rattle.theorems.specs.Writing.{Calls, no-call, push-packet, push-cea608, set-cea608-padding, set-padding, set-carrying, write, Reached, Stays, Drained}
+use Rattle.theorems.specs.Writing.{Calls, no-call, push-packet, push-cea608, set-cea608-padding, set-padding, set-carrying, set-true-count, write, Reached, Stays, Drained}
 use Rattle.theorems.specs.Bounds.{queueAt, unsentOf, packetTriplesOf, pairsAt, BeginsWith, GivenInTime}
 use Rattle.theorems.proofs.Reached.{holds}
 use Rattle.theorems.proofs.Bounds.{queue-means, pair-leaves, sends-four, write-accepted, writes-drain}
@@ -84,4 +84,5 @@ any-rate speed other (push-cea608 x r a c) s = any-rate speed other c s
 any-rate speed other (set-cea608-padding on r a c) s = any-rate speed other c s
 any-rate speed other (set-padding on r a c) s = any-rate speed other c s
 any-rate speed other (set-carrying on r a c) s = (s .0, any-rate speed other c (s .1))
+any-rate speed other (set-true-count on r a c) s = any-rate speed other c s
 any-rate speed other (write κs rate out end r a c) s = (λ n e on. absurd (false≢true on), any-rate speed other c (s .1))

@@ -9,7 +9,7 @@ use Rattle.model.specs.Said as said
 use Rattle.model.specs.Frame.{Pair}
 use Rattle.model.specs.Demux.{Demux, freshDemux, turn608On}
 use Rattle.model.specs.Mux.{Mux, freshMux}
-use Rattle.model.specs.Run.{Read, Run, run, anyPadding, readFrames, others}
+use Rattle.model.specs.Run.{Read, Run, run, exactCount, readFrames, others}
 use Rattle.model_journey.specs.Bounds.{Field, one, two, acceptedOf, Left}
 use Rattle.model_journey.specs.Bounds as journey
 use Rattle.model_journey.proofs.Turns.{ofField}
@@ -27,7 +27,7 @@ use Rattle.parser.specs.declared.ParserAnswer.{ParserAnswer}
 use Rattle.parser.specs.declared.Item.{Item}
 use Rattle.theorems.specs.Items.{Items}
 use Rattle.theorems.specs.Allowed.{NewWriter, NewParser, HandleCea608}
-use Rattle.theorems.specs.Writing.{Calls, Padded, Stays}
+use Rattle.theorems.specs.Writing.{Calls, Exact, Stays}
 use Rattle.theorems.specs.Reading.{Feeds, NoRefusal}
 use Rattle.theorems.specs.Bounds.{pairsAt, BeginsWith, GivenInTime}
 use Rattle.theorems.proofs.Sequences.{follows, from-fresh}
@@ -71,17 +71,17 @@ framed {s} {g} r d fs e c = subst (λ (x : List (List ℕ)). Carried s g r (read
 -- the pair at place i has left after 2i accepted writes, or 4i with the carrying mode on [J3], and a demultiplexer that was fed every frame before
 -- has given it by then: of what it gives from there on each field's pairs begin with those at the first i places.
 pub pair-given : (mode : Bool) (speed : Framerate) {w₀ w w′ : CCDataWriter} {p₀ p p′ : CCDataParser} {fs₀ fs : List (List ℕ)} {is₀ is given₀ given : Items} {on : ParserAnswer} {answers₀ answers : List Answer} {told₀ told : List Item}
-    → NewWriter w₀ → (before : Calls w₀ fs₀ is₀ w) → Padded before → (behind : Calls w fs is w′) → Padded behind → w .carrying ≡ mode → Stays mode speed behind
+    → NewWriter w₀ → (before : Calls w₀ fs₀ is₀ w) → Exact before → (behind : Calls w fs is w′) → Exact behind → w .carrying ≡ mode → Stays mode speed behind
     → NewParser p₀ → HandleCea608 p₀ on → Feeds (on .parser) fs₀ answers₀ told₀ given₀ p → Feeds p fs answers told given p′
     → NoRefusal fs answers told × ((f : Field) → GivenInTime mode f w fs given)
-pair-given mode speed {w} {p} {fs₀} {fs} {given} new before padded behind padded′ set stay newParser turned read₀ read =
+pair-given mode speed {w} {p} {fs₀} {fs} {given} new before exact behind exact′ set stay newParser turned read₀ read =
     let k = from-fresh new before in
     let o : Read = readFrames fs₀ (turn608On freshDemux) in
-    let t = framed (run (k .calls) freshMux) (turn608On freshDemux) fs₀ (k .frames) (carried (k .calls) freshMux [] (k .allowed anyPadding padded) ready-fresh) in
+    let t = framed (run (k .calls) freshMux) (turn608On freshDemux) fs₀ (k .frames) (carried (k .calls) freshMux [] (k .allowed exactCount exact) ready-fresh) in
     let d = given-fed newParser turned read₀ .1 in
     let m = follows behind (k .sound) in
     let g : List ℕ = o .last .pending in
-    let c = framed (run (m .calls) (means w)) (holding g) fs (m .frames) (carried (m .calls) (means w) g (m .allowed anyPadding padded′) (rw (k .last) at (t .ready))) in
+    let c = framed (run (m .calls) (means w)) (holding g) fs (m .frames) (carried (m .calls) (means w) g (m .allowed exactCount exact′) (rw (k .last) at (t .ready))) in
     let at : parser.means p ≡ holding g = d .means ∙ t .held in
     let e = feeds read (d .sound) in
     let fine = ap (λ (x : Demux). readFrames fs x .answers) at ∙ c .answers ∙ ap (λ (x : List (List ℕ)). replicate (length x) (said.accepted [])) (m .frames) in

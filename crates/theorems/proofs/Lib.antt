@@ -9,6 +9,7 @@ pub mod Frames
 pub mod Sequences
 pub mod Reached
 pub mod Queued
+pub mod Counted
 pub mod Trip
 pub mod Distinct
 pub mod Bounds

@@ -3,13 +3,13 @@ use mathlib.Core.Path.{_≡_, refl, ap, _∙_}
 use mathlib.Core.List.{List, [], _++_}
 use Prim.Native.Nat.{ℕ}
 use denote.Ref.{now}
-use Rattle.model.specs.Mux.{freshMux, paddings, carryingMode}
+use Rattle.model.specs.Mux.{freshMux, paddings, carryingMode, trueCounting}
 use Rattle.writer.specs.Writer.{means, fresh}
 use Rattle.writer.proofs.Kept.{Sound, fresh-sound}
 use Rattle.writer.specs.declared.CCDataWriter.{CCDataWriter}
 use Rattle.theorems.specs.Items.{Items, andThen}
 use Rattle.theorems.specs.Allowed.{NewWriter}
-use Rattle.theorems.specs.Writing.{Calls, no-call, push-packet, push-cea608, set-cea608-padding, set-padding, set-carrying, write, Tested, Stays}
+use Rattle.theorems.specs.Writing.{Calls, no-call, push-packet, push-cea608, set-cea608-padding, set-padding, set-carrying, set-true-count, write, Tested, Stays}
 use Rattle.theorems.specs.Trip.{sendingOf}
 use Rattle.theorems.proofs.Passing.{thereIn}
 use Rattle.theorems.proofs.Following.{Tests, Staying, noTest, noStay, Follows, Moved, moved-sound, follows-none, follow, reask}
@@ -34,6 +34,7 @@ follows {w} (set-padding on r a c) s = then s (switch-moves w r (paddings (w .«
 follows {w} (set-carrying on r a c) s =
     let m = switch-moves w r (carryingMode on) s a in
     reask (λ passes p. (tt, p)) (λ mode speed p. p) (follow m (follows c (moved-sound m s)))
+follows {w} (set-true-count on r a c) s = then s (switch-moves w r (trueCounting on) s a) (λ k. follows c k)
 follows {w} (write κs rate out end r a c) s = let m = write-moves w rate (now end) r s (write-does κs w rate out end r s a) in follow m (follows c (moved-sound m s))
 
 -- a fresh one sends no packet

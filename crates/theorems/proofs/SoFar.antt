@@ -10,7 +10,7 @@ use Rattle.model.specs.Said as said
 use Rattle.model.specs.Packet.{Packet}
 use Rattle.model.specs.Demux.{freshDemux, turn608On}
 use Rattle.model.specs.Mux.{freshMux}
-use Rattle.model.specs.Run.{run, anyPadding, Read, readFrames, others}
+use Rattle.model.specs.Run.{run, exactCount, Read, readFrames, others}
 use Rattle.model.proofs.Cases.{by-test}
 use Rattle.model_journey.specs.Bounds.{one, two}
 use Rattle.model_journey.proofs.Gather as gather
@@ -27,7 +27,7 @@ use Rattle.parser.specs.declared.ParserAnswer.{ParserAnswer}
 use Rattle.parser.specs.declared.Item.{Item}
 use Rattle.theorems.specs.Items.{Items}
 use Rattle.theorems.specs.Allowed.{NewWriter, NewParser, HandleCea608}
-use Rattle.theorems.specs.Writing.{Calls, Padded}
+use Rattle.theorems.specs.Writing.{Calls, Exact}
 use Rattle.theorems.specs.Reading.{Feeds, NoRefusal}
 use Rattle.theorems.specs.Trip.{sendingOf, SoFar}
 use Rattle.theorems.proofs.Passing.{thereIn}
@@ -58,12 +58,12 @@ record Begins (w : CCDataWriter) (frames : List (List ℕ)) (accepted : Items) (
   begins : SoFar w (itemsRead o) accepted
 
 -- whatever was called
-begins-by : {w₀ w : CCDataWriter} {frames : List (List ℕ)} {accepted : Items} → NewWriter w₀ → (c : Calls w₀ frames accepted w) → Padded c
+begins-by : {w₀ w : CCDataWriter} {frames : List (List ℕ)} {accepted : Items} → NewWriter w₀ → (c : Calls w₀ frames accepted w) → Exact c
     → Begins w frames accepted (readFrames frames (turn608On freshDemux))
 unfolding others
-begins-by {w} {frames} {accepted} new c padded =
+begins-by {w} {frames} {accepted} new c exact =
     let f = from-fresh new c in
-    let t = journey.carried (f .calls) freshMux [] (f .allowed anyPadding padded) ready-fresh in
+    let t = journey.carried (f .calls) freshMux [] (f .allowed exactCount exact) ready-fresh in
     let o : Read = readFrames (run (f .calls) freshMux .frames) (turn608On freshDemux) in
     let on : List Packet = gather.underway (o .last .pending) (means w .sending) in
     let one-on : length on ≡ min 1 (length (means w .sending)) = rw (f .last) at (gather.underway-one (t .ready .linked) (t .ready .rested)) in
@@ -81,10 +81,10 @@ begins-by {w} {frames} {accepted} new c padded =
 -- Fed every frame so far and emptied after each, while the multiplexer is still in use, a demultiplexer has refused nothing; and what was accepted
 -- is what it has given, and then what is still there.
 pub so-far : {w₀ w : CCDataWriter} {p₀ p : CCDataParser} {frames : List (List ℕ)} {accepted given : Items} {on : ParserAnswer} {answers : List Answer} {told : List Item}
-    → NewWriter w₀ → (c : Calls w₀ frames accepted w) → Padded c
+    → NewWriter w₀ → (c : Calls w₀ frames accepted w) → Exact c
     → NewParser p₀ → HandleCea608 p₀ on → Feeds (on .parser) frames answers told given p
     → NoRefusal frames answers told × SoFar w given accepted
-so-far new c padded newParser turned read =
-    let t = begins-by new c padded in
+so-far new c exact newParser turned read =
+    let t = begins-by new c exact in
     let d = given-fed newParser turned read .1 in
     (no-refusal d (t .answers), rw (d .items) (t .begins))

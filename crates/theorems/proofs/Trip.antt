@@ -7,7 +7,7 @@ use lib.ListN.{length, replicate}
 use Rattle.model.specs.Said as said
 use Rattle.model.specs.Demux.{quiet, freshDemux, turn608On}
 use Rattle.model.specs.Run as model
-use Rattle.model.specs.Run.{anyPadding, Read, readFrames}
+use Rattle.model.specs.Run.{exactCount, Read, readFrames}
 use Rattle.model_journey.proofs.Trip as journey
 use Rattle.caption.specs.declared.Answer.{Answer}
 use Rattle.caption.specs.declared.Answer.the-variants.{Accepted}
@@ -28,7 +28,7 @@ use Rattle.parser.specs.declared.ParserAnswer.{ParserAnswer}
 use Rattle.parser.specs.declared.Item.{Item}
 use Rattle.theorems.specs.Items.{Items}
 use Rattle.theorems.specs.Allowed.{NewWriter, NewParser, HandleCea608}
-use Rattle.theorems.specs.Writing.{Calls, Padded, Drained}
+use Rattle.theorems.specs.Writing.{Calls, Exact, Drained}
 use Rattle.theorems.specs.Reading.{Feeds}
 use Rattle.theorems.specs.Trip.{RoundTrip}
 use Rattle.theorems.proofs.Following.{items-same}
@@ -80,21 +80,21 @@ pub record Carried (frames : List (List ℕ)) (accepted : Items) (o : Read) : Ty
   pub exactly : itemsRead o ≡ accepted
 
 -- it is what was accepted
-pub carried : {w₀ w : CCDataWriter} {frames : List (List ℕ)} {accepted : Items} → NewWriter w₀ → (c : Calls w₀ frames accepted w) → Padded c → Drained w
+pub carried : {w₀ w : CCDataWriter} {frames : List (List ℕ)} {accepted : Items} → NewWriter w₀ → (c : Calls w₀ frames accepted w) → Exact c → Drained w
     → Carried frames accepted (readFrames frames (turn608On freshDemux))
-carried {w} {frames} {accepted} new c padded empty =
+carried {w} {frames} {accepted} new c exact empty =
     let f = from-fresh new c in
-    let t = journey.round-trip (f .calls) (f .allowed anyPadding padded) (rw (f .last) (drained w (f .sound) empty)) in
+    let t = journey.round-trip (f .calls) (f .allowed exactCount exact) (rw (f .last) (drained w (f .sound) empty)) in
     rw (← f .frames)
     (record { answers = t .answers; exactly = items-same _ accepted (t .packets ∙ f .packets) (t .pairs1 ∙ f .pairs1) (t .pairs2 ∙ f .pairs2) })
 
--- Any calls on a fresh multiplexer, without a flush and with a padding on at each accepted write: once drained, a fresh demultiplexer with 608 on,
--- given every frame and drawn empty after each, has given exactly the items that were accepted, in order, once each [J1].
+-- Any calls on a fresh multiplexer, without a flush and with a padding or the true count on at each accepted write: once drained, a fresh
+-- demultiplexer with 608 on, given every frame and drawn empty after each, has given exactly the items that were accepted, in order, once each [J1].
 pub round-trip : {w₀ w : CCDataWriter} {p₀ p : CCDataParser} {frames : List (List ℕ)} {accepted given : Items} {on : ParserAnswer} {answers : List Answer} {told : List Item}
-    → NewWriter w₀ → (c : Calls w₀ frames accepted w) → Padded c → Drained w
+    → NewWriter w₀ → (c : Calls w₀ frames accepted w) → Exact c → Drained w
     → NewParser p₀ → HandleCea608 p₀ on → Feeds (on .parser) frames answers told given p
     → RoundTrip on frames answers told given accepted
-round-trip new c padded empty newParser turned read =
-    let t = carried new c padded empty in
+round-trip new c exact empty newParser turned read =
+    let t = carried new c exact empty in
     let d = given-fed newParser turned read in
     record { turned-on = d .0; no-refusal = no-refusal (d .1) (t .answers); exactly = d .1 .items ∙ t .exactly }

@@ -17,6 +17,7 @@ use Rattle.writer.proofs.CCDataWriter.push_cea608.Reads as push_cea608
 use Rattle.writer.proofs.CCDataWriter.set_output_cea608_padding.Reads as set_output_cea608_padding
 use Rattle.writer.proofs.CCDataWriter.set_output_padding.Reads as set_output_padding
 use Rattle.writer.proofs.CCDataWriter.set_carrying.Reads as set_carrying
+use Rattle.writer.proofs.CCDataWriter.set_true_count.Reads as set_true_count
 use Rattle.writer.proofs.CCDataWriter.flush.Reads as flush
 use Rattle.writer.proofs.CCDataWriter.write.Reads as write
 use Rattle.parser.specs.declared.CCDataParser.{CCDataParser}
@@ -54,6 +55,10 @@ SetPadding w on r = set_output_padding.Post (tt {0}) (w, (on, tt)) r (w, (on, tt
 -- `w.set_carrying(on)`
 abbrev pub SetCarrying : CCDataWriter → Bool → WriterAnswer → Type 0
 SetCarrying w on r = set_carrying.Post (tt {0}) (w, (on, tt)) r (w, (on, tt))
+
+-- `w.set_true_count(on)`
+abbrev pub SetTrueCount : CCDataWriter → Bool → WriterAnswer → Type 0
+SetTrueCount w on r = set_true_count.Post (tt {0}) (w, (on, tt)) r (w, (on, tt))
 
 -- `w.flush()`
 abbrev pub Flush : CCDataWriter → WriterAnswer → Type 0

@@ -3,5 +3,6 @@ pub mod Allowed
 pub mod Writing
 pub mod Reading
 pub mod Trip
+pub mod Count
 pub mod Bounds
 pub mod Sums

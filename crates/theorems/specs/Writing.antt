@@ -7,7 +7,7 @@ use lib.ListN.{length, take}
 use contract.Lifetimes.{Lfts}
 use denote.Ref.{now}
 use Rattle.model.specs.Mux.{Mux}
-use Rattle.model.specs.Run.{anyPadding}
+use Rattle.model.specs.Run.{exactCount}
 use Rattle.caption.specs.Pairs.{cea608Of}
 use Rattle.caption.specs.declared.Answer.{Answer}
 use Rattle.caption.specs.declared.Answer.the-variants as answer
@@ -23,7 +23,7 @@ use Rattle.writer.specs.declared.CCDataWriter.{CCDataWriter}
 use Rattle.writer.specs.declared.WriterAnswer.{WriterAnswer}
 use Rattle.writer.specs.declared.WriterCount.{WriterCount}
 use Rattle.theorems.specs.Items.{Items, noItems, andThen, ifNonempty, onePair}
-use Rattle.theorems.specs.Allowed.{Lent, NewWriter, PushPacket, PushCea608, SetCea608Padding, SetPadding, SetCarrying, Flush, Write}
+use Rattle.theorems.specs.Allowed.{Lent, NewWriter, PushPacket, PushCea608, SetCea608Padding, SetPadding, SetCarrying, SetTrueCount, Flush, Write}
 
 -- the arrays of a packet have the places that their types give them
 pub record Typed (d : DTVCCPacket) : Type 0 where
@@ -56,6 +56,8 @@ pub data Calls : CCDataWriter → List (List ℕ) → Items → CCDataWriter →
       → Calls (r .writer) fs is w′ → Calls w fs is w′
   set-carrying : {w w′ : CCDataWriter} {fs : List (List ℕ)} {is : Items} (on : Bool) (r : WriterAnswer) → SetCarrying w on r
       → Calls (r .writer) fs is w′ → Calls w fs is w′
+  set-true-count : {w w′ : CCDataWriter} {fs : List (List ℕ)} {is : Items} (on : Bool) (r : WriterAnswer) → SetTrueCount w on r
+      → Calls (r .writer) fs is w′ → Calls w fs is w′
   write : {w w′ : CCDataWriter} {fs : List (List ℕ)} {is : Items} (κs : Lfts 1) (rate : Framerate) (out end : Lent) (r : WriterCount) → Write κs w rate out end r
       → Calls (r .writer) fs is w′ → Calls w (frameIn (r .answer) (now end) ++ fs) is w′
 
@@ -77,14 +79,15 @@ Tested passes (push-cea608 x r a c) = Tested passes c
 Tested passes (set-cea608-padding on r a c) = Tested passes c
 Tested passes (set-padding on r a c) = Tested passes c
 Tested passes (set-carrying on r a c) = Tested passes c
+Tested passes (set-true-count on r a c) = Tested passes c
 Tested passes (write {w} κs rate out end r a c) = TestedAt passes (r .answer) w × Tested passes c
 
--- each finds a padding on [J0]
-abbrev pub Padded : {w w′ : CCDataWriter} {fs : List (List ℕ)} {is : Items} → Calls w fs is w′ → Type 0
-Padded c = Tested anyPadding c
+-- each finds a padding or the true count on [J0]
+abbrev pub Exact : {w w′ : CCDataWriter} {fs : List (List ℕ)} {is : Items} → Calls w fs is w′ → Type 0
+Exact c = Tested exactCount c
 
--- The carrying mode stays on or off: it is set to what it is. With the mode on each accepted write is at one rate; pushes, refused calls and the
--- paddings are free.
+-- The carrying mode stays on or off: it is set to what it is. With the mode on each accepted write is at one rate; pushes, refused calls, the
+-- paddings and the true count are free.
 abbrev pub Stays : Bool → Framerate → {w w′ : CCDataWriter} {fs : List (List ℕ)} {is : Items} → Calls w fs is w′ → Type 0
 Stays mode speed no-call = Unit {0}
 Stays mode speed (push-packet d r t a c) = Stays mode speed c
@@ -92,6 +95,7 @@ Stays mode speed (push-cea608 x r a c) = Stays mode speed c
 Stays mode speed (set-cea608-padding on r a c) = Stays mode speed c
 Stays mode speed (set-padding on r a c) = Stays mode speed c
 Stays mode speed (set-carrying on r a c) = (on ≡ mode) × Stays mode speed c
+Stays mode speed (set-true-count on r a c) = Stays mode speed c
 Stays mode speed (write κs rate out end r a c) = ((n : ℕ) → r .answer ≡ counted.Count n → mode ≡ true → rate ≡ speed) × Stays mode speed c
 
 -- nothing is queued, and every byte of the packet being sent has left
@@ -106,7 +110,7 @@ pub record Drains (w₀ w : CCDataWriter) (fs : List (List ℕ)) (is : Items) : 
   pub more : List (List ℕ)
   pub last : CCDataWriter
   pub rest : Calls w more noItems last
-  pub rest-padded : Padded rest
+  pub rest-exact : Exact rest
   pub whole : Calls w₀ (fs ++ more) is last
-  pub padded : Padded whole
+  pub exact : Exact whole
   pub drained : Drained last

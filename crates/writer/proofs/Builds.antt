@@ -9,18 +9,18 @@ use lib.Seq.{length-take-le}
 use Rattle.model.specs.Frame as model
 use Rattle.model.specs.Frame.{Triple, flat}
 use Rattle.model.specs.Rate.{Budgets, validCarry, Share}
-use Rattle.model.specs.Mux.{Mux, Turned, turned, turnsDue, countDue, Sent, padding, framed, writeFrame, writeShare, validMux, mostQueued}
-use Rattle.model.proofs.Cases.{by-cond}
+use Rattle.model.specs.Mux.{Turned, turned, turnsDue, turnsSending, turnsCounted, countDue, Sent, padding, framed, writeFrame, writeShare, validMux, mostQueued}
 use Rattle.model.proofs.Frames.{flat-length}
-use Rattle.model.proofs.MuxStates.{write-valid, carry-valid}
+use Rattle.model.proofs.MuxStates.{write-valid, carry-valid, turns-most, count-most, count-room}
 use Rattle.caption.specs.declared.Counted.the-variants.{Count}
 use Rattle.writer_frames.specs.Frame.{headed, appended}
 use Rattle.writer_frames.proofs.Stores.{appended-flat}
 use Rattle.writer_frames.specs.declared.Frame.{Frame}
 use Rattle.writer_turns.specs.Turn.{taken, turnsFrom}
 use Rattle.writer_turns.specs.declared.Turns.{Turns}
+use Rattle.writer_queues.specs.Queue.{queueOf}
 use Rattle.writer_queues.proofs.Queues.{queue-length}
-use Rattle.writer_turns.proofs.Steps.{Leaves, leaves1, leaves2, fit}
+use Rattle.writer_turns.proofs.Steps.{fit}
 use Rattle.slots.specs.declared.Slot.{Slot}
 use Rattle.writer_shares.specs.Share.{carryIn}
 use Rattle.writer_sending.specs.Slots.{countOf, filled}
@@ -29,7 +29,8 @@ use Rattle.writer_sending.proofs.Sends.{triples-queued}
 use Rattle.writer_sending.proofs.Fills.{filled-is}
 use Rattle.writer_sending.specs.declared.Sending.{Sending}
 use Rattle.writer.specs.Writer.{means, moved}
-use Rattle.writer_building.specs.Building.{turnsOf, takes, madeOf, built}
+use Rattle.writer_building.specs.Building.{turnsOf, countedOf, takes, madeOf, builtBy, built}
+use Rattle.writer_building.proofs.Sends.{sent-any}
 use Rattle.writer_building.specs.declared.Made.{Made}
 use Rattle.writer.specs.Making.{joined, builtFrom}
 use Rattle.writer.proofs.Valid.{Shaped, Ok, Order}
@@ -46,29 +47,6 @@ pub record Builds (h : Share) (w : CCDataWriter) (m : Made) : Type 0 where
   pub frame : m .frame ≡ laid (writeShare h (means w) .frame)
   pub writer : joined w m ≡ moved w (writeShare h (means w) .next)
   pub few : m .next ≤ w .«packet_count»
-
--- the turns that the model takes
-pub leaves : (n : ℕ) (s : Mux) → Leaves n (s .queue1) (s .queue2) (turned n s)
-unfolding turned
-leaves n s =
-    by-cond (λ (r : Turned). Leaves n (s .queue1) (s .queue2) r) (s .next1)
-    (λ _. leaves1 n (s .pad608) (s .queue1) (s .queue2)) (λ _. leaves2 n (s .pad608) (s .queue1) (s .queue2))
-
--- no more turns than pairs
-turns-most : (pairs : ℕ) (s : Mux) → turnsDue pairs s ≤ pairs
-unfolding turnsDue
-turns-most pairs s = by-cond (λ (n : ℕ). n ≤ pairs) (s .pad608) (λ _. omega arith) (λ _. omega arith)
-
-module _ (b : Budgets) (s : Mux) (within : b .pairs ≤ b .triples) where
-  -- no more than the budget
-  pub count-most : countDue b s ≤ b .triples
-  unfolding countDue
-  count-most = by-cond (λ (n : ℕ). n ≤ b .triples) (s .padOut) (λ _. omega arith) (λ _. omega arith)
-
-  -- room for every turn
-  pub count-least : turnsDue (b .pairs) s ≤ countDue b s
-  unfolding countDue
-  count-least = let m = turns-most (b .pairs) s in by-cond (λ (n : ℕ). turnsDue (b .pairs) s ≤ n) (s .padOut) (λ _. omega arith) (λ _. omega arith)
 
 -- what a frame leaves means what the model leaves, and stays in order
 module _ (w : CCDataWriter) (h : Share) (ok : Ok w) (v : validMux (means w) ≡ true) (c : validCarry (h .carry) ≡ true) where
@@ -111,8 +89,16 @@ module _ (w : CCDataWriter) (h : Share) (ok : Ok w) (within : h .budgets .pairs 
   abbrev slots : List Slot
   slots = take (w .«packet_count») (w .packets)
 
+  -- so are those that are counted
+  counted-are : countedOf (w .«true_count») (w .«output_cea608_padding») (turnsDue (b .pairs) (means w)) (w .«field2_next») (w .field1 .count) (w .field2 .count) ≡ turnsCounted (b .pairs) (means w)
+  unfolding turnsCounted turnsSending turned means
+  counted-are =
+      let n : ℕ = turnsDue (b .pairs) (means w) in
+      let sends = sent-any (w .«output_cea608_padding») n (w .«field2_next») (queueOf (w .field1)) (queueOf (w .field2)) (queue-length (w .field1) (ok .first)) (queue-length (w .field2) (ok .second)) in
+      ap (λ k. cond (w .«true_count») k n) sends
+
   -- and so is the count
-  count-are : countOf (w .«output_padding») (b .triples) (turnsDue (b .pairs) (means w)) slots (w .sending) (w .sent) ≡ countDue b (means w)
+  count-are : countOf (w .«output_padding») (b .triples) (turnsCounted (b .pairs) (means w)) slots (w .sending) (w .sent) ≡ countDue b (means w)
   unfolding countDue means
   count-are = rw (triples-queued slots (ok .slots), left-triples (w .sending) (w .sent) (ok .held), ← left-length (w .sending) (w .sent) (ok .held))
 
@@ -134,7 +120,7 @@ module _ (w : CCDataWriter) (h : Share) (ok : Ok w) (within : h .budgets .pairs 
 
   -- the turns leave room for the count
   few-turns : length (turns .out) ≤ count
-  few-turns = omega (arith, leaves due (means w) .few, count-least b (means w) within)
+  few-turns = count-room b (means w) within
 
   -- no more turns than triples
   turns-few : due ≤ 31
@@ -142,7 +128,7 @@ module _ (w : CCDataWriter) (h : Share) (ok : Ok w) (within : h .budgets .pairs 
 
   -- the count has five bits
   count-few : count ≤ 31
-  count-few = omega (arith, count-most b (means w) within)
+  count-few = omega (arith, count-most b (means w))
 
   -- the queues and a frame when the turns start
   abbrev turnsOn : Frame → Turns
@@ -181,10 +167,10 @@ module _ (w : CCDataWriter) (h : Share) (ok : Ok w) (within : h .budgets .pairs 
 
   -- so the frame and what is left are those of the model's turns and packet triples
   built-are : builtFrom (b .pairs) (b .triples) (carryIn (h .carry)) w ≡ madeOf (taken (turnsOn (headed count)) turns) sent (carryIn (h .carry))
-  unfolding built
+  unfolding built builtBy
   built-are =
       let c : count % 32 ≡ count = omega (arith, count-few) in
-      rw (turns-are, count-are, c, taken-are, sent-are)
+      rw (turns-are, counted-are, count-are, c, taken-are, sent-are)
 
   -- the frame is the model's
   frame-are : sent .frame ≡ laid (writeShare h (means w) .frame)

@@ -14,10 +14,10 @@ use Rattle.model.specs.Frame.{Cea608, field1, field2, Pair, pair, Triple, flat,
 use Rattle.model.specs.Rate.{Budgets, validCarry, Share, shareBy}
 use Rattle.model.specs.Mux.{Mux, Turned, turned, turnsDue, countDue, Sent, send, padding, framed, writeFrame, shareAt, writeShare, writeAt, Switch, withSwitch, withQueues, flushMux, pushPair, pushCea608, mostQueued}
 use Rattle.model.specs.Duration.{pairsDuration, bytesDuration, bytesLeft, field1Duration, field2Duration, packetDuration}
-use Rattle.model.proofs.Cases.{by-test, by-cond, Gives}
+use Rattle.model.proofs.Cases.{by-test, Gives}
 use Rattle.model.proofs.Frames.{flat-length, frame-length}
 use Rattle.model.proofs.Carrying.{Shared}
-use Rattle.model.proofs.MuxStates.{padding-few}
+use Rattle.model.proofs.MuxStates.{padding-few, count-most, count-room}
 use Rattle.caption.specs.Answers.{saidRefusal, saidAnswer}
 use Rattle.caption.specs.declared.Answer.{Answer}
 use Rattle.caption.specs.declared.Answer.the-variants as answer
@@ -44,7 +44,7 @@ use Rattle.writer_sending.proofs.Triples.{left-length, left-triples}
 use Rattle.writer_sending.proofs.Sends.{lengths-queued}
 use Rattle.writer_sending.proofs.Fills.{send-few}
 use Rattle.writer.proofs.Valid.{Shaped, Ok, Order, valid-order, valid-ok, valid-carry, valid-mux, share-within}
-use Rattle.writer.proofs.Builds.{laid, Builds, built-is, leaves, count-most, count-least, means-frame}
+use Rattle.writer.proofs.Builds.{laid, Builds, built-is, means-frame}
 use Rattle.writer.proofs.Stored.{Grows, grows-switch, grows-pair, stored-switch, stored-first, stored-second, means-stored, means-emptied}
 use Rattle.writer.specs.declared.CCDataWriter.{CCDataWriter}
 use Rattle.writer_building.specs.Building.{unmadeOf, shownIn, madeAt}
@@ -201,7 +201,7 @@ few-triples b s h =
     let o : Sent = send (n - length (t .out)) (s .sending) (s .packets) in
     let p : List Triple = padding (s .padOut) (n - length (t .out) - length (o .out)) in
     rw (length-append (t .out) (o .out ++ p), length-append (o .out) p)
-    (omega (arith, leaves (turnsDue (b .pairs) s) s .few, count-least b s h, send-few (n - length (t .out)) (s .sending) (s .packets), padding-few (s .padOut) (n - length (t .out) - length (o .out))))
+    (omega (arith, count-room b s h, send-few (n - length (t .out)) (s .sending) (s .packets), padding-few (s .padOut) (n - length (t .out) - length (o .out))))
 
 -- writing a frame
 module _ (w : CCDataWriter) (rate : Framerate) (out : List ℕ) where
@@ -244,7 +244,7 @@ module _ (w : CCDataWriter) (rate : Framerate) (out : List ℕ) where
 
       -- no more triples than a frame may have
       triples-most : length (writeShare h (means w) .frame .triples) ≤ 31
-      triples-most = omega (arith, few-triples (h .budgets) (means w) (sane .0), count-most (h .budgets) (means w) (sane .0), sane)
+      triples-most = omega (arith, few-triples (h .budgets) (means w) (sane .0), count-most (h .budgets) (means w), sane)
 
       -- an output that is too short
       wrote-short : length out < f .frame .len → Writes rate out w (record { answer = counted.Refused (OutShort (f .frame .len)); writer = w }) out

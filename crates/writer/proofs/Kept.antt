@@ -1,21 +1,17 @@
 -- What a caller may rely on: a fresh state is within the limits with arrays of their lengths, and every call leaves such a state in such a
 -- state. Assumes nothing.
 use mathlib.Core.Path.{_≡_, refl}
-use mathlib.Core.Bool.{Bool, true}
+use mathlib.Core.Bool.{true}
 use Rattle.model.specs.Lists.{every}
 use Rattle.model.specs.Rate.{validCarry, Share}
-use Rattle.model.specs.Mux.{Mux, validMux, withPads, withMode, Switch, paddings, carryingMode, withSwitch, writeShare, flushMux}
-use Rattle.model.proofs.Cases.{both, and-both}
-use Rattle.model.proofs.MuxStates as model
+use Rattle.model.specs.Mux.{Mux, validMux, writeShare, flushMux}
 use Rattle.model.proofs.MuxStates.{fresh-mux, flush-mux}
-use Rattle.writer_shares.specs.Share.{carryOf}
 use Rattle.writer_queues.specs.Queue.{pairBytes, queueOver}
 use Rattle.slots.specs.Row.{validSending}
 use Rattle.writer.specs.Writer.{means, inOrder, validWriter, fresh, stored, emptied, moved}
-use Rattle.writer.specs.Making.{carryAfter, switched}
-use Rattle.writer.proofs.Valid.{Shaped, Ok, Order, order-facts, facts-order, facts-valid, valid-order, valid-ok, valid-mux}
+use Rattle.writer.proofs.Valid.{Shaped, Ok, Order, facts-valid, valid-order, valid-ok, valid-mux}
 use Rattle.writer.proofs.Builds.{next-valid, means-frame, order-frame, shaped-frame}
-use Rattle.writer.proofs.Stored.{Grows, stored-with, stored-switch, means-stored, order-stored, shaped-stored, means-emptied, order-emptied}
+use Rattle.writer.proofs.Stored.{Grows, means-stored, order-stored, shaped-stored, means-emptied, order-emptied}
 use Rattle.writer.proofs.Laws.{means-fresh}
 use Rattle.writer.specs.declared.CCDataWriter.{CCDataWriter}
 
@@ -32,28 +28,6 @@ fresh-sound =
       valid = rw means-fresh fresh-mux;
       shaped = record { packets = refl; first = refl; second = refl };
     }
-
--- the switches of a state within its limits
-module _ (w : CCDataWriter) (v : validWriter w ≡ true) where
-  -- its places are in order, and mean a multiplexer within its limits
-  parts : Order w × (validMux (means w) ≡ true)
-  unfolding validWriter
-  parts = let t = both (inOrder w) (validMux (means w)) v in (order-facts w (t .0), t .1)
-
-  -- where they stand once one is set
-  pub switch-is : (x : Switch) → stored w (withSwitch x (means w)) ≡ switched x w
-  switch-is x = stored-switch w (parts .0) x
-
-  -- it stays within its limits
-  pub switch-valid : (x : Switch) → validWriter (switched x w) ≡ true
-  unfolding validWriter inOrder means
-  switch-valid (paddings a b) = and-both (inOrder w) (validMux (withPads a b (means w))) (facts-order w (parts .0)) (model.switch-valid (paddings a b) (means w) (parts .1))
-  switch-valid (carryingMode on) = and-both (inOrder w) (validMux (withMode on (means w))) (facts-order w (parts .0)) (model.switch-valid (carryingMode on) (means w) (parts .1))
-
-  -- all set, one after another
-  pub switches-are : (a b on : Bool) → stored w (withMode on (withPads a b (means w))) ≡ switched (carryingMode on) (switched (paddings a b) w)
-  unfolding means
-  switches-are a b on = stored-with w (parts .0) a b on (carryOf (carryAfter on w))
 
 -- each call of a state that is sound
 module _ (w : CCDataWriter) (s : Sound w) where

@@ -12,6 +12,7 @@ use Rattle.model.specs.Frame.{frameBytes}
 use Rattle.model.specs.Rate.{Share}
 use Rattle.model.specs.Mux.{freshMux, started, shareAt, writeShare, writeAt}
 use Rattle.model.proofs.Frames.{frame-length}
+use Rattle.model.proofs.MuxStates.{count-most}
 use Rattle.caption.proofs.Answers.{answerOf, refused-again}
 use Rattle.caption.specs.declared.Framerate.{Framerate}
 use Rattle.writer_queues.specs.Queue.{pairsOf, queueOf, pairBytes, queueOver}
@@ -19,7 +20,6 @@ use Rattle.slots.specs.Slot.{writtenBytes}
 use Rattle.writer.specs.Writer.{means, validWriter, fresh}
 use Rattle.writer.specs.Calls.{saidMicros, written}
 use Rattle.writer.proofs.Valid.{share-within}
-use Rattle.writer.proofs.Builds.{count-most}
 use Rattle.writer.proofs.Calls.{few-triples}
 use Rattle.writer.specs.declared.CCDataWriter.{CCDataWriter}
 use Rattle.writer.specs.declared.Micros.{Micros}
@@ -53,4 +53,4 @@ write-given w v rate out {h} e room =
     let b = h .budgets in
     let within : b .pairs ≤ b .triples = omega (arith, s .apart) in
     let n = frame-length (writeShare h (means w) .frame) in
-    rw (v, e, le-ltb (length out) (length (frameBytes (writeShare h (means w) .frame))) (omega (arith, n, few-triples b (means w) within, count-most b (means w) within, s .most)))
+    rw (v, e, le-ltb (length out) (length (frameBytes (writeShare h (means w) .frame))) (omega (arith, n, few-triples b (means w) within, count-most b (means w), s .most)))

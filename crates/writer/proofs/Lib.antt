@@ -6,4 +6,5 @@ pub mod Stored
 pub mod Calls
 pub mod Packs
 pub mod Laws
+pub mod Switches
 pub mod Kept

@@ -13,7 +13,7 @@ use Rattle.model.specs.Said.{gave, refused, mapped}
 use Rattle.model.specs.Packet.{Packet, packetLength, writtenPacket, validPacket}
 use Rattle.model.specs.Frame.{Pair, Cea608, field1, field2}
 use Rattle.model.specs.Rate.{Carry}
-use Rattle.model.specs.Mux.{Mux, withPads, withCarry, Switch, paddings, carryingMode, withSwitch, withQueues, withPackets, flushMux, storable, validMux, queued, pushPacket, pushPair, pushCea608, mostPackets, started}
+use Rattle.model.specs.Mux.{Mux, withPads, withCarry, withTrueCount, Switch, paddings, carryingMode, trueCounting, withSwitch, withQueues, withPackets, flushMux, storable, validMux, queued, pushPacket, pushPair, pushCea608, mostPackets, started}
 use Rattle.model.proofs.Cases.{by-test, both, and-both, Gives}
 use Rattle.model.proofs.Lists.{every-append}
 use Rattle.model.proofs.Packets.{Valid, valid-facts, Shape, shape}
@@ -46,6 +46,7 @@ module _ (s : Mux) (v : validMux s ≡ true) where
   pub grows-switch : (x : Switch) → Grows s (withSwitch x s)
   grows-switch (paddings a b) = record { more = []; packets = sym (append-nil (s .packets)); sending = refl; valid = switch-valid (paddings a b) s v }
   grows-switch (carryingMode on) = record { more = []; packets = sym (append-nil (s .packets)); sending = refl; valid = switch-valid (carryingMode on) s v }
+  grows-switch (trueCounting on) = record { more = []; packets = sym (append-nil (s .packets)); sending = refl; valid = switch-valid (trueCounting on) s v }
 
   -- a pair
   pub grows-pair : (y : Cea608) → Gives (Grows s) (pushCea608 y s)
@@ -142,17 +143,18 @@ module _ (w : CCDataWriter) (o : Order w) where
   stored-self =
       rw (same-slots, packets-length, over-same (w .field1) (o .first), over-same (w .field2) (o .second), not-not (w .«field2_next»))
 
-  -- with other paddings, another mode and other parts
-  pub stored-with : (a b on : Bool) (c : Carry) → stored w (withCarry on c (withPads a b (means w))) ≡ withSwitches a b on (carryIn c) w
+  -- with other switches and other parts
+  pub stored-with : (a b t on : Bool) (c : Carry) → stored w (withCarry on c (withTrueCount t (withPads a b (means w)))) ≡ withSwitches a b t on (carryIn c) w
   unfolding means
-  stored-with a b on c =
+  stored-with a b t on c =
       rw (same-slots, packets-length, over-same (w .field1) (o .first), over-same (w .field2) (o .second), not-not (w .«field2_next»))
 
   -- with a switch set
   pub stored-switch : (x : Switch) → stored w (withSwitch x (means w)) ≡ switched x w
   unfolding means
-  stored-switch (paddings a b) = stored-with a b (w .carrying) (carryOf (w .carry))
-  stored-switch (carryingMode on) = stored-with (w .«output_cea608_padding») (w .«output_padding») on (carryOf (carryAfter on w))
+  stored-switch (paddings a b) = stored-with a b (w .«true_count») (w .carrying) (carryOf (w .carry))
+  stored-switch (carryingMode on) = stored-with (w .«output_cea608_padding») (w .«output_padding») (w .«true_count») on (carryOf (carryAfter on w))
+  stored-switch (trueCounting on) = stored-with (w .«output_cea608_padding») (w .«output_padding») on (w .carrying) (carryOf (w .carry))
 
   -- with another queue of field 1
   pub stored-first : (q : List Pair) → stored w (withQueues q (queueOf (w .field2)) (means w)) ≡ withFields (queueOver (w .field1) q) (w .field2) w

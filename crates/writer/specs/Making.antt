@@ -7,7 +7,7 @@ use lib.ListN.{length, take, drop, set}
 use lib.Seq.{sets}
 use Rattle.model.specs.Said.{Outcome, checked}
 use Rattle.model.specs.Rate.{noCarry}
-use Rattle.model.specs.Mux.{Mux, Switch, paddings, carryingMode, pushPacket, pushCea608}
+use Rattle.model.specs.Mux.{Mux, Switch, paddings, carryingMode, trueCounting, pushPacket, pushCea608}
 use Rattle.caption.specs.Pairs.{cea608Of}
 use Rattle.caption.specs.declared.Cea608.{Cea608}
 use Rattle.caption.specs.declared.Framerate.{Framerate}
@@ -41,6 +41,7 @@ joined w m =
       «output_padding» = w .«output_padding»;
       carrying = w .carrying;
       carry = m .carry;
+      «true_count» = w .«true_count»;
       «packet_count» = w .«packet_count» - m .next;
       packets = sets (w .packets) 0 (drop (m .next) (take (w .«packet_count») (w .packets)));
       sending = m .slot;
@@ -56,6 +57,7 @@ sourceOf w =
     record {
       pad = w .«output_cea608_padding»;
       padding = w .«output_padding»;
+      «true_count» = w .«true_count»;
       carry = w .carry;
       field1 = w .field1;
       field2 = w .field2;
@@ -69,9 +71,9 @@ sourceOf w =
 abbrev pub builtFrom : ℕ → ℕ → Carry → CCDataWriter → Made
 builtFrom pairs triples carry w = built pairs triples carry (w .packets) (sourceOf w)
 
--- with the paddings and the mode set, and parts carried
-abbrev pub withSwitches : Bool → Bool → Bool → Carry → CCDataWriter → CCDataWriter
-withSwitches a b on c w =
+-- with the paddings, the true count and the mode set, and parts carried
+abbrev pub withSwitches : Bool → Bool → Bool → Bool → Carry → CCDataWriter → CCDataWriter
+withSwitches a b t on c w =
     record {
       «output_cea608_padding» = a;
       «output_padding» = b;
@@ -82,6 +84,7 @@ withSwitches a b on c w =
       field1 = w .field1;
       field2 = w .field2;
       «field2_next» = w .«field2_next»;
+      «true_count» = t;
       carrying = on;
       carry = c;
     }
@@ -90,10 +93,11 @@ withSwitches a b on c w =
 abbrev pub carryAfter : Bool → CCDataWriter → Carry
 carryAfter on w = carryIn (cond (on && w .carrying) (carryOf (w .carry)) noCarry)
 
--- with a switch set [W12] [W15]
+-- with a switch set [W12] [W15] [W17]
 abbrev pub switched : Switch → CCDataWriter → CCDataWriter
-switched (paddings a b) w = withSwitches a b (w .carrying) (w .carry) w
-switched (carryingMode on) w = withSwitches (w .«output_cea608_padding») (w .«output_padding») on (carryAfter on w) w
+switched (paddings a b) w = withSwitches a b (w .«true_count») (w .carrying) (w .carry) w
+switched (carryingMode on) w = withSwitches (w .«output_cea608_padding») (w .«output_padding») (w .«true_count») on (carryAfter on w) w
+switched (trueCounting on) w = withSwitches (w .«output_cea608_padding») (w .«output_padding») on (w .carrying) (w .carry) w
 
 -- the two queues of pairs
 abbrev pub withFields : PairQueue → PairQueue → CCDataWriter → CCDataWriter
@@ -103,6 +107,7 @@ withFields p q w =
       «output_padding» = w .«output_padding»;
       carrying = w .carrying;
       carry = w .carry;
+      «true_count» = w .«true_count»;
       «packet_count» = w .«packet_count»;
       packets = w .packets;
       sending = w .sending;
@@ -120,6 +125,7 @@ withPackets n l w =
       «output_padding» = w .«output_padding»;
       carrying = w .carrying;
       carry = w .carry;
+      «true_count» = w .«true_count»;
       «packet_count» = n;
       packets = l;
       sending = w .sending;
@@ -137,6 +143,7 @@ flushed w =
       «output_padding» = w .«output_padding»;
       carrying = w .carrying;
       carry = carryIn noCarry;
+      «true_count» = w .«true_count»;
       «packet_count» = 0;
       packets = w .packets;
       sending = record { len = 0; bytes = w .sending .bytes };

@@ -18,7 +18,7 @@ use writer_storing::place;
 ghost use mathlib.Core.Path.{_≡_};
 ghost use mathlib.Core.Bool.{cond, _&&_};
 ghost use Rattle.model.specs.Said.{gave, measured, checked};
-ghost use Rattle.model.specs.Mux.{freshMux, withPads, withMode, flushMux, pushPacket, pushCea608};
+ghost use Rattle.model.specs.Mux.{freshMux, withPads, withMode, withTrueCount, flushMux, pushPacket, pushCea608};
 ghost use Rattle.model.specs.Duration.{field1Duration, field2Duration, packetDuration};
 ghost use Rattle.caption.specs.Answers.{saidTruth};
 ghost use Rattle.caption.specs.Pairs.{cea608Of};
@@ -28,7 +28,7 @@ ghost use Rattle.writer.specs.Calls.{saidMicros, Answers, Writes};
 ghost use Rattle.writer.specs.Making.{refusedOf, sourceOf, carryAfter, withFields, pairOutcome};
 
 // The multiplexer: the two paddings, the queue of packets, the packet being sent and how many of its bytes have left, each field's queue, whether
-// field 2 has the next turn, and the carrying mode with the carried parts.
+// field 2 has the next turn, the true count, and the carrying mode with the carried parts.
 pub struct CCDataWriter {
     pub output_cea608_padding: bool,
     pub output_padding: bool,
@@ -39,6 +39,7 @@ pub struct CCDataWriter {
     pub field1: PairQueue,
     pub field2: PairQueue,
     pub field2_next: bool,
+    pub true_count: bool,
     pub carrying: bool,
     pub carry: Carry,
 }
@@ -69,7 +70,7 @@ struct Pushed {
 }
 
 impl CCDataWriter {
-    // A multiplexer with nothing queued, and every switch off [W4] [W12] [W15].
+    // A multiplexer with nothing queued, and every switch off [W4] [W12] [W15] [W17].
     pub fn new() -> CCDataWriter
         ensures { λ r. ⌜ (means r ≡ freshMux) × (r ≡ fresh) ⌝ }
     {
@@ -91,6 +92,7 @@ impl CCDataWriter {
             field1: queue,
             field2: queue,
             field2_next: false,
+            true_count: false,
             carrying: false,
             carry: Carry::NONE,
         }
@@ -190,6 +192,31 @@ impl CCDataWriter {
     {
         if self.is_valid() {
             return Truth::Is(self.carrying);
+        }
+        Truth::Refused(Refusal::BadValue)
+    }
+
+    // Whether the count of a frame leaves out the turns that will send nothing, so that it is the number of triples that follow [W17].
+    pub fn set_true_count(self, true_count: bool) -> WriterAnswer
+        ensures { λ r. ⌜ Answers (checked (validWriter self) (gave (withTrueCount «true_count» (means self)))) (stored self) self r ⌝ }
+    {
+        if self.is_valid() {
+            let mut writer = self;
+            writer.true_count = true_count;
+            return WriterAnswer {
+                answer: Answer::Accepted,
+                writer,
+            };
+        }
+        self.refused()
+    }
+
+    // Whether it does [W17].
+    pub fn true_count(self) -> Truth
+        ensures { λ r. ⌜ saidTruth r ≡ measured (validWriter self) (cond (self .«true_count») 1 0) ⌝ }
+    {
+        if self.is_valid() {
+            return Truth::Is(self.true_count);
         }
         Truth::Refused(Refusal::BadValue)
     }
@@ -312,6 +339,7 @@ impl CCDataWriter {
             field1,
             field2,
             field2_next: made.field2_next,
+            true_count: self.true_count,
             carrying: self.carrying,
             carry,
         };
@@ -393,6 +421,7 @@ impl CCDataWriter {
                 field1,
                 field2,
                 field2_next: self.field2_next,
+                true_count: self.true_count,
                 carrying: self.carrying,
                 carry,
             },
@@ -420,6 +449,7 @@ impl CCDataWriter {
         Source {
             pad: self.output_cea608_padding,
             padding: self.output_padding,
+            true_count: self.true_count,
             carry,
             field1,
             field2,

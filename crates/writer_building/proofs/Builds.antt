@@ -15,18 +15,24 @@ use Rattle.writer_turns.specs.declared.Turns.{Turns}
 use Rattle.slots.specs.declared.Slot.{Slot}
 use Rattle.writer_sending.specs.Slots.{countOf, filled}
 use Rattle.writer_sending.specs.declared.Sending.{Sending}
-use Rattle.writer_building.specs.Building.{turnsOf, takes, madeOf, built, unmadeOf, madeAt}
+use Rattle.writer_building.specs.Building.{turnsOf, countedOf, takes, madeOf, builtBy, built, unmadeOf, madeAt}
 use Rattle.writer_building.specs.declared.Source.{Source}
 use Rattle.writer_building.specs.declared.Made.{Made}
 
-module _ (pairs triples : ℕ) (k : Carry) (l : List Slot) (s : Source) where
+module _ (n counted triples : ℕ) (k : Carry) (l : List Slot) (s : Source) (m : Made) where
   -- each gives what it says, and so do all together
-  pub built-by : (n c : ℕ) (h : Frame) (t : Turns) (o : Sending) (m : Made) → n ≡ turnsOf (s .pad) pairs (s .field1 .count) (s .field2 .count)
-      → c ≡ countOf (s .padding) triples n (take (s .queued) l) (s .slot) (s .sent) → h ≡ headed (c % 32)
+  pub built-by : (c : ℕ) (h : Frame) (t : Turns) (o : Sending) → c ≡ countOf (s .padding) triples counted (take (s .queued) l) (s .slot) (s .sent) → h ≡ headed (c % 32)
       → t ≡ takes n (s .pad) (record { field1 = s .field1; field2 = s .field2; «field2_next» = s .«field2_next»; frame = h })
-      → o ≡ filled (take (s .queued) l) (s .slot) (s .sent) (t .frame) c (s .padding) → m ≡ madeOf t o k → m ≡ built pairs triples k l s
+      → o ≡ filled (take (s .queued) l) (s .slot) (s .sent) (t .frame) c (s .padding) → m ≡ madeOf t o k → m ≡ builtBy n counted triples k l s
+  unfolding builtBy
+  built-by c h t o counts heads takes fills made = rw (made, fills, takes, heads, counts)
+
+  -- at the budgets that give these turns
+  pub built-at : (pairs : ℕ) → n ≡ turnsOf (s .pad) pairs (s .field1 .count) (s .field2 .count)
+      → counted ≡ countedOf (s .«true_count») (s .pad) n (s .«field2_next») (s .field1 .count) (s .field2 .count) → m ≡ builtBy n counted triples k l s
+      → m ≡ built pairs triples k l s
   unfolding built
-  built-by n c h t o m turns counts heads takes fills made = rw (made, fills, takes, heads, counts, turns)
+  built-at pairs turns counts made = rw (made, counts, turns)
 
 module _ (room : ℕ) (l : List Slot) (s : Source) (h : Share) where
   -- there is no share

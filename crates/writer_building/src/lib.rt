@@ -1,4 +1,4 @@
-// A frame put together: the turns of the two fields, the packet triples and the padding, and what they leave.
+// A frame put together: the turns of the two fields, packet triples and padding; and what they leave.
 use basics::MOST_QUEUED;
 use basics::lesser;
 use caption::Counted;
@@ -13,16 +13,17 @@ use writer_shares::Carry;
 use writer_shares::Share;
 use writer_turns::Turns;
 ghost use mathlib.Core.Path.{_≡_};
-ghost use mathlib.Core.Bool.{cond};
+ghost use mathlib.Core.Bool.{cond, false};
 ghost use Prim.Native.Nat.{max};
 ghost use Rattle.caption.specs.declared.Refusal.the-variants.{BadValue};
-ghost use Rattle.writer_building.specs.Building.{turnsOf, madeOf, built, unmadeOf, madeAt};
+ghost use Rattle.writer_building.specs.Building.{turnsOf, sentOf, countedOf, madeOf, builtBy, unmadeOf, madeAt};
 
-// What a frame is made of beside the slots: the two paddings, the carried parts, the queues of pairs and whose turn is next, how many packets wait,
-// and the packet being sent with how many of its bytes have left.
+// What a frame is made of beside the slots: the two paddings, the true count, the carried parts, the queues of pairs and whose turn is next, how many
+// packets wait, and the packet being sent with how many of its bytes have left.
 pub struct Source {
     pub pad: bool,
     pub padding: bool,
+    pub true_count: bool,
     pub carry: Carry,
     pub field1: PairQueue,
     pub field2: PairQueue,
@@ -63,6 +64,40 @@ fn turns_of(pad: bool, pairs: usize, n1: usize, n2: usize) -> usize
     lesser(pairs, greater(n1, 2 * lesser(n2, MOST_QUEUED)))
 }
 
+// The turns that will send, of so many without 608 padding: those that find a pair. A turn of field 2 finds one of its own; a turn of field 1 finds
+// one of its own, or one that field 2 still has.
+fn sending_of(turns: usize, field2_next: bool, n1: usize, n2: usize) -> usize
+    ensures { λ r. ⌜ r ≡ sentOf false turns «field2_next» n1 n2 ⌝ }
+{
+    let second = turns / 2;
+    let first = turns - second;
+    if field2_next {
+        let left = n2 - lesser(n2, 1);
+        return lesser(first, n2) + lesser(second, greater(n1, left));
+    }
+    lesser(first, greater(n1, n2)) + lesser(second, n2)
+}
+
+// The turns that the count counts: all, or with the true count those that will send.
+fn counted_of(
+    true_count: bool,
+    pad: bool,
+    turns: usize,
+    field2_next: bool,
+    n1: usize,
+    n2: usize,
+) -> usize
+    ensures { λ r. ⌜ r ≡ countedOf «true_count» pad turns «field2_next» n1 n2 ⌝ }
+{
+    if true_count {
+        if pad {
+            return turns;
+        }
+        return sending_of(turns, field2_next, n1, n2);
+    }
+    turns
+}
+
 // The frame after its turns and its packet triples, and what they leave.
 fn made_of(t: Turns, s: Sending, carry: Carry) -> Made
     ensures { λ r. ⌜ r ≡ madeOf t s carry ⌝ }
@@ -85,18 +120,25 @@ fn made_of(t: Turns, s: Sending, carry: Carry) -> Made
 }
 
 impl Source {
-    // The frame at budgets of `pairs` and `triples`, and what it leaves.
-    fn build(self, packets: [Slot; 16], pairs: usize, triples: usize, carry: Carry) -> Made
-        ensures { λ r. ⌜ r ≡ built pairs triples carry packets self ⌝ }
+    // The frame with so many turns, of which the count counts `counted`, and what it leaves.
+    fn build(
+        self,
+        packets: [Slot; 16],
+        turns: usize,
+        counted: usize,
+        triples: usize,
+        carry: Carry,
+    ) -> Made
+        ensures { λ r. ⌜ r ≡ builtBy turns counted triples carry packets self ⌝ }
     {
         let field1 = self.field1;
         let field2 = self.field2;
         let slot = self.slot;
-        let turns = turns_of(self.pad, pairs, field1.count, field2.count);
+        let padding = self.padding;
         let count = count_of(
-            self.padding,
+            padding,
             triples,
-            turns,
+            counted,
             packets,
             self.queued,
             slot,
@@ -111,15 +153,7 @@ impl Source {
         };
         let t = start.take(self.pad, turns);
         let frame = t.frame;
-        let s = fill(
-            packets,
-            self.queued,
-            slot,
-            self.sent,
-            frame,
-            count,
-            self.padding,
-        );
+        let s = fill(packets, self.queued, slot, self.sent, frame, count, padding);
         made_of(t, s, carry)
     }
 
@@ -158,7 +192,18 @@ impl Source {
                     triples,
                     carry,
                 } => {
-                    let made = self.build(packets, pairs, triples, carry);
+                    let field1 = self.field1;
+                    let field2 = self.field2;
+                    let turns = turns_of(self.pad, pairs, field1.count, field2.count);
+                    let counted = counted_of(
+                        self.true_count,
+                        self.pad,
+                        turns,
+                        self.field2_next,
+                        field1.count,
+                        field2.count,
+                    );
+                    let made = self.build(packets, turns, counted, triples, carry);
                     let frame = made.frame;
                     let needed = frame.len;
                     if room < needed {

@@ -16,6 +16,9 @@ set-output-padding-requires c κs = search needs
 set-carrying-requires : tie.Need-set-carrying-requires
 set-carrying-requires c κs = search needs
 
+set-true-count-requires : tie.Need-set-true-count-requires
+set-true-count-requires c κs = search needs
+
 told-writer-requires : tie.Need-told-writer-requires
 told-writer-requires c κs = search needs
 
@@ -23,15 +26,16 @@ same-length : tie.Need-same-length
 same-length c = search needs
 
 returns : tie.Need-returns
-returns c = let third = c .before .before .before in
-    let second = third .before .before .before in
+returns c = let fourth = c .before .before .before in
+    let third = fourth .before .before .before in
+    let second = third .before .before in
     let first = second .before .before in
     let byte = first .before in
     let w = byte .before .before .before .args .before in
     rw (← byte .byte-at .ensures)
     (record {
-      did = did-switch _ _ _ w _ _ _ (first .set-output-cea608-padding .ensures) (second .set-output-padding .ensures) (third .set-carrying .ensures) _ (c .before .before .told-writer .ensures .did);
-      says = search needs;
+      did = did-switch _ _ _ _ w _ _ _ _ (first .set-output-cea608-padding .ensures) (second .set-output-padding .ensures) (third .set-carrying .ensures) (fourth .set-true-count .ensures) _ (c .before .before .told-writer .ensures .did);
+      says = c .before .before .told-writer .ensures .says;
     })
 
 pub switch-spec : {M : Type 1} → statement M
@@ -42,6 +46,7 @@ switch-spec =
     set-output-cea608-padding-requires
     set-output-padding-requires
     set-carrying-requires
+    set-true-count-requires
     told-writer-requires
     same-length
     returns)

@@ -19,7 +19,7 @@ returns : tie.Need-returns
 returns c = let s = c .before .before .before in
     let h = shaped (s .args .self) (s .good .0, tt) in
     switch-set (s .args .self) h (c .before .before .is-valid .ensures) (c .before .if1 .taken) (carryingMode (s .args .carrying)) _
-    (ap (λ (k : Carry). withSwitches (s .args .self .«output_cea608_padding») (s .args .self .«output_padding») (s .args .carrying) k (s .args .self)) (c .carry-in .ensures))
+    (ap (λ (k : Carry). withSwitches (s .args .self .«output_cea608_padding») (s .args .self .«output_padding») (s .args .self .«true_count») (s .args .carrying) k (s .args .self)) (c .carry-in .ensures))
 
 refused-requires : tie.Need-refused-requires
 refused-requires c κs = search needs

@@ -4,9 +4,6 @@ use borrow.Author.Needs.{needs}
 use Rattle.writer_building.proofs.Source.build.Statement.{statement}
 use Rattle.writer_building.proofs.Source.build.Tie as tie
 
-turns-of-requires : tie.Need-turns-of-requires
-turns-of-requires c κs = search needs
-
 count-of-requires : tie.Need-count-of-requires
 count-of-requires c κs = search needs
 
@@ -24,14 +21,12 @@ made-of-requires c κs = search needs
 
 returns : tie.Need-returns
 returns c = let t = c .before .before .before in
-    let n = t .before .before in
-    built-by _ _ _ _ _ _ _ _ _ _ _ (n .before .turns-of .ensures) (n .count-of .ensures) (t .before .start .ensures) (t .take .ensures) (c .before .fill .ensures) (c .made-of .ensures)
+    built-by _ _ _ _ _ _ _ _ _ _ _ (t .before .before .count-of .ensures) (t .before .start .ensures) (t .take .ensures) (c .before .fill .ensures) (c .made-of .ensures)
 
 pub build-spec : {M : Type 1} → statement M
 build-spec =
     tie.close
     (tie.spec
-    turns-of-requires
     count-of-requires
     start-requires
     take-requires
