@@ -476,12 +476,15 @@ def carrying_records():
             yield [("S", 1, 1, 1), ("w", 24, 1, 95), ("raw", [letter] + [R.choice([0, 7])] * n), ("u",), ("w", 24, 1, 95)]
 
 def counting(several):
-    """Scripts with the true count on from the start and from each fresh multiplexer on, and mostly on where the switches are set."""
-    def on(): return ("S", bit(), bit(), 0, 1)
+    """Scripts with the true count on from the start and from each fresh multiplexer on, and mostly on where the switches are set; both paddings
+    are off in half of these places."""
+    def pads(a, b): return (0, 0) if bit() else (a, b)
+    def on(): return ("S", *pads(bit(), bit()), 0, 1)
+    def set_again(a, b, mode=0): return ("S", *pads(a, b), mode, bit(.8))
     for script in several:
         s = [on()]
         for op in script:
-            s.append((*op, *[0] * (4 - len(op)), bit(.8)) if op[0] == "S" else op)
+            s.append(set_again(*op[1:]) if op[0] == "S" else op)
             if op[0] == "W": s.append(on())
         yield s
 
@@ -498,7 +501,7 @@ def exact(count):
             elif r < .55: s.append(("S", *R.choice(settings)))
             elif r < .6: rate = R.choice(CARRIED)
             else: s.append(("w", *rate, 95))
-        yield s
+        yield s + [("w", *rate, 95)]
 
 def read_whole(frames):
     """Frames given to a demultiplexer, which is emptied after each."""

@@ -77,10 +77,10 @@ fn main() {
     let mut frame = [0u8; 95];
     let n = bytes_of(write_one(&mut frame));
     tell(read_one(&frame, n));
-    io::write_all(STDOUT_FILENO, b"two pairs before it, the count one above: ");
-    let counted = bytes_of(write_pairs(&mut frame, false));
-    tell(read_one(&frame, counted));
-    io::write_all(STDOUT_FILENO, b"the same with the true count: ");
-    let exact = bytes_of(write_pairs(&mut frame, true));
-    tell(read_one(&frame, exact));
+    io::write_all(STDOUT_FILENO, b"behind two pairs: ");
+    let first = bytes_of(write_pairs(&mut frame, false));
+    tell(read_one(&frame, first));
+    io::write_all(STDOUT_FILENO, b"behind two pairs, with the true count: ");
+    let second = bytes_of(write_pairs(&mut frame, true));
+    tell(read_one(&frame, second));
 }

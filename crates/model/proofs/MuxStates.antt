@@ -11,7 +11,7 @@ use Rattle.model.specs.Lists.{every}
 use Rattle.model.specs.Packet.{Packet, validPacket}
 use Rattle.model.specs.Frame.{Triple, Pair, pair, Cea608, field1, field2, frameBytes, mostFrame}
 use Rattle.model.specs.Rate.{Budgets, Carry, noCarry, validCarry}
-use Rattle.model.specs.Mux.{Mux, freshMux, withPads, withCarry, withMode, withTrueCount, Switch, paddings, carryingMode, trueCounting, withSwitch, flushMux, storable, validMux, queued, pushPacket, isNull, pushPair, pushCea608, Turned, turnsDue, turn1, turn2, turned, packetTriples, triplesQueued, unsent, turnsSending, turnsCounted, countDue, Sent, send, padding, framed, writeFrame}
+use Rattle.model.specs.Mux.{Mux, freshMux, withSwitches, withCarry, withMode, Switch, paddings, carryingMode, trueCounting, withSwitch, flushMux, storable, validMux, queued, pushPacket, isNull, pushPair, pushCea608, Turned, turnsDue, turn1, turn2, turned, packetTriples, triplesQueued, unsent, turnsSending, turnsCounted, countDue, Sent, send, padding, framed, writeFrame}
 use Rattle.model.specs.Run.{Accepted}
 use Rattle.model.proofs.Cases.{by-cond, both, and-both, Gives, gives-mapped}
 use Rattle.model.proofs.Lists.{every-append}
@@ -57,38 +57,30 @@ pub fresh-mux : validMux freshMux ≡ true
 unfolding validMux validCarry every
 fresh-mux = refl
 
--- the switches keep it there
-pub pads-valid : (a b : Bool) (s : Mux) → validMux s ≡ true → validMux (withPads a b s) ≡ true
-pads-valid a b s e =
+-- the switches keep it there, and so do parts within their limits
+switches-valid : (a b t on : Bool) (c : Carry) (s : Mux) → validMux s ≡ true → validCarry c ≡ true → validMux (withSwitches a b t on c s) ≡ true
+switches-valid a b t on c s e v =
     let f = mux-facts s e in
-    facts-mux (withPads a b s) (record { packets = f .packets; stored = f .stored; sending = f .sending; queue1 = f .queue1; queue2 = f .queue2; carry = f .carry })
-
--- so does the true count
-true-valid : (on : Bool) (s : Mux) → validMux s ≡ true → validMux (withTrueCount on s) ≡ true
-true-valid on s e =
-    let f = mux-facts s e in
-    facts-mux (withTrueCount on s) (record { packets = f .packets; stored = f .stored; sending = f .sending; queue1 = f .queue1; queue2 = f .queue2; carry = f .carry })
+    facts-mux (withSwitches a b t on c s) (record { packets = f .packets; stored = f .stored; sending = f .sending; queue1 = f .queue1; queue2 = f .queue2; carry = v })
 
 -- parts that are 0 are within their limits
 none-valid : validCarry noCarry ≡ true
 unfolding validCarry
 none-valid = refl
 
--- other parts within their limits keep it there
+-- the mode with other parts
 pub carry-valid : (on : Bool) (c : Carry) (s : Mux) → validMux s ≡ true → validCarry c ≡ true → validMux (withCarry on c s) ≡ true
-carry-valid on c s e v =
-    let f = mux-facts s e in
-    facts-mux (withCarry on c s) (record { packets = f .packets; stored = f .stored; sending = f .sending; queue1 = f .queue1; queue2 = f .queue2; carry = v })
+carry-valid on c s e v = switches-valid (s .pad608) (s .padOut) (s .trueCount) on c s e v
 
--- so does the mode
+-- and by itself
 mode-valid : (on : Bool) (s : Mux) → validMux s ≡ true → validMux (withMode on s) ≡ true
 mode-valid on s e = carry-valid on _ s e (by-cond (λ (c : Carry). validCarry c ≡ true) (on && s .carrying) (λ _. mux-facts s e .carry) (λ _. none-valid))
 
 -- whatever is set
 pub switch-valid : (x : Switch) (s : Mux) → validMux s ≡ true → validMux (withSwitch x s) ≡ true
-switch-valid (paddings a b) s e = pads-valid a b s e
+switch-valid (paddings a b) s e = switches-valid a b (s .trueCount) (s .carrying) (s .carry) s e (mux-facts s e .carry)
 switch-valid (carryingMode on) s e = mode-valid on s e
-switch-valid (trueCounting on) s e = true-valid on s e
+switch-valid (trueCounting t) s e = switches-valid (s .pad608) (s .padOut) t (s .carrying) (s .carry) s e (mux-facts s e .carry)
 
 -- and flush
 pub flush-mux : (s : Mux) → validMux (flushMux s) ≡ true

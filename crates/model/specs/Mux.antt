@@ -29,15 +29,15 @@ abbrev pub freshMux : Mux
 freshMux =
     record { pad608 = false; padOut = false; carrying = false; carry = noCarry; trueCount = false; packets = []; sending = []; queue1 = []; queue2 = []; next1 = true }
 
--- the multiplexer with its padding switches set [W12]
-abbrev pub withPads : Bool → Bool → Mux → Mux
-withPads a b s =
+-- the multiplexer with its switches set, the paddings, the true count and the mode, and parts carried
+abbrev pub withSwitches : Bool → Bool → Bool → Bool → Carry → Mux → Mux
+withSwitches a b t on c s =
     record {
       pad608 = a;
       padOut = b;
-      carrying = s .carrying;
-      carry = s .carry;
-      trueCount = s .trueCount;
+      carrying = on;
+      carry = c;
+      trueCount = t;
       packets = s .packets;
       sending = s .sending;
       queue1 = s .queue1;
@@ -45,41 +45,21 @@ withPads a b s =
       next1 = s .next1;
     }
 
--- the multiplexer with its mode set and other parts carried
+-- the paddings alone [W12]
+abbrev pub withPads : Bool → Bool → Mux → Mux
+withPads a b s = withSwitches a b (s .trueCount) (s .carrying) (s .carry) s
+
+-- the true count alone [W17]
+abbrev pub withTrueCount : Bool → Mux → Mux
+withTrueCount t s = withSwitches (s .pad608) (s .padOut) t (s .carrying) (s .carry) s
+
+-- the mode and the parts
 abbrev pub withCarry : Bool → Carry → Mux → Mux
-withCarry on c s =
-    record {
-      pad608 = s .pad608;
-      padOut = s .padOut;
-      carrying = on;
-      carry = c;
-      trueCount = s .trueCount;
-      packets = s .packets;
-      sending = s .sending;
-      queue1 = s .queue1;
-      queue2 = s .queue2;
-      next1 = s .next1;
-    }
+withCarry on c s = withSwitches (s .pad608) (s .padOut) (s .trueCount) on c s
 
 -- Turning the mode on from off sets all four parts to 0, and so does turning it off; turning it on when it is on changes nothing [W15].
 abbrev pub withMode : Bool → Mux → Mux
 withMode on s = withCarry on (cond (on && s .carrying) (s .carry) noCarry) s
-
--- the multiplexer with its true count set [W17]
-abbrev pub withTrueCount : Bool → Mux → Mux
-withTrueCount on s =
-    record {
-      pad608 = s .pad608;
-      padOut = s .padOut;
-      carrying = s .carrying;
-      carry = s .carry;
-      trueCount = on;
-      packets = s .packets;
-      sending = s .sending;
-      queue1 = s .queue1;
-      queue2 = s .queue2;
-      next1 = s .next1;
-    }
 
 -- what is set: the two paddings, the carrying mode, or the true count
 pub data Switch : Type 0 where
@@ -202,7 +182,7 @@ sentBefore t r = record { out = t ∷ r .out; queue1 = r .queue1; queue2 = r .qu
 
 -- turns of field 1 and of field 2 follow each other until none is left [W4]
 unfoldable mutual
-  -- field 1: its pair; else 80 80 for the sake of field 2, or as padding; else nothing, and it counts all the same [W5] [W9]
+  -- field 1: its pair; else 80 80 for the sake of field 2, or as padding; else nothing, and the turn is taken all the same [W5]
   pub turn1 : ℕ → Bool → List Pair → List Pair → Turned
   turn1 zero pad q1 q2 = record { out = []; queue1 = q1; queue2 = q2; next1 = true }
   turn1 (suc n) pad (pair a b ∷ q1) q2 = sentBefore (tri 0xFC a b) (turn2 n pad q1 q2)
@@ -210,7 +190,7 @@ unfoldable mutual
   turn1 (suc n) true [] [] = sentBefore (tri 0xF8 0x80 0x80) (turn2 n true [] [])
   turn1 (suc n) false [] [] = turn2 n false [] []
 
-  -- field 2: its pair; else padding; else nothing [W6] [W9]
+  -- field 2: its pair; else padding; else nothing [W6]
   pub turn2 : ℕ → Bool → List Pair → List Pair → Turned
   turn2 zero pad q1 q2 = record { out = []; queue1 = q1; queue2 = q2; next1 = false }
   turn2 (suc n) pad q1 (pair a b ∷ q2) = sentBefore (tri 0xFD a b) (turn1 n pad q1 q2)
@@ -250,7 +230,7 @@ unsent s = length (s .sending) + triplesQueued (s .packets)
 unfoldable pub turnsSending : ℕ → Mux → ℕ
 turnsSending pairs s = length (turned (turnsDue pairs s) s .out)
 
--- the turns that the count counts: all, or with the true count those that will send [W17]
+-- the turns that the count counts: all [W9], or with the true count those that will send [W17]
 unfoldable pub turnsCounted : ℕ → Mux → ℕ
 turnsCounted pairs s = cond (s .trueCount) (turnsSending pairs s) (turnsDue pairs s)
 

@@ -1,12 +1,12 @@
 -- Every allowed run can be drained by writes, so that the round trip speaks of every one of them. Assumes nothing.
 use mathlib.Core.Path.{_≡_, refl}
-use mathlib.Core.Bool.{true}
+use mathlib.Core.Bool.{true, or-true}
 use mathlib.Core.List.{List, [], _∷_, _++_}
 use Prim.Native.Nat.{ℕ, zero, suc, _+_, _*_, _≤_}
 use native.Mathlib.Omega.{arith}
 use lib.ListN.{length, replicate}
 use Rattle.model.specs.Rate.{Share}
-use Rattle.model.specs.Mux.{Mux, withPads, paddings, unsent, framed, writeFrame, writeShare}
+use Rattle.model.specs.Mux.{Mux, withTrueCount, trueCounting, unsent, framed, writeFrame, writeShare}
 use Rattle.model.specs.Run.{Call, sets, writes, call, run, Accepted, exactCount, Allowed, Drained}
 use Rattle.model_journey.specs.Bounds.{budgetsIn, writesIn, pairedIn, AtRates, NoPush}
 use Rattle.model_journey.proofs.Drains.{drains-paired}
@@ -28,11 +28,11 @@ module _ (h : Share) (a : Accepted (h .budgets)) (some : 1 ≤ h .budgets .pairs
   abbrev writing : ℕ → List Call
   writing n = replicate n (writes h)
 
-  -- are allowed while 608 padding is on, which a write leaves as it is
-  allowed-writing : (n : ℕ) (s : Mux) → s .pad608 ≡ true → Allowed exactCount (writing n) s
+  -- are allowed while the true count is on, which a write leaves as it is
+  allowed-writing : (n : ℕ) (s : Mux) → s .trueCount ≡ true → Allowed exactCount (writing n) s
   unfolding call writeFrame framed
   allowed-writing zero s on = tt
-  allowed-writing (suc n) s on = ((a, rw on), allowed-writing n (writeShare h s .next) on)
+  allowed-writing (suc n) s on = ((a, rw (on, or-true (s .padOut), or-true (s .pad608))), allowed-writing n (writeShare h s .next) on)
 
   -- push nothing
   no-push : (n : ℕ) → NoPush (writing n)
@@ -54,9 +54,9 @@ module _ (h : Share) (a : Accepted (h .budgets)) (some : 1 ≤ h .budgets .pairs
   paired-in zero = refl
   paired-in (suc n) = rw (paired-in n) (omega arith)
 
-  -- with both paddings turned on, so many writes more drain any run
+  -- with the true count turned on, and the paddings as they are, so many writes more drain any run
   pub drainable : (cs : List Call) (s : Mux) → Allowed exactCount cs s
-      → (n : ℕ) × Allowed exactCount (cs ++ (sets (paddings true true) ∷ writing n)) s × Drained (run (cs ++ (sets (paddings true true) ∷ writing n)) s .last)
+      → (n : ℕ) × Allowed exactCount (cs ++ (sets (trueCounting true) ∷ writing n)) s × Drained (run (cs ++ (sets (trueCounting true) ∷ writing n)) s .last)
   unfolding run call
   drainable cs s w =
       let t : Mux = run cs s .last in
@@ -64,6 +64,6 @@ module _ (h : Share) (a : Accepted (h .budgets)) (some : 1 ≤ h .budgets .pairs
       let k = writes-in n in
       let p = paired-in n in (
         n,
-        allowed-append cs (sets (paddings true true) ∷ writing n) s w (tt, allowed-writing n (withPads true true t) refl),
-        rw (last-append cs (sets (paddings true true) ∷ writing n) s) (drains-paired (writing n) (withPads true true t) (no-push n) (at-rates n) (omega arith) (omega arith) (omega arith)),
+        allowed-append cs (sets (trueCounting true) ∷ writing n) s w (tt, allowed-writing n (withTrueCount true t) refl),
+        rw (last-append cs (sets (trueCounting true) ∷ writing n) s) (drains-paired (writing n) (withTrueCount true t) (no-push n) (at-rates n) (omega arith) (omega arith) (omega arith)),
       )

@@ -16,7 +16,7 @@ use Rattle.model_journey.proofs.Parts.{In608, end6, one6, two6, void6}
 use Rattle.model_journey.proofs.Padding.{padding-none}
 use Rattle.model_journey.proofs.Sending.{numbers, sentBy, remains}
 use Rattle.model_journey.proofs.Triples.{Follow, sent-only}
-use Rattle.model_journey.proofs.Seen.{turnsOf, padsOf, seen708, seen-parts, seen-608}
+use Rattle.model_journey.proofs.Seen.{turnsIn, padsOf, seen708, seen-parts, seen-608}
 use Rattle.model_journey.proofs.Calls.{quiet-switch, quiet-608, quiet-push}
 
 -- a 608 part has no packet triple
@@ -45,7 +45,7 @@ sends-four b s apart =
 -- the packet triples of a frame are those that are sent
 sent-in : (b : Budgets) (s : Mux) → Follow (s .sending) → packetTriplesIn (seenAll (writeFrame b s .frame .triples)) ≡ length (sentBy b s .out)
 sent-in b s f =
-    let m : ℕ = countDue b s - length (turnsOf b s) in
+    let m : ℕ = countDue b s - length (turnsIn b s) in
     rw (seen-parts b s, none-608 (seen-608 b s) (seen708 b s))
     (omega (arith, sent-only m f (s .packets) .number (seenAll (padsOf b s)), padding-none (s .padOut) (m - length (sentBy b s .out))))
 

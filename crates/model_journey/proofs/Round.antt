@@ -23,7 +23,7 @@ use Rattle.model_journey.proofs.Padding.{padding-inert}
 use Rattle.model_journey.proofs.Turns.{ofField, turns-serve, gone-seen}
 use Rattle.model_journey.proofs.Sending.{sentBy}
 use Rattle.model_journey.proofs.Triples.{bytesOf, Follow, stop, more}
-use Rattle.model_journey.proofs.Seen.{turnsOf, padsOf, seen-parts, seen-608, seen-708}
+use Rattle.model_journey.proofs.Seen.{turnsIn, padsOf, seen-parts, seen-608, seen-708}
 use Rattle.model_journey.proofs.Gather.{AllStored, none, Link, still, part, underway, wants-part, wants-none, closed-none, Passed, carry}
 use Rattle.model_journey.proofs.Count.{Fits}
 use Rattle.model_journey.proofs.Taking.{holding, taken, not-refused}
@@ -101,7 +101,7 @@ pub round : (b : Budgets) (s : Mux) (g : List ℕ) → Fits b → length (writeF
 unfolding writeFrame framed
 round b s g fit true-count k =
     let n : ℕ = turnsDue (b .pairs) s in
-    let m : ℕ = countDue b s - length (turnsOf b s) in
+    let m : ℕ = countDue b s - length (turnsIn b s) in
     let js = seen-708 b s (link-follow (k .linked)) in
     let c = carry (seenAll (padsOf b s)) (padding-inert (s .padOut) (m - length (sentBy b s .out))) m (k .linked) (k .stored) in
     let d = settled js (k .rested) c in
@@ -116,7 +116,7 @@ round b s g fit true-count k =
 
 -- Any demultiplexer takes a frame whose count is true, whatever it holds, unless too many packets would wait.
 pub round-any : (b : Budgets) (s : Mux) (d : Demux) → Fits b → length (writeFrame b s .frame .triples) ≡ countDue b s → Follow (s .sending)
-    → OnlyFull d (takeFrame (frameBytes (writeFrame b s .frame)) d .answer)
+    → OnlyFull d (countDue b s) (takeFrame (frameBytes (writeFrame b s .frame)) d .answer)
 unfolding writeFrame framed
 round-any b s d fit true-count f =
     not-refused d (writeFrame b s .frame) true-count (omega (arith, count-most b s, fit .triples)) (seen-parts b s) (seen-608 b s) (seen-708 b s f)

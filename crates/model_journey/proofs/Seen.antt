@@ -14,24 +14,24 @@ use Rattle.model_journey.proofs.Triples.{Follow, sent-only}
 
 module _ (b : Budgets) (s : Mux) where
   -- the turns' triples
-  abbrev pub turnsOf : List Triple
-  turnsOf = turned (turnsDue (b .pairs) s) s .out
+  abbrev pub turnsIn : List Triple
+  turnsIn = turned (turnsDue (b .pairs) s) s .out
 
   -- the padding behind the packet triples
   abbrev pub padsOf : List Triple
-  padsOf = padding (s .padOut) (countDue b s - length turnsOf - length (sentBy b s .out))
+  padsOf = padding (s .padOut) (countDue b s - length turnsIn - length (sentBy b s .out))
 
   -- the 708 part
   abbrev pub seen708 : List Seen
   seen708 = seenAll (sentBy b s .out) ++ seenAll padsOf
 
   -- the two parts are all
-  pub seen-parts : seenAll (writeFrame b s .frame .triples) ≡ seenAll turnsOf ++ seen708
+  pub seen-parts : seenAll (writeFrame b s .frame .triples) ≡ seenAll turnsIn ++ seen708
   unfolding writeFrame framed
-  seen-parts = seen-append turnsOf (sentBy b s .out ++ padsOf) ∙ ap (λ (l : List Seen). seenAll turnsOf ++ l) (seen-append (sentBy b s .out) padsOf)
+  seen-parts = seen-append turnsIn (sentBy b s .out ++ padsOf) ∙ ap (λ (l : List Seen). seenAll turnsIn ++ l) (seen-append (sentBy b s .out) padsOf)
 
   -- the first is one
-  pub seen-608 : In608 (seenAll turnsOf)
+  pub seen-608 : In608 (seenAll turnsIn)
   seen-608 = turns-seen (turnsDue (b .pairs) s) s
 
   -- and so is the second, where the triples left go on with a packet

@@ -21,7 +21,7 @@ use Rattle.model_journey.specs.Bounds.{budgetsIn, writesIn}
 use Rattle.model_journey.specs.Sums.{Kind, ofPairs, ofTriples, due, budgetOf, restOf, total, Afresh, no-parts, other-numer, other-denom, dueOf, AddUp, fills, pairTriplesIn, shown, shownAll}
 use Rattle.model_journey.proofs.Parts.{In608, end6, one6, two6, void6, In708, end7, start7, more7, void7, seen-length}
 use Rattle.model_journey.proofs.Triples.{Follow}
-use Rattle.model_journey.proofs.Seen.{turnsOf, seen708, seen-parts, seen-608, seen-708}
+use Rattle.model_journey.proofs.Seen.{turnsIn, seen708, seen-parts, seen-608, seen-708}
 use Rattle.model_journey.proofs.Calls.{SameSum, sum-push, sum-608, sum-switch, mode-switch, quiet-switch, quiet-608, quiet-push}
 use Rattle.model_journey.proofs.Four.{follow-write}
 use Rattle.model_journey.proofs.Paces.{on-share}
@@ -140,7 +140,7 @@ turns-shown : (b : Budgets) (s : Mux) → s .pad608 ≡ true → Follow (s .send
 unfolding turnsDue
 turns-shown b s on f =
     let all : turnsDue (b .pairs) s ≡ b .pairs = rw on in
-    rw (seen-parts b s, count-608 (seen-608 b s) (seen708 b s), count-708 (seen-708 b s f), seen-length (turnsOf b s))
+    rw (seen-parts b s, count-608 (seen-608 b s) (seen708 b s), count-708 (seen-708 b s f), seen-length (turnsIn b s))
     (omega (arith, turns-count (turnsDue (b .pairs) s) s .all on))
 
 -- the count of a frame with output padding is its triples

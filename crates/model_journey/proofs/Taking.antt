@@ -1,5 +1,5 @@
 -- A frame whose count is true, taken by a demultiplexer with 608 on that has been emptied; and by any other. Assumes nothing.
-use mathlib.Core.Path.{_≡_, refl, ap, _∙_}
+use mathlib.Core.Path.{_≡_, refl, sym, ap, _∙_}
 use mathlib.Core.Bool.{true}
 use mathlib.Core.List.{List, [], _∷_, _++_}
 use Prim.Native.Nat.{ℕ, _+_, _/_, _%_, _≤_}
@@ -79,25 +79,26 @@ module _ (d : Demux) where
   none-refused n = refl
 
   -- what is gathered has room or has not
-  gathered-refused : (ps : List Cea608) (o : Gathered) → length (packetsOf (o .runs)) ≤ 32 → OnlyFull d (takeGathered ps o d .answer)
-  gathered-refused ps o few =
-      by-test (ltb 32 (length (d .waiting) + length (packetsOf (o .runs))))
-      (λ e. let h = ltb-true 32 (length (d .waiting) + length (packetsOf (o .runs))) e in
-      rw (take-full ps o d h) (record { only = λ ne. refl; taken = λ z. absurd (omega arith) }))
-      (λ e. rw (take-room ps o d (ltb-false 32 (length (d .waiting) + length (packetsOf (o .runs))) e)) (record { only = λ ne. absurd (ne refl); taken = λ z. refl }))
+  gathered-refused : (n : ℕ) (ps : List Cea608) (o : Gathered) → length (packetsOf (o .runs)) ≤ n + 1 → OnlyFull d n (takeGathered ps o d .answer)
+  gathered-refused n ps o few =
+      let all : ℕ = length (d .waiting) + length (packetsOf (o .runs)) in
+      by-test (ltb 32 all)
+      (λ e. let h = ltb-true 32 all e in rw (take-full ps o d h) (record { only = λ ne. refl; taken = λ z. absurd (omega arith) }))
+      (λ e. rw (take-room ps o d (ltb-false 32 all e)) (record { only = λ ne. absurd (ne refl); taken = λ z. refl }))
 
   -- a 608 part and a 708 part
-  parts-refused : {xs ys : List Seen} → In608 xs → In708 ys → length (xs ++ ys) ≤ 31 → OnlyFull d (read (xs ++ ys) d .answer)
+  parts-refused : {xs ys : List Seen} → In608 xs → In708 ys → OnlyFull d (length (xs ++ ys)) (read (xs ++ ys) d .answer)
   unfolding takeTriples
-  parts-refused {xs} {ys} i j h = rw (none-late 0 i j) (gathered-refused (pairsIn (xs ++ ys)) (gathered (d .pending) (xs ++ ys)) (omega (arith, few-packets (d .pending) (xs ++ ys))))
+  parts-refused {xs} {ys} i j =
+      rw (none-late 0 i j) (gathered-refused (length (xs ++ ys)) (pairsIn (xs ++ ys)) (gathered (d .pending) (xs ++ ys)) (few-packets (d .pending) (xs ++ ys)))
 
   pub not-refused : (f : Frame) {xs ys : List Seen} → length (f .triples) ≡ f .count → f .count ≤ 31 → seenAll (f .triples) ≡ xs ++ ys → In608 xs → In708 ys
-      → OnlyFull d (takeFrame (frameBytes f) d .answer)
+      → OnlyFull d (f .count) (takeFrame (frameBytes f) d .answer)
   not-refused f {xs} {ys} true-count most cut i j = by (f .triples) (f .count) true-count most cut
     where
       -- by its triples
-      by : (ts : List Triple) (n : ℕ) → length ts ≡ n → n ≤ 31 → seenAll ts ≡ xs ++ ys → OnlyFull d (takeFrame (frameBytes (record { count = n; triples = ts })) d .answer)
+      by : (ts : List Triple) (n : ℕ) → length ts ≡ n → n ≤ 31 → seenAll ts ≡ xs ++ ys → OnlyFull d n (takeFrame (frameBytes (record { count = n; triples = ts })) d .answer)
       by [] n e h c = rw (none-refused n) (record { only = λ ne. absurd (ne refl); taken = λ z. refl })
       by (t ∷ ts) n e h c =
-          let short : length (xs ++ ys) ≤ 31 = omega (arith, seen-length (t ∷ ts), ap length c) in
-          rw (taken-some t ts n d e h, c) (parts-refused i j short)
+          let many : n ≡ length (xs ++ ys) = sym e ∙ sym (seen-length (t ∷ ts)) ∙ ap length c in
+          rw (taken-some t ts n d e h, c, many) (parts-refused i j)

@@ -2,6 +2,7 @@
 use mathlib.Core.Path.{_≡_}
 use mathlib.Core.Bool.{true}
 use mathlib.Core.List.{[]}
+use Prim.Native.Nat.{ℕ, _+_, _<_}
 use lib.ListN.{length, replicate}
 use Rattle.model.specs.Said.{Said, accepted, full}
 use Rattle.model.specs.Demux.{Demux}
@@ -22,10 +23,10 @@ pub record SameItems (r r′ : Run) : Type 0 where
   pub pairs1 : others (r .pairs1) ≡ others (r′ .pairs1)
   pub pairs2 : others (r .pairs2) ≡ others (r′ .pairs2)
 
--- what a demultiplexer answers to a frame: it refuses only with 10 [R10], and not where no packet waits
-pub record OnlyFull (d : Demux) (answer : Said) : Type 0 where
+-- what a demultiplexer answers to a frame of n triples: it refuses only with 10 [R10], and not where these and the packets that wait are fewer than 32
+pub record OnlyFull (d : Demux) (n : ℕ) (answer : Said) : Type 0 where
   pub only : (answer ≡ accepted [] → ⊥) → answer ≡ full
-  pub taken : length (d .waiting) ≡ 0 → answer ≡ accepted []
+  pub taken : length (d .waiting) + n < 32 → answer ≡ accepted []
 
 -- with the true count a frame is what it is without it but for its count, and leaves what that leaves but for the switch [W17]
 pub record OnlyCount (with without : Framed) : Type 0 where

@@ -18,7 +18,7 @@ use Rattle.writer.specs.declared.WriterAnswer.{WriterAnswer}
 use Rattle.writer.specs.declared.WriterCount.{WriterCount}
 use Rattle.writer.specs.Writer.{means, validWriter, stored}
 use Rattle.writer.specs.Calls.{Answers, Writes, saidMicros}
-use Rattle.writer.proofs.Switches.{Left, none-set, left-within, left-as, one-set, set-answer}
+use Rattle.writer.proofs.Switches.{Switched, none-set, switched-within, switched-as, one-set, set-answer}
 use Rattle.program_text.specs.Laid.{Laid}
 use Rattle.program_records.specs.Reading.{highestFirst}
 use Rattle.script_answers.specs.Script.{answerLine, lentLine, countOf, together}
@@ -57,15 +57,15 @@ module _ (a b on exact : Bool) (w : CCDataWriter) (f s t u : WriterAnswer)
     (z : Answers (checked (validWriter (s .writer)) (gave (withMode on (means (s .writer))))) (stored (s .writer)) (s .writer) t)
     (q : Answers (checked (validWriter (t .writer)) (gave (withTrueCount exact (means (t .writer))))) (stored (t .writer)) (t .writer) u) where
   -- the paddings
-  padded : Left w (withPads a b (means w)) (s .writer)
+  padded : Switched w (withPads a b (means w)) (s .writer)
   unfolding means
   padded =
       let first = one-set (none-set w) (paddings a (w .«output_padding»)) f x in
       let second = one-set first (paddings (f .writer .«output_cea608_padding») b) s y in
-      left-as second (withPads a b (means w)) (λ e. rw (left-within first e))
+      switched-as second (withPads a b (means w)) (λ e. rw (switched-within first e))
 
   -- and the mode
-  carried : Left w (withMode on (withPads a b (means w))) (t .writer)
+  carried : Switched w (withMode on (withPads a b (means w))) (t .writer)
   carried = one-set padded (carryingMode on) t z
 
   pub did-switch : {out now : List ℕ} {at laid : ℕ} (state : CCDataWriter) → Did (tells (saidAnswer (u .answer)) (u .writer)) out at laid state now

@@ -5,20 +5,21 @@ use mathlib.Core.Bool.{true, or-true, false≢true}
 use mathlib.Core.List.{List, []}
 use Prim.Native.Nat.{ℕ, _≤_}
 use native.Mathlib.Omega.{arith}
-use lib.ListN.{length, take}
+use lib.ListN.{length, getD, take}
 use contract.Lifetimes.{Lfts}
 use denote.Ref.{now}
 use Rattle.model.specs.Said.{Said, accepted, full}
 use Rattle.model.specs.Frame as model
-use Rattle.model.specs.Frame.{frameBytes}
+use Rattle.model.specs.Frame.{countIn, frameBytes}
 use Rattle.model.specs.Rate.{Share}
 use Rattle.model.specs.Demux.{takeFrame}
-use Rattle.model.specs.Mux.{framed, writeFrame, writeShare}
+use Rattle.model.specs.Mux.{countDue, framed, writeFrame, writeShare}
 use Rattle.model.specs.Run.{Accepted, exactCount}
 use Rattle.model.proofs.Frames.{frame-length, frame-triples}
 use Rattle.model.proofs.MuxStates.{count-most}
 use Rattle.model_journey.specs.Trip.{OnlyFull}
-use Rattle.model_journey.proofs.Count.{fits, counted}
+use Rattle.model_journey.proofs.Count as journey
+use Rattle.model_journey.proofs.Count.{fits}
 use Rattle.model_journey.proofs.Round.{round-any}
 use Rattle.caption.specs.Answers.{saidAnswer}
 use Rattle.caption.specs.declared.Answer.{Answer}
@@ -64,11 +65,14 @@ unfolding frameBytes
 true-frame f e h = record { counts = rw (frame-triples f) (omega arith); all = rw (frame-triples f) (omega (arith, frame-length f)) }
 
 -- an answer that says no more than 10 is no other refusal
-only-by : (p : CCDataParser) (a : Answer) {x : Said} → valid p ≡ true → saidAnswer a ≡ x → OnlyFull (parser.means p) x → Takes p a
-only-by p a within e o =
+only-by : (p : CCDataParser) (frame : List ℕ) (a : Answer) {n : ℕ} {x : Said} → valid p ≡ true → countIn (getD frame 0 0) ≡ n → n ≤ 31 → saidAnswer a ≡ x → OnlyFull (parser.means p) n x
+    → Takes p frame a
+only-by p frame a within c most e o =
+    let k = waiting-count p (valid-fine p within) in
     record {
       only-full = λ why z. saidFull why (sym (ap saidAnswer z) ∙ e ∙ o .only (λ y. refused-is why (sym (ap saidAnswer z) ∙ e ∙ y)));
-      taken = λ z. saidAnswer-injective a answer.Accepted (e ∙ o .taken (waiting-count p (valid-fine p within) ∙ z));
+      taken = λ z. saidAnswer-injective a answer.Accepted (e ∙ o .taken (omega arith));
+      none-waits = λ z. saidAnswer-injective a answer.Accepted (e ∙ o .taken (omega arith));
     }
   where
     -- a refusal does not say that it is accepted
@@ -93,7 +97,7 @@ module _ {w : CCDataWriter} (d : Reached w) (κs : Lfts 1) (rate : Framerate) (o
       let s = writer.means w in
       let b = f .share .budgets in
       let fit = fits (f .accepted) in
-      rw (f .bytes) (true-frame (writeShare (f .share) s .frame) (counted b s fit on) (omega (arith, count-most b s, fit .triples)))
+      rw (f .bytes) (true-frame (writeShare (f .share) s .frame) (journey.counted b s fit on) (omega (arith, count-most b s, fit .triples)))
 
   -- so it is with the true count on, whatever the paddings are
   pub count-true : w .«true_count» ≡ true → TrueCount (take n (now end))
@@ -102,11 +106,16 @@ module _ {w : CCDataWriter} (d : Reached w) (κs : Lfts 1) (rate : Framerate) (o
 
   -- and no demultiplexer within its limits refuses the frame, whatever it holds, unless too many packets would wait
   pub never-refused : exactCount (writer.means w) ≡ true → (κs′ : Lfts 1) (p : CCDataParser) (frame : Lent) (q : ParserAnswer) → valid p ≡ true → Push κs′ p frame q
-      → now frame ≡ take n (now end) → Takes p (q .answer)
+      → now frame ≡ take n (now end) → Takes p (now frame) (q .answer)
+  unfolding writeFrame framed frameBytes
   never-refused on κs′ p frame q within c same =
       let f = wrote in
       let s = writer.means w in
       let b = f .share .budgets in
       let k : Answers (takeFrame (now frame) (parser.means p)) (laidAfter p) p q = c in
+      let fit = fits (f .accepted) in
       let bytes : now frame ≡ frameBytes (writeShare (f .share) s .frame) = same ∙ f .bytes in
-      only-by p (q .answer) within (rw (within, bytes) at (k .answer)) (round-any b s (parser.means p) (fits (f .accepted)) (counted b s (fits (f .accepted)) on) (holds d .follow))
+      let most : countDue b s ≤ 31 = omega (arith, count-most b s, fit .triples) in
+      let says : countIn (getD (now frame) 0 0) ≡ countDue b s = rw bytes (omega arith) in
+      only-by p (now frame) (q .answer) within says most (rw (within, bytes) at (k .answer))
+      (round-any b s (parser.means p) fit (journey.counted b s fit on) (holds d .follow))

@@ -1,6 +1,6 @@
 -- Every sequence of calls goes on to one that ends drained, so that the round trip speaks of each of them. Assumes nothing.
 use mathlib.Core.Path.{_≡_, refl, ap, _∙_}
-use mathlib.Core.Bool.{Bool, true, false}
+use mathlib.Core.Bool.{Bool, true, false, or-true}
 use mathlib.Core.List.{List, [], _++_, append-assoc, append-nil}
 use Prim.Native.Nat.{ℕ, zero, suc, _+_, _*_, _≤_}
 use native.Mathlib.Omega.{arith}
@@ -10,7 +10,7 @@ use denote.Ref.{now}
 use Rattle.model.specs.Said.{gave, checked, isGiven}
 use Rattle.model.specs.Frame.{mostFrame, frameBytes}
 use Rattle.model.specs.Rate.{rounded, budgets, carriedShare, shareBy}
-use Rattle.model.specs.Mux.{Mux, withPads, paddings, framed, writeFrame, shareAt, writeShare}
+use Rattle.model.specs.Mux.{Mux, withTrueCount, trueCounting, framed, writeFrame, shareAt, writeShare}
 use Rattle.model.proofs.Cases.{by-test}
 use Rattle.model_journey.specs.Bounds.{pace}
 use Rattle.caption.specs.Pairs.{cea608Of}
@@ -59,8 +59,9 @@ record Writable (κs : Lfts 1) (w : CCDataWriter) : Type 0 where
   number : ℕ
   counts : result .answer ≡ Count number
   sound : Sound (result .writer)
-  same : result .writer .«output_cea608_padding» ≡ w .«output_cea608_padding»
-  still : result .writer .carrying ≡ w .carrying
+  counting : result .writer .«true_count» ≡ w .«true_count»
+  same-608 : result .writer .«output_cea608_padding» ≡ w .«output_cea608_padding»
+  same-output : result .writer .«output_padding» ≡ w .«output_padding»
 
 -- there is one
 writable : (κs : Lfts 1) (w : CCDataWriter) → Sound w → Writable κs w
@@ -77,11 +78,12 @@ writable κs w s =
       allowed = record { answer = rw g; means = rw g (means-frame w h (sound-ok w s) (sound-mux w s) v); places = rw g; output = rw g };
       counts = refl;
       sound = moved-sound w s h v;
-      same = refl;
-      still = refl;
+      counting = refl;
+      same-608 = refl;
+      same-output = refl;
     })
 
--- n writes at the rate, each accepted and with a padding or the true count on, the mode left as it is
+-- n writes at the rate, each accepted and with the true count on, the mode and the paddings left as they are
 record Written (n : ℕ) (w : CCDataWriter) : Type 0 where
   frames : List (List ℕ)
   last : CCDataWriter
@@ -89,21 +91,25 @@ record Written (n : ℕ) (w : CCDataWriter) : Type 0 where
   exact : Exact calls
   steady : (mode : Bool) → Stays mode rate calls
   number : length frames ≡ n
+  same-608 : last .«output_cea608_padding» ≡ w .«output_cea608_padding»
+  same-output : last .«output_padding» ≡ w .«output_padding»
 
 -- there are such
-written-all : (κs : Lfts 1) (n : ℕ) (w : CCDataWriter) → Sound w → w .«output_cea608_padding» ≡ true → Written n w
+written-all : (κs : Lfts 1) (n : ℕ) (w : CCDataWriter) → Sound w → w .«true_count» ≡ true → Written n w
 unfolding means
-written-all κs zero w s on = record { frames = []; last = w; calls = no-call; exact = tt; steady = λ mode. tt; number = refl }
+written-all κs zero w s on = record { frames = []; last = w; calls = no-call; exact = tt; steady = λ mode. tt; number = refl; same-608 = refl; same-output = refl }
 written-all κs (suc n) w s on =
     let k = writable κs w s in
-    let m = written-all κs n (k .result .writer) (k .sound) (k .same ∙ on) in
+    let m = written-all κs n (k .result .writer) (k .sound) (k .counting ∙ on) in
     record {
       frames = frameIn (k .result .answer) (now (k .end)) ++ m .frames;
       last = m .last;
       calls = write κs rate out (k .end) (k .result) (k .allowed) (m .calls);
-      exact = (λ n e. rw on, m .exact);
+      exact = (λ n e. rw (on, or-true (w .«output_padding»), or-true (w .«output_cea608_padding»)), m .exact);
       steady = λ mode. (λ n e on′. refl, m .steady mode);
       number = rw (k .counts) (ap suc (m .number));
+      same-608 = m .same-608 ∙ k .same-608;
+      same-output = m .same-output ∙ k .same-output;
     }
 
 -- calls that go on from w and end drained
@@ -113,19 +119,22 @@ record Draining (w : CCDataWriter) : Type 0 where
   calls : Calls w frames noItems last
   exact : Exact calls
   drained : Drained last
+  same-608 : last .«output_cea608_padding» ≡ w .«output_cea608_padding»
+  same-output : last .«output_padding» ≡ w .«output_padding»
 
--- 608 padding turned on, and as many writes as drain what is there
+-- the true count turned on, and as many writes as drain what is there
 draining : {w₀ w : CCDataWriter} {fs₀ : List (List ℕ)} {is₀ : Items} (κs : Lfts 1) → NewWriter w₀ → Calls w₀ fs₀ is₀ w → Draining w
+unfolding means
 draining {w} κs new before =
     let s = from-fresh new before .sound in
-    let x : Mux = withPads true (w .«output_padding») (means w) in
-    let g : Grows (means w) x = grows-switch (means w) (sound-mux w s) (paddings true (w .«output_padding»)) in
+    let x : Mux = withTrueCount true (means w) in
+    let g : Grows (means w) x = grows-switch (means w) (sound-mux w s) (trueCounting true) in
     let on : WriterAnswer = record { answer = Accepted; writer = stored w x } in
     let kept = means-stored w (sound-order w s) (sound-ok w s) x g in
     let allowed : Answers (checked (validWriter w) (gave x)) (stored w) w on = record { answer = rw (s .valid); means = rw (s .valid) kept; places = rw (s .valid) } in
     let n : ℕ = 4 * w .field1 .count + 4 * w .field2 .count + unsentOf w in
     let m = written-all κs n (on .writer) (stored-sound w s x g) refl in
-    let c : Calls w (m .frames) noItems (m .last) = set-cea608-padding true on allowed (m .calls) in
+    let c : Calls w (m .frames) noItems (m .last) = set-true-count true on allowed (m .calls) in
     let k = m .number in
     let enough : (mode : Bool) (x : ℕ) → 4 * x ≤ length (m .frames) → pace mode * x ≤ length (m .frames) = elim [ true ↦ λ x h. h | false ↦ λ x h. omega arith ] in
     record {
@@ -135,6 +144,8 @@ draining {w} κs new before =
       exact = m .exact;
       drained = writes-drain (writing.called (writing.fresh new) before) (w .carrying) rate c refl (m .steady (w .carrying)) (enough (w .carrying) (w .field1 .count) (omega arith)) (enough (w .carrying) (w .field2 .count) (omega arith))
           (omega arith);
+      same-608 = m .same-608;
+      same-output = m .same-output;
     }
 
 -- items in three parts
@@ -176,4 +187,4 @@ pub drainable : {w₀ w : CCDataWriter} {fs : List (List ℕ)} {is : Items} (κs
 drainable {w₀} {fs} {is} κs new c exact =
     let d = draining κs new c in
     let j = rw (then-none is) at (join c (d .calls)) in
-    record { more = d .frames; last = d .last; rest = d .calls; rest-exact = d .exact; whole = j .calls; exact = j .exact (exact, d .exact); drained = d .drained }
+    record { more = d .frames; last = d .last; rest = d .calls; rest-exact = d .exact; whole = j .calls; exact = j .exact (exact, d .exact); drained = d .drained; same-608 = d .same-608; same-output = d .same-output }

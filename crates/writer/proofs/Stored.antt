@@ -144,7 +144,7 @@ module _ (w : CCDataWriter) (o : Order w) where
       rw (same-slots, packets-length, over-same (w .field1) (o .first), over-same (w .field2) (o .second), not-not (w .«field2_next»))
 
   -- with other switches and other parts
-  pub stored-with : (a b t on : Bool) (c : Carry) → stored w (withCarry on c (withTrueCount t (withPads a b (means w)))) ≡ withSwitches a b t on (carryIn c) w
+  stored-with : (a b t on : Bool) (c : Carry) → stored w (withCarry on c (withTrueCount t (withPads a b (means w)))) ≡ withSwitches a b t on (carryIn c) w
   unfolding means
   stored-with a b t on c =
       rw (same-slots, packets-length, over-same (w .field1) (o .first), over-same (w .field2) (o .second), not-not (w .«field2_next»))

@@ -39,23 +39,23 @@ abbrev comesTo : CCDataWriter → Mux → Outcome Mux
 comesTo w x = checked (validWriter w) (gave x)
 
 -- a state that they have left: w with the switches of x, and w itself where it is outside its limits
-pub record Left (w : CCDataWriter) (x : Mux) (v : CCDataWriter) : Type 0 where
+pub record Switched (w : CCDataWriter) (x : Mux) (v : CCDataWriter) : Type 0 where
   pub places : v ≡ after w (mapped (stored w) (comesTo w x))
   pub valid : validWriter v ≡ validWriter w
 
 -- none has been set
-pub none-set : (w : CCDataWriter) → Left w (means w) w
+pub none-set : (w : CCDataWriter) → Switched w (means w) w
 none-set w = record { places = by-test (validWriter w) (λ e. rw e (sym (stored-self w (parts w e .0)))) (λ e. rw e); valid = refl }
 
-module _ {w : CCDataWriter} {x : Mux} {v : CCDataWriter} (l : Left w x v) where
+module _ {w : CCDataWriter} {x : Mux} {v : CCDataWriter} (l : Switched w x v) where
   -- within the limits the state is in the places of x
-  pub left-within : validWriter w ≡ true → v ≡ stored w x
-  left-within e = rw e at (l .places)
+  pub switched-within : validWriter w ≡ true → v ≡ stored w x
+  switched-within e = rw e at (l .places)
 
   -- another way to say x
-  pub left-as : (x′ : Mux) → (validWriter w ≡ true → x ≡ x′) → Left w x′ v
-  left-as x′ f =
-      record { places = by-test (validWriter w) (λ e. rw (e, ← f e) (left-within e)) (λ e. rw e (rw e at (l .places))); valid = l .valid }
+  pub switched-as : (x′ : Mux) → (validWriter w ≡ true → x ≡ x′) → Switched w x′ v
+  switched-as x′ f =
+      record { places = by-test (validWriter w) (λ e. rw (e, ← f e) (switched-within e)) (λ e. rw e (rw e at (l .places))); valid = l .valid }
 
   -- a switch is set, and leaves its own answer
   module _ (y : Switch) (t : WriterAnswer) (a : Answers (checked (validWriter v) (gave (withSwitch y (means v)))) (stored v) v t) where
@@ -67,11 +67,11 @@ module _ {w : CCDataWriter} {x : Mux} {v : CCDataWriter} (l : Left w x v) where
     set-outside : validWriter w ≡ false → t .writer ≡ v
     set-outside e = let k : validWriter v ≡ false = l .valid ∙ e in rw k at (a .places)
 
-    pub one-set : Left w (withSwitch y x) (t .writer)
+    pub one-set : Switched w (withSwitch y x) (t .writer)
     one-set =
         record {
           places = by-test (validWriter w)
-              (λ e. rw e (set-within e ∙ ap (switched y) (left-within e) ∙ sym (stored-then w x y)))
+              (λ e. rw e (set-within e ∙ ap (switched y) (switched-within e) ∙ sym (stored-then w x y)))
               (λ e. rw e (set-outside e ∙ rw e at (l .places)));
           valid = by-test (validWriter w)
               (λ e. rw (e, set-within e) (switch-valid v (l .valid ∙ e) y))

@@ -309,7 +309,7 @@ impl CCDataWriter {
         Micros::Refused(Refusal::BadValue)
     }
 
-    // Writes the next frame at a rate: 608 pairs by turns, then packet triples [W1] to [W9].
+    // Writes the next frame at a rate: 608 pairs by turns, then packet triples [W1] to [W9], with the count that its switch asks for [W17].
     pub fn write(self, rate: Framerate, out: &mut [u8]) -> WriterCount
         ensures { λ r. ⌜ Writes rate (now (out .entry)) self r (now (out .exit)) ⌝ }
     {

@@ -30,7 +30,7 @@ turnsOf pad pairs n1 n2 = cond pad pairs (min pairs (max n1 (2 * min n2 mostQueu
 unfoldable pub sentOf : Bool → ℕ → Bool → ℕ → ℕ → ℕ
 sentOf pad n second n1 n2 = length (turnsBy (not second) n pad (replicate n1 (pair 0 0)) (replicate n2 (pair 0 0)) .out)
 
--- the turns that the count counts: all, or with the true count those that will send [W17]
+-- the turns that the count counts: all [W9], or with the true count those that will send [W17]
 abbrev pub countedOf : Bool → Bool → ℕ → Bool → ℕ → ℕ → ℕ
 countedOf on pad n second n1 n2 = cond on (sentOf pad n second n1 n2) n
 

@@ -22,7 +22,7 @@ use Rattle.writer_turns.specs.declared.Course.{Course}
 use Rattle.writer_queues.specs.declared.PairQueue.{PairQueue}
 use Rattle.writer_turns.specs.declared.Turns.{Turns}
 
--- what the model's turns leave: no more triples than turns, and of each queue what stood last
+-- what the model's turns leave of a queue: what stood last
 abbrev Back : List Pair → List Pair → Type 0
 Back q r = (length r ≤ length q) × (r ≡ drop (length q - length r) q)
 
@@ -35,28 +35,27 @@ back-more : (x : Pair) (q r : List Pair) → Back q r → Back (x ∷ q) r
 back-more x q r (h, e) = let d : suc (length q) - length r ≡ suc (length q - length r) = omega arith in (omega arith, rw d e)
 
 -- what n turns leave
-pub record Leaves (n : ℕ) (q1 q2 : List Pair) (r : Turned) : Type 0 where
-  pub few : length (r .out) ≤ n
-  pub back1 : Back q1 (r .queue1)
-  pub back2 : Back q2 (r .queue2)
+record Leaves (q1 q2 : List Pair) (r : Turned) : Type 0 where
+  back1 : Back q1 (r .queue1)
+  back2 : Back q2 (r .queue2)
 
 mutual
   unfolding turn1
 
   -- from a field 1 turn on
-  pub leaves1 : (n : ℕ) (pad : Bool) (q1 q2 : List Pair) → Leaves n q1 q2 (turn1 n pad q1 q2)
-  leaves1 zero pad q1 q2 = record { few = omega arith; back1 = back-same q1; back2 = back-same q2 }
-  leaves1 (suc n) pad (pair a b ∷ q1) q2 = let l = leaves2 n pad q1 q2 in record { few = omega (arith, l .few); back1 = back-more (pair a b) q1 _ (l .back1); back2 = l .back2 }
-  leaves1 (suc n) pad [] (x ∷ q2) = let l = leaves2 n pad [] (x ∷ q2) in record { few = omega (arith, l .few); back1 = l .back1; back2 = l .back2 }
-  leaves1 (suc n) true [] [] = let l = leaves2 n true [] [] in record { few = omega (arith, l .few); back1 = l .back1; back2 = l .back2 }
-  leaves1 (suc n) false [] [] = let l = leaves2 n false [] [] in record { few = omega (arith, l .few); back1 = l .back1; back2 = l .back2 }
+  leaves1 : (n : ℕ) (pad : Bool) (q1 q2 : List Pair) → Leaves q1 q2 (turn1 n pad q1 q2)
+  leaves1 zero pad q1 q2 = record { back1 = back-same q1; back2 = back-same q2 }
+  leaves1 (suc n) pad (pair a b ∷ q1) q2 = let l = leaves2 n pad q1 q2 in record { back1 = back-more (pair a b) q1 _ (l .back1); back2 = l .back2 }
+  leaves1 (suc n) pad [] (x ∷ q2) = let l = leaves2 n pad [] (x ∷ q2) in record { back1 = l .back1; back2 = l .back2 }
+  leaves1 (suc n) true [] [] = let l = leaves2 n true [] [] in record { back1 = l .back1; back2 = l .back2 }
+  leaves1 (suc n) false [] [] = let l = leaves2 n false [] [] in record { back1 = l .back1; back2 = l .back2 }
 
   -- from a field 2 turn on
-  pub leaves2 : (n : ℕ) (pad : Bool) (q1 q2 : List Pair) → Leaves n q1 q2 (turn2 n pad q1 q2)
-  leaves2 zero pad q1 q2 = record { few = omega arith; back1 = back-same q1; back2 = back-same q2 }
-  leaves2 (suc n) pad q1 (pair a b ∷ q2) = let l = leaves1 n pad q1 q2 in record { few = omega (arith, l .few); back1 = l .back1; back2 = back-more (pair a b) q2 _ (l .back2) }
-  leaves2 (suc n) true q1 [] = let l = leaves1 n true q1 [] in record { few = omega (arith, l .few); back1 = l .back1; back2 = l .back2 }
-  leaves2 (suc n) false q1 [] = let l = leaves1 n false q1 [] in record { few = omega (arith, l .few); back1 = l .back1; back2 = l .back2 }
+  leaves2 : (n : ℕ) (pad : Bool) (q1 q2 : List Pair) → Leaves q1 q2 (turn2 n pad q1 q2)
+  leaves2 zero pad q1 q2 = record { back1 = back-same q1; back2 = back-same q2 }
+  leaves2 (suc n) pad q1 (pair a b ∷ q2) = let l = leaves1 n pad q1 q2 in record { back1 = l .back1; back2 = back-more (pair a b) q2 _ (l .back2) }
+  leaves2 (suc n) true q1 [] = let l = leaves1 n true q1 [] in record { back1 = l .back1; back2 = l .back2 }
+  leaves2 (suc n) false q1 [] = let l = leaves1 n false q1 [] in record { back1 = l .back1; back2 = l .back2 }
 
 -- a triple is stored, and then those of the turns that are left
 sent-done : (h a b len : ℕ) (f g : List ℕ) (m : Turned) {r : Course} {l : List ℕ} → len + 3 ≤ 95 → g ≡ cond (leb len 92) (sets f len (h ∷ a ∷ b ∷ [])) f
@@ -184,10 +183,10 @@ module _ (t : Turns) (n : ℕ) (pad : Bool) where
     turns = turnsFrom n pad t
 
     -- they leave no more than there was
-    pub leaves-from : Leaves n (queueOf (t .field1)) (queueOf (t .field2)) turns
+    leaves-from : Leaves (queueOf (t .field1)) (queueOf (t .field2)) turns
     unfolding turnsFrom
     leaves-from =
-        by-cond (λ (m : Turned). Leaves n (queueOf (t .field1)) (queueOf (t .field2)) m) (not (t .«field2_next»))
+        by-cond (λ (m : Turned). Leaves (queueOf (t .field1)) (queueOf (t .field2)) m) (not (t .«field2_next»))
         (λ _. leaves1 n pad (queueOf (t .field1)) (queueOf (t .field2)))
         (λ _. leaves2 n pad (queueOf (t .field1)) (queueOf (t .field2)))
 

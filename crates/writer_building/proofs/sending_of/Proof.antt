@@ -1,5 +1,5 @@
 -- `writer_building::sending_of` meets its contract. Assumes nothing.
-use Rattle.writer_building.proofs.Sends.{none-or-one, sent-first, sent-second}
+use Rattle.writer_building.proofs.Sends.{one-less, sent-first, sent-second}
 use borrow.Author.Needs.{needs}
 use Rattle.writer_building.proofs.sending_of.Statement.{statement}
 use Rattle.writer_building.proofs.sending_of.Tie as tie
@@ -28,8 +28,8 @@ add-result c = search needs
 returns : tie.Need-returns
 returns c = let n = c .before .before .before in
     let a = n .before .before .args in
-    rw (n .before .if1 .taken, c .lesser3 .ensures, c .before .greater .ensures, c .before .before .lesser2 .ensures, n .lesser .ensures, none-or-one (a .n2))
-    (sent-second (a .turns) (a .n1) (a .n2))
+    rw (n .before .if1 .taken, c .lesser3 .ensures, c .before .greater .ensures, c .before .before .lesser2 .ensures)
+    (sent-second (a .turns) (a .n1) (a .n2) (one-less (a .n2) (n .lesser .ensures)))
 
 greater-requires-2 : tie.Need-greater-requires-2
 greater-requires-2 c κs = search needs
