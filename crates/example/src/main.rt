@@ -28,7 +28,8 @@ fn write_one(frame: &mut [u8; 95]) -> Counted {
     done.answer
 }
 
-// The frame of one that keeps both paddings off and holds two pairs of field 1 and the packet. Two turns are due: the second, field 2's, sends nothing.
+// The frame of one that keeps both paddings off and holds two pairs of field 1 and the packet. Two turns are due: the second, field 2's, sends
+// nothing.
 fn write_pairs(frame: &mut [u8; 95], true_count: bool) -> Counted {
     let fresh = CCDataWriter::new();
     let counting = fresh.set_true_count(true_count);

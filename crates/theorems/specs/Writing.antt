@@ -105,7 +105,8 @@ pub record Drained (w : CCDataWriter) : Type 0 where
   pub no-pair1 : w .field1 .count ≡ 0
   pub no-pair2 : w .field2 .count ≡ 0
 
--- Calls that wrote fs, accepted `is` and came to w go on: with more writes, accepting nothing more and with the paddings as they were, they end drained.
+-- Calls that wrote fs, accepted `is` and came to w go on: with more writes, accepting nothing more and with the paddings as they were, they end
+-- drained.
 pub record Drains (w₀ w : CCDataWriter) (fs : List (List ℕ)) (is : Items) : Type 0 where
   pub more : List (List ℕ)
   pub last : CCDataWriter
