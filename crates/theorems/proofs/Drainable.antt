@@ -187,4 +187,14 @@ pub drainable : {w₀ w : CCDataWriter} {fs : List (List ℕ)} {is : Items} (κs
 drainable {w₀} {fs} {is} κs new c exact =
     let d = draining κs new c in
     let j = rw (then-none is) at (join c (d .calls)) in
-    record { more = d .frames; last = d .last; rest = d .calls; rest-exact = d .exact; whole = j .calls; exact = j .exact (exact, d .exact); drained = d .drained; same-608 = d .same-608; same-output = d .same-output }
+    record {
+      more = d .frames;
+      last = d .last;
+      rest = d .calls;
+      rest-exact = d .exact;
+      whole = j .calls;
+      exact = j .exact (exact, d .exact);
+      drained = d .drained;
+      same-608 = d .same-608;
+      same-output = d .same-output;
+    }

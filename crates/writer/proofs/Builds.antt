@@ -94,8 +94,9 @@ module _ (w : CCDataWriter) (h : Share) (ok : Ok w) (within : h .budgets .pairs 
   unfolding turnsCounted turnsSending turned means
   counted-are =
       let n : ℕ = turnsDue (b .pairs) (means w) in
-      let sends = sent-any (w .«output_cea608_padding») n (w .«field2_next») (queueOf (w .field1)) (queueOf (w .field2)) (queue-length (w .field1) (ok .first)) (queue-length (w .field2) (ok .second)) in
-      ap (λ k. cond (w .«true_count») k n) sends
+      let one = queue-length (w .field1) (ok .first) in
+      let two = queue-length (w .field2) (ok .second) in
+      ap (λ k. cond (w .«true_count») k n) (sent-any (w .«output_cea608_padding») n (w .«field2_next») (queueOf (w .field1)) (queueOf (w .field2)) one two)
 
   -- and so is the count
   count-are : countOf (w .«output_padding») (b .triples) (turnsCounted (b .pairs) (means w)) slots (w .sending) (w .sent) ≡ countDue b (means w)

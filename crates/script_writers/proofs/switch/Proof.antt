@@ -26,7 +26,8 @@ same-length : tie.Need-same-length
 same-length c = search needs
 
 returns : tie.Need-returns
-returns c = let fourth = c .before .before .before in
+returns c = let told = c .before .before .told-writer .ensures in
+    let fourth = c .before .before .before in
     let third = fourth .before .before .before in
     let second = third .before .before in
     let first = second .before .before in
@@ -34,8 +35,9 @@ returns c = let fourth = c .before .before .before in
     let w = byte .before .before .before .args .before in
     rw (← byte .byte-at .ensures)
     (record {
-      did = did-switch _ _ _ _ w _ _ _ _ (first .set-output-cea608-padding .ensures) (second .set-output-padding .ensures) (third .set-carrying .ensures) (fourth .set-true-count .ensures) _ (c .before .before .told-writer .ensures .did);
-      says = c .before .before .told-writer .ensures .says;
+      did = did-switch _ _ _ _ w _ _ _ _ (first .set-output-cea608-padding .ensures) (second .set-output-padding .ensures) (third .set-carrying .ensures)
+          (fourth .set-true-count .ensures) _ (told .did);
+      says = told .says;
     })
 
 pub switch-spec : {M : Type 1} → statement M

@@ -17,9 +17,10 @@ carry-in-requires c κs = search needs
 
 returns : tie.Need-returns
 returns c = let s = c .before .before .before in
-    let h = shaped (s .args .self) (s .good .0, tt) in
-    switch-set (s .args .self) h (c .before .before .is-valid .ensures) (c .before .if1 .taken) (carryingMode (s .args .carrying)) _
-    (ap (λ (k : Carry). withSwitches (s .args .self .«output_cea608_padding») (s .args .self .«output_padding») (s .args .self .«true_count») (s .args .carrying) k (s .args .self)) (c .carry-in .ensures))
+    let w = s .args .self in
+    let h = shaped w (s .good .0, tt) in
+    switch-set w h (c .before .before .is-valid .ensures) (c .before .if1 .taken) (carryingMode (s .args .carrying)) _
+    (ap (λ (k : Carry). withSwitches (w .«output_cea608_padding») (w .«output_padding») (w .«true_count») (s .args .carrying) k w) (c .carry-in .ensures))
 
 refused-requires : tie.Need-refused-requires
 refused-requires c κs = search needs
