@@ -31,7 +31,6 @@ use Rattle.slots.specs.Slot.{readSlot}
 use Rattle.writer.specs.Writer.{means}
 use Rattle.writer_sending.proofs.Triples.{left-length}
 use Rattle.writer.proofs.Kept.{Sound, sound-ok}
-use Rattle.writer.proofs.Valid.{share-within}
 use Rattle.writer.proofs.Laws.{write-given}
 use Rattle.writer.specs.declared.CCDataWriter.{CCDataWriter}
 use Rattle.writer.specs.declared.WriterCount.{WriterCount}
@@ -40,7 +39,7 @@ use Rattle.theorems.specs.Allowed.{Lent, Write}
 use Rattle.theorems.specs.Writing.{Calls, Reached, Stays, Drained}
 use Rattle.theorems.specs.Bounds.{queueAt, pairsAt, SendsFour, AcceptsWrite, LeavesInTime, DrainsInTime}
 use Rattle.theorems.proofs.Following.{Tests, Staying, Follows}
-use Rattle.theorems.proofs.Frames.{Writes, no-frame, one-frame, write-does}
+use Rattle.theorems.proofs.Frames.{wrote}
 use Rattle.theorems.proofs.Sequences.{follows}
 use Rattle.theorems.proofs.Reached.{holds}
 
@@ -76,19 +75,6 @@ drained-back w s d =
       no-pair2 = sym (queue-length (w .field2) (ok .second)) ∙ ap length (d .no-pair2);
     }
 
--- a write that counts n bytes sends what the model's sends
-four-by : (w : CCDataWriter) (rate : Framerate) (end : List ℕ) (r : WriterCount) → Sound w → (n : ℕ) → r .answer ≡ counted.Count n
-    → ((h : Share) → runs.Accepted (h .budgets) → journey.SendsFour (means w) (writeShare h (means w))) → Writes w rate end r → SendsFour w (take n end) (r .writer)
-four-by w rate end r s n e f (no-frame why k same) = absurd (false≢true (cc))
-four-by w rate end r s n e f (one-frame h given counts first meant next) =
-    let m = f h (share-within w (s .valid) rate given .accepted) in
-    let z : n ≡ length (frameBytes (writeShare h (means w) .frame)) = (cc) in
-    rw (z, first)
-    (record {
-      four = rw (frame-triples (writeShare h (means w) .frame)) (omega (arith, m .four));
-      no-other = rw (frame-triples (writeShare h (means w) .frame), meant) (m .no-other);
-    })
-
 -- what is given is something
 pub given-by : {A P : Type 0} (o : Outcome A) → isGiven o ≡ true → ((x : A) → o ≡ gave x → P) → P
 given-by (gave x) e f = f x refl
@@ -122,8 +108,10 @@ module _ {w : CCDataWriter} (d : Reached w) where
   pub sends-four : (κs : Lfts 1) (rate : Framerate) (out end : Lent) (r : WriterCount) → Write κs w rate out end r
       → (n : ℕ) → r .answer ≡ counted.Count n → SendsFour w (take n (now end)) (r .writer)
   sends-four κs rate out end r a n e =
-      let k = holds d in
-      four-by w rate (now end) r (k .sound) n e (λ h accepted. four.four h (means w) accepted (k .follow)) (write-does κs w rate out end r (k .sound) a)
+      let k = wrote κs w rate out end r (holds d .sound) a n e in
+      let f = writeShare (k .share) (means w) .frame in
+      let m = four.four (k .share) (means w) (k .accepted) (holds d .follow) in
+      rw (k .bytes) (record { four = rw (frame-triples f) (omega (arith, m .four)); no-other = rw (frame-triples f, k .meant) (m .no-other) })
 
   -- a write at an accepted rate, with room for the longest frame, is accepted
   pub write-accepted : (κs : Lfts 1) (rate : Framerate) (out end : Lent) (r : WriterCount) → Write κs w rate out end r → AcceptsWrite w rate (now out) (r .answer)

@@ -11,7 +11,6 @@ use denote.Ref.{now}
 use Rattle.model.specs.Said.{Said, accepted, full}
 use Rattle.model.specs.Frame as model
 use Rattle.model.specs.Frame.{countIn, frameBytes}
-use Rattle.model.specs.Rate.{Share}
 use Rattle.model.specs.Demux.{takeFrame}
 use Rattle.model.specs.Mux.{countDue, framed, writeFrame, writeShare}
 use Rattle.model.specs.Run.{Accepted, exactCount}
@@ -30,8 +29,6 @@ use Rattle.caption.specs.declared.Refusal.{Refusal}
 use Rattle.caption.specs.declared.Refusal.the-variants.{Full}
 use Rattle.caption.proofs.Answers.{saidAnswer-injective}
 use Rattle.writer.specs.Writer as writer
-use Rattle.writer.proofs.Kept.{Sound}
-use Rattle.writer.proofs.Valid.{share-within}
 use Rattle.writer.specs.declared.CCDataWriter.{CCDataWriter}
 use Rattle.writer.specs.declared.WriterCount.{WriterCount}
 use Rattle.parser.specs.Means as parser
@@ -43,21 +40,8 @@ use Rattle.parser.specs.declared.ParserAnswer.{ParserAnswer}
 use Rattle.theorems.specs.Allowed.{Lent, Write, Push}
 use Rattle.theorems.specs.Writing.{Reached}
 use Rattle.theorems.specs.Count.{TrueCount, Takes}
-use Rattle.theorems.proofs.Frames.{Writes, no-frame, one-frame, write-does}
+use Rattle.theorems.proofs.Frames.{Wrote, wrote}
 use Rattle.theorems.proofs.Reached.{holds}
-
--- a frame that an accepted write has given: the model's, with its share of the rate
-record FrameOf (w : CCDataWriter) (frame : List ℕ) : Type 0 where
-  share : Share
-  accepted : Accepted (share .budgets)
-  bytes : frame ≡ frameBytes (writeShare share (writer.means w) .frame)
-
--- what counts n bytes is one
-frame-of : (w : CCDataWriter) (rate : Framerate) (end : List ℕ) (r : WriterCount) → Sound w → (n : ℕ) → r .answer ≡ counted.Count n → Writes w rate end r → FrameOf w (take n end)
-frame-of w rate end r s n e (no-frame why k same) = absurd (false≢true (cc))
-frame-of w rate end r s n e (one-frame h given counts first meant next) =
-    let z : n ≡ length (frameBytes (writeShare h (writer.means w) .frame)) = (cc) in
-    record { share = h; accepted = share-within w (s .valid) rate given .accepted; bytes = rw z first }
 
 -- a frame of the model whose count is true
 true-frame : (f : model.Frame) → length (f .triples) ≡ f .count → f .count ≤ 31 → TrueCount (frameBytes f)
@@ -85,15 +69,15 @@ only-by p frame a within c most e o =
 
 -- a write that is accepted, of a state that calls have reached, flushes among them
 module _ {w : CCDataWriter} (d : Reached w) (κs : Lfts 1) (rate : Framerate) (out end : Lent) (r : WriterCount) (a : Write κs w rate out end r) (n : ℕ) (e : r .answer ≡ counted.Count n) where
-  -- its frame
-  wrote : FrameOf w (take n (now end))
-  wrote = frame-of w rate (now end) r (holds d .sound) n e (write-does κs w rate out end r (holds d .sound) a)
+  -- what it gives
+  gives : Wrote w rate (take n (now end)) (r .writer)
+  gives = wrote κs w rate out end r (holds d .sound) a n e
 
   -- with a padding or the true count on the count is the number of triples
   pub count-exact : exactCount (writer.means w) ≡ true → TrueCount (take n (now end))
   unfolding writeFrame framed
   count-exact on =
-      let f = wrote in
+      let f = gives in
       let s = writer.means w in
       let b = f .share .budgets in
       let fit = fits (f .accepted) in
@@ -109,7 +93,7 @@ module _ {w : CCDataWriter} (d : Reached w) (κs : Lfts 1) (rate : Framerate) (o
       → now frame ≡ take n (now end) → Takes p (now frame) (q .answer)
   unfolding writeFrame framed frameBytes
   never-refused on κs′ p frame q within c same =
-      let f = wrote in
+      let f = gives in
       let s = writer.means w in
       let b = f .share .budgets in
       let k : Answers (takeFrame (now frame) (parser.means p)) (laidAfter p) p q = c in

@@ -1,6 +1,6 @@
 -- A write that is accepted is a frame of the model, with its share of the rate, and any other changes nothing. Assumes nothing.
 use mathlib.Core.Path.{_≡_, refl, sym, ap}
-use mathlib.Core.Bool.{true, false}
+use mathlib.Core.Bool.{true, false, false≢true}
 use mathlib.Core.List.{List, [], _∷_, _++_}
 use Prim.Native.Nat.{ℕ}
 use native.Mathlib.Omega.{arith}
@@ -14,7 +14,7 @@ use Rattle.model.specs.Frame.{frameBytes}
 use Rattle.model.specs.Rate as model
 use Rattle.model.specs.Rate.{Share}
 use Rattle.model.specs.Mux.{shareAt, writeShare, writeAt}
-use Rattle.model.specs.Run.{writes, call, others}
+use Rattle.model.specs.Run.{writes, call, Accepted, others}
 use Rattle.model.proofs.Cases.{by-test}
 use Rattle.model.proofs.Carrying.{OnlyBadRate, share-refused}
 use Rattle.caption.specs.Answers.{saidRefusal}
@@ -87,6 +87,26 @@ module _ (w : CCDataWriter) (rate : Framerate) (out end : List ℕ) (r : WriterC
 -- by its contract
 pub write-does : (κs : Lfts 1) (w : CCDataWriter) (rate : Framerate) (out end : Lent) (r : WriterCount) → Sound w → Write κs w rate out end r → Writes w rate (now end) r
 write-does κs w rate out end r s a = writes-by w rate (now out) (now end) r s a
+
+-- what a write has given that counts the bytes of a frame: its share of the rate, the frame of the model, and what that leaves
+pub record Wrote (w : CCDataWriter) (rate : Framerate) (frame : List ℕ) (w′ : CCDataWriter) : Type 0 where
+  pub share : Share
+  pub given : shareAt (rate .numer) (rate .denom) (means w) ≡ gave share
+  pub accepted : Accepted (share .budgets)
+  pub bytes : frame ≡ frameBytes (writeShare share (means w) .frame)
+  pub meant : means w′ ≡ writeShare share (means w) .next
+
+-- by its contract
+pub wrote : (κs : Lfts 1) (w : CCDataWriter) (rate : Framerate) (out end : Lent) (r : WriterCount) → Sound w → Write κs w rate out end r → (n : ℕ) → r .answer ≡ counted.Count n
+    → Wrote w rate (take n (now end)) (r .writer)
+wrote κs w rate out end r s a n e = by (write-does κs w rate out end r s a)
+  where
+    -- a write that counts is not refused
+    by : Writes w rate (now end) r → Wrote w rate (take n (now end)) (r .writer)
+    by (no-frame why k same) = absurd (false≢true (cc))
+    by (one-frame h given counts first meant next) =
+        let z : n ≡ length (frameBytes (writeShare h (means w) .frame)) = (cc) in
+        record { share = h; given = given; accepted = share-within w (s .valid) rate given .accepted; bytes = rw z first; meant = meant }
 
 -- so a write is one of the model, or changes nothing
 pub write-moves : (w : CCDataWriter) (rate : Framerate) (end : List ℕ) (r : WriterCount) → Sound w → Writes w rate end r

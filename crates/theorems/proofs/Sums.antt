@@ -1,11 +1,10 @@
 -- With the padding that fills it, a budget that is carried is shown by the bytes of the frames, and over the writes at one rate it adds up to what these
 -- are due. Assumes nothing.
 use mathlib.Core.Path.{_≡_, sym, ap, _∙_}
-use mathlib.Core.Bool.{true, false, false≢true}
+use mathlib.Core.Bool.{true, false}
 use mathlib.Core.List.{List}
 use Prim.Native.Nat.{ℕ}
 use contract.Lifetimes.{Lfts}
-use denote.Ref.{now}
 use Rattle.model.specs.Rate.{rate, Share, carriedOn}
 use Rattle.model.specs.Mux.{Mux, withMode, flushMux}
 use Rattle.model.proofs.Carrying.{share-on}
@@ -21,20 +20,20 @@ use Rattle.theorems.specs.Items.{Items}
 use Rattle.theorems.specs.Allowed.{Lent, SetCarrying, Flush, Write}
 use Rattle.theorems.specs.Writing.{Calls, Reached, Tested, Stays}
 use Rattle.theorems.specs.Sums.{StartsAfresh, NothingCarried, AddsUp}
-use Rattle.theorems.proofs.Frames.{Writes, no-frame, one-frame, write-does}
+use Rattle.theorems.proofs.Frames.{Wrote, wrote}
 use Rattle.theorems.proofs.Sequences.{follows}
 use Rattle.theorems.proofs.Answered.{given}
 use Rattle.theorems.proofs.Reached.{holds}
 use Rattle.theorems.proofs.Bounds.{carrying-means}
 
 -- what an accepted write keeps
-kept-by : (w : CCDataWriter) (speed : Framerate) (end : List ℕ) (r : WriterCount) → w .carrying ≡ true → (n : ℕ) → r .answer ≡ counted.Count n → Writes w speed end r
-    → (r .writer .carry .numer ≡ speed .numer) × (r .writer .carry .denom ≡ speed .denom)
+kept-by : {w w′ : CCDataWriter} {speed : Framerate} {frame : List ℕ} → w .carrying ≡ true → Wrote w speed frame w′ → (w′ .carry .numer ≡ speed .numer) × (w′ .carry .denom ≡ speed .denom)
 unfolding means carriedOn
-kept-by w speed end r on n e (no-frame why k same) = absurd (false≢true (cc))
-kept-by w speed end r on n e (one-frame h given counts first meant next) =
-    let s = share-on (speed .numer) (speed .denom) (means w .carry) (rw on at given) in
-    (ap (λ (x : Mux). x .carry .numer) meant ∙ ap (λ (x : Share). x .carry .numer) (s .is), ap (λ (x : Mux). x .carry .denom) meant ∙ ap (λ (x : Share). x .carry .denom) (s .is))
+kept-by {w} {speed} on k =
+    let s = share-on (speed .numer) (speed .denom) (means w .carry) (rw on at (k .given)) in (
+      ap (λ (x : Mux). x .carry .numer) (k .meant) ∙ ap (λ (x : Share). x .carry .numer) (s .is),
+      ap (λ (x : Mux). x .carry .denom) (k .meant) ∙ ap (λ (x : Share). x .carry .denom) (s .is),
+    )
 
 module _ {w : CCDataWriter} (d : Reached w) where
   -- Over the first accepted writes at an unchanged rate since the sum began afresh, whatever else is called between them (no flush, no change of mode):
@@ -75,4 +74,4 @@ module _ {w : CCDataWriter} (d : Reached w) where
   -- an accepted write in the mode keeps its numer and denom, so that at another rate a sum starts afresh (`other-numer`, `other-denom`)
   pub write-keeps : (κs : Lfts 1) (speed : Framerate) (out end : Lent) (r : WriterCount) → Write κs w speed out end r → w .carrying ≡ true → (n : ℕ) → r .answer ≡ counted.Count n
       → (r .writer .carry .numer ≡ speed .numer) × (r .writer .carry .denom ≡ speed .denom)
-  write-keeps κs speed out end r a on n e = kept-by w speed (now end) r on n e (write-does κs w speed out end r (holds d .sound) a)
+  write-keeps κs speed out end r a on n e = kept-by on (wrote κs w speed out end r (holds d .sound) a n e)

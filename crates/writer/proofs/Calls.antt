@@ -6,18 +6,18 @@ use Prim.Native.Nat.{ℕ, _+_, _-_, _*_, _≤_, _<_, min}
 use native.Mathlib.Omega.{arith}
 use borrow.Author.Tests.{lt-ltb, le-ltb, le-leb, ltb-true, ltb-false}
 use lib.Dec.{leb, ltb}
-use lib.ListN.{length, take, drop, replicate, length-append}
+use lib.ListN.{length, take, drop, replicate}
 use lib.Seq.{sets-eq, take-at}
 use Rattle.model.specs.Said.{Outcome, gave, refused, accepted, says, after, checked, measured, mapped, putInto, badValue}
 use Rattle.model.specs.Frame as model
-use Rattle.model.specs.Frame.{Cea608, field1, field2, Pair, pair, Triple, flat, frameBytes}
-use Rattle.model.specs.Rate.{Budgets, validCarry, Share, shareBy}
-use Rattle.model.specs.Mux.{Mux, Turned, turned, turnsDue, countDue, Sent, send, padding, framed, writeFrame, shareAt, writeShare, writeAt, Switch, withSwitch, withQueues, flushMux, pushPair, pushCea608, mostQueued}
+use Rattle.model.specs.Frame.{Cea608, field1, field2, Pair, pair, flat, frameBytes}
+use Rattle.model.specs.Rate.{validCarry, Share, shareBy}
+use Rattle.model.specs.Mux.{Mux, shareAt, writeShare, writeAt, Switch, withSwitch, withQueues, flushMux, pushPair, pushCea608, mostQueued}
 use Rattle.model.specs.Duration.{pairsDuration, bytesDuration, bytesLeft, field1Duration, field2Duration, packetDuration}
 use Rattle.model.proofs.Cases.{by-test, Gives}
 use Rattle.model.proofs.Frames.{flat-length, frame-length}
 use Rattle.model.proofs.Carrying.{Shared}
-use Rattle.model.proofs.MuxStates.{padding-few, count-most, count-room}
+use Rattle.model.proofs.MuxStates.{frame-most}
 use Rattle.caption.specs.Answers.{saidRefusal, saidAnswer}
 use Rattle.caption.specs.declared.Answer.{Answer}
 use Rattle.caption.specs.declared.Answer.the-variants as answer
@@ -42,7 +42,6 @@ use Rattle.writer_sending.specs.Slots.{triplesLeft, lengthsIn}
 use Rattle.writer_sending.proofs.Queues.{sets-own}
 use Rattle.writer_sending.proofs.Triples.{left-length, left-triples}
 use Rattle.writer_sending.proofs.Sends.{lengths-queued}
-use Rattle.writer_sending.proofs.Fills.{send-few}
 use Rattle.writer.proofs.Valid.{Shaped, Ok, Order, valid-order, valid-ok, valid-carry, valid-mux, share-within}
 use Rattle.writer.proofs.Builds.{laid, Builds, built-is, means-frame}
 use Rattle.writer.proofs.Stored.{Grows, grows-switch, grows-pair, stored-switch, stored-first, stored-second, means-stored, means-emptied}
@@ -192,17 +191,6 @@ laid-bytes f h =
     rw (sets-eq (flat (f .triples)) (headed (f .count) .bytes) 2 (omega (arith, flat-length (f .triples))))
     (take-at ((0xC0 + f .count) ∷ 0xFF ∷ flat (f .triples)) (drop n (headed (f .count) .bytes)) n (omega arith))
 
--- a frame has no more triples than its count
-pub few-triples : (b : Budgets) (s : Mux) → b .pairs ≤ b .triples → length (writeFrame b s .frame .triples) ≤ countDue b s
-unfolding writeFrame framed
-few-triples b s h =
-    let n : ℕ = countDue b s in
-    let t : Turned = turned (turnsDue (b .pairs) s) s in
-    let o : Sent = send (n - length (t .out)) (s .sending) (s .packets) in
-    let p : List Triple = padding (s .padOut) (n - length (t .out) - length (o .out)) in
-    rw (length-append (t .out) (o .out ++ p), length-append (o .out) p)
-    (omega (arith, count-room b s h, send-few (n - length (t .out)) (s .sending) (s .packets), padding-few (s .padOut) (n - length (t .out) - length (o .out))))
-
 -- writing a frame
 module _ (w : CCDataWriter) (rate : Framerate) (out : List ℕ) where
   -- on a refusal all stays as it was
@@ -244,7 +232,7 @@ module _ (w : CCDataWriter) (rate : Framerate) (out : List ℕ) where
 
       -- no more triples than a frame may have
       triples-most : length (writeShare h (means w) .frame .triples) ≤ 31
-      triples-most = omega (arith, few-triples (h .budgets) (means w) (sane .0), count-most (h .budgets) (means w), sane)
+      triples-most = omega (arith, frame-most (h .budgets) (means w) (shared .accepted) (valid-mux w within), frame-length (writeShare h (means w) .frame))
 
       -- an output that is too short
       wrote-short : length out < f .frame .len → Writes rate out w (record { answer = counted.Refused (OutShort (f .frame .len)); writer = w }) out

@@ -11,16 +11,14 @@ use Rattle.model.specs.Said.{gave, putInto}
 use Rattle.model.specs.Frame.{frameBytes}
 use Rattle.model.specs.Rate.{Share}
 use Rattle.model.specs.Mux.{freshMux, started, shareAt, writeShare, writeAt}
-use Rattle.model.proofs.Frames.{frame-length}
-use Rattle.model.proofs.MuxStates.{count-most}
+use Rattle.model.proofs.MuxStates.{frame-most}
 use Rattle.caption.proofs.Answers.{answerOf, refused-again}
 use Rattle.caption.specs.declared.Framerate.{Framerate}
 use Rattle.writer_queues.specs.Queue.{pairsOf, queueOf, pairBytes, queueOver}
 use Rattle.slots.specs.Slot.{writtenBytes}
 use Rattle.writer.specs.Writer.{means, validWriter, fresh}
 use Rattle.writer.specs.Calls.{saidMicros, written}
-use Rattle.writer.proofs.Valid.{share-within}
-use Rattle.writer.proofs.Calls.{few-triples}
+use Rattle.writer.proofs.Valid.{valid-mux, share-within}
 use Rattle.writer.specs.declared.CCDataWriter.{CCDataWriter}
 use Rattle.writer.specs.declared.Micros.{Micros}
 use Rattle.writer.specs.declared.Micros.the-variants.{Of, Refused}
@@ -49,8 +47,5 @@ pub write-given : (w : CCDataWriter) → validWriter w ≡ true → (rate : Fram
     → written rate out w ≡ (let f = frameBytes (writeShare h (means w) .frame) in gave (record { frame = f; out = f ++ drop (length f) out; next = writeShare h (means w) .next }))
 unfolding written writeAt putInto
 write-given w v rate out {h} e room =
-    let s = share-within w v rate e .accepted in
-    let b = h .budgets in
-    let within : b .pairs ≤ b .triples = omega (arith, s .apart) in
-    let n = frame-length (writeShare h (means w) .frame) in
-    rw (v, e, le-ltb (length out) (length (frameBytes (writeShare h (means w) .frame))) (omega (arith, n, few-triples b (means w) within, count-most b (means w), s .most)))
+    let most = frame-most (h .budgets) (means w) (share-within w v rate e .accepted) (valid-mux w v) in
+    rw (v, e, le-ltb (length out) (length (frameBytes (writeShare h (means w) .frame))) (omega arith))
