@@ -1,4 +1,5 @@
-"""A second reckoning of `ccscript`'s multiplexer, with its carrying mode and its true count: the lines that a script has to print.
+"""A second reckoning of `ccscript`'s readers of blocks and packets and of its multiplexer, with its carrying mode and its true count: the lines
+that a script has to print.
 
 It is written from the rules (docs/RULES.md, whose numbers stand in square brackets), with exact fractions. What a frame
 gets in the carrying mode is the difference of two sums, what is due up to it and what was due before it; no rest is handed
@@ -63,6 +64,16 @@ def block_length(block):
     return len(block_bytes(block)) if block.payload else 0
 
 
+def read_block(data, offset=0):
+    """The block at the front of bytes that stand at this offset ([B2] to [B5]), and how many bytes its header announces, itself among them."""
+    first = data[0] if data else 0
+    header, size = 2 if first > 0xE0 else 1, first % 32
+    refuse_if(len(data) < header, 14, header, len(data), offset)
+    refuse_if(len(data) < header + size, 15, header + size, len(data), offset)
+    number = data[1] % 64 if header == 2 else first // 32
+    return Block(number, data[header : header + size] if number else b""), header + size
+
+
 def new_packet(sequence):
     """[P14]"""
     refuse_if(sequence > 3, 6)
@@ -77,6 +88,19 @@ def packet_length(packet):
 def packet_room(packet):
     """[P9]"""
     return 128 - packet_length(packet)
+
+
+def read_packet(data, tidily):
+    """[P2] to [P6], [T1] and [T2]"""
+    refuse_if(not data, 13, 1, 0, 0)
+    size = 2 * (data[0] % 64) or 128
+    refuse_if(len(data) > size or tidily and len(data) < size, 13, size, len(data), 0)
+    blocks, at = [], 1
+    while at < len(data):
+        block, announced = read_block(data[at:], at)
+        blocks += [block] if block.payload else []
+        at += announced if tidily else block_length(block) or 1
+    return Packet(data[0] // 64, tuple(blocks))
 
 
 def push_block(packet, block):
@@ -245,7 +269,7 @@ def durations(mux):
 ANY = range(255)
 # By letter, how many argument bytes: the calls on the multiplexer, and all. `R` is of the demultiplexer, which is not reckoned.
 CALLS = {"S": [1], "q": [0], "1": [2], "2": [2], "w": [9], "u": [0], "x": [0]}
-OPERATIONS = {"b": [1], "c": ANY, "k": [1], "v": [0], "a": ANY[1:], "R": [0], "W": [0], "C": [16], **CALLS}
+OPERATIONS = {"b": [1], "c": ANY, "d": ANY, "p": ANY, "t": ANY, "k": [1], "v": [0], "a": ANY[1:], "R": [0], "W": [0], "C": [16], **CALLS}
 FRESH = Block(1), Packet(0), Multiplexer()
 
 
@@ -270,6 +294,12 @@ def carry_out(state, letter, args):
     match letter:
         case "b": s = new_block(args[0])
         case "c": s = push_to_block(s, args)
+        case "d":
+            s, _ = read_block(args)
+            return (s, p, w), (s.number, hexed(s.payload))
+        case "p" | "t":
+            p = read_packet(args, letter == "t")
+            return (s, p, w), (p.sequence, *(f"{number}:{hexed(payload)}" for number, payload in p.blocks))
         case "k": p = new_packet(args[0])
         case "v": p = push_block(p, s)
         case "a": p = push_run(p, args[0], args[1:])
@@ -300,6 +330,15 @@ def answer(state, record):
         if letter == "w":
             words.append(hexed(output(args[8])))
     return " ".join(map(str, words)), state
+
+
+def length_refusal(record):
+    """The number and the values with which a read of a block or a packet is refused that does not have its length."""
+    try:
+        carry_out(FRESH, chr(record[0]), bytes(record[1:]))
+    except Refused as refusal:
+        return refusal.args
+    return None, None, None, None
 
 
 def answers(records):

@@ -1,4 +1,4 @@
-"""Runs of `ccscript` over the crate and of the port's, and the reckoning beside them."""
+"""Runs of `ccscript` over the crate and of the port's, and the reckoning beside them and, for lengths, within the crate's."""
 import os, subprocess
 import reckoning, scripts
 
@@ -15,6 +15,21 @@ def lines(program, script):
     """What a program prints for a script, and how it ends; one that breaks off differs from one that ends."""
     run = subprocess.run(program, input=b"".join(map(scripts.encode, script)), capture_output=True)
     return run.stdout.decode().split("\n")[:-1] + [f"exit {run.returncode}"]
+
+
+def finer(op, line):
+    """A line over the crate, in which a wrong length of a packet or a block has its own number and its offset, which the crate does not
+    tell: the reckoning's, if that has the same two lengths. If not, the line stays as it is, and is like none of the port's."""
+    if not line.startswith("refused 13-15 "):
+        return line
+    number, expected, actual, offset = reckoning.length_refusal(scripts.encode(op)[3:])
+    return f"refused {number} {expected} {actual} {offset}" if line == f"refused 13-15 {expected} {actual}" else line
+
+
+def crate_lines(script):
+    """What `ccscript` over the crate prints for a script, with the finer numbers."""
+    told = lines(CRATE, script)
+    return [finer(op, line) for op, line in zip(script, told)] + told[len(script) :]
 
 
 def reckoned(script):

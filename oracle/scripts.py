@@ -1,7 +1,7 @@
 """Scripts for `ccscript`, by kind: all short ones, every limit from both sides, damaged copies of good bytes, any order of calls.
 
 An operation is a tuple of its letter and its arguments, or of "raw" and a record's bytes; a script is a list of operations.
-`generate(seed, written)` gives each kind with its scripts, and `generate_carrying(seed)` those of the carrying mode, which the
+`generate(seed, written)` gives each kind with its scripts, `generate_reading(seed)` those of reading that the reckoning knows, and `generate_carrying(seed)` those of the carrying mode, which the
 crate does not have. `generate_counting` and `generate_carrying_counting` give those with writes once more, with the true count.
 """
 import random, itertools
@@ -82,6 +82,16 @@ def packet_reading(count, op):
         for k in (size - 1, size, size + 1): groups.append([(op, ([n] + [0] * 200)[:k])])
     for _ in range(count): groups.append([(op, packet_bytes())] + ([("l",), ("o", R.choice([0, 1, 3, 128, 129, 200]))] if op == "p" else []))
     return batch(groups, 25)
+
+def cut_everywhere(count):
+    """Blocks and packets cut at every byte; of a packet also with a header that says the bytes left, so that it is read tidily too."""
+    for _ in range(count):
+        block, d = a_block(), packet_bytes(R.choice([4, 8, 20, 60, 128]))
+        s = [("d", block[:k]) for k in range(len(block) + 1)]
+        for k in range(min(len(d), 128) + 1):
+            fitting = [d[0] & 0xC0 | (k + 1) // 2 % 64, *d[1:k]] if k else []
+            s += [("p", d[:k]), ("p", fitting), ("t", fitting)]
+        yield s
 
 def a_run(room=None):
     n = R.choice([0, 1, 1, 2, 3, 5, 10, 15, 20, 29, 30, 31, 32, 33, 60, 100, 127, 128, 200, R.randrange(40)])
@@ -546,6 +556,7 @@ def generate(seed, written, scale=1.0):
     yield "blocks read", block_reading()
     yield "packets read", packet_reading(c(1500), "p")
     yield "packets read tidily", packet_reading(c(1500), "t")
+    yield "blocks and packets cut at every byte", cut_everywhere(c(150))
     yield "blocks pushed to and written", block_pushes(c(300))
     yield "packets pushed to and written", packet_pushes(c(600))
     yield "frames, whole and damaged", frames(c(1000))
@@ -560,6 +571,17 @@ def generate(seed, written, scale=1.0):
     yield "raw fields", raw_fields(c(300))
     yield "anything", anything(c(1000))
     yield "operations that are not there", not_there()
+
+def generate_reading(seed, scale=1.0):
+    """Kinds of reading, of operations that the reckoning knows."""
+    R.seed(seed + 2)
+    c = lambda n: max(1, int(n * scale))
+    for kind, op in (("blocks", "d"), ("packets", "p"), ("packets read tidily", "t")):
+        yield f"{kind}, every string of up to two bytes, by the reckoning", short_strings(op)
+    yield "blocks, every first two bytes, by the reckoning", block_headers()
+    yield "packets read tidily, every first two bytes, by the reckoning", packet_headers("t")
+    yield "packets read tidily, by the reckoning", packet_reading(c(1500), "t")
+    yield "blocks and packets cut at every byte, by the reckoning", cut_everywhere(c(300))
 
 def generate_counting(seed, written, scale=1.0):
     """The kinds with writes, with the true count."""

@@ -75,7 +75,7 @@ impl Demux {
         self.done.push(Done::Frame(frame.to_vec()));
         self.waiting.extend(delivered);
         self.pairs = self.list();
-        Ok(answer?)
+        answer.map_err(Refusal::of_frame)
     }
 
     pub fn draw(&mut self) -> Option<Item> {

@@ -5,7 +5,6 @@ use std::fmt;
 use cea708_types::{ParserError, WriterError};
 
 pub enum Refusal {
-    LengthMismatch(usize, usize),
     Cea608AfterCea708(usize),
     WouldOverflow(usize),
     ReadOnly,
@@ -16,6 +15,21 @@ pub enum Refusal {
     OutShort(usize),
     Full,
     BadValue,
+    FrameLengthWrong(usize, usize),
+    /// Of a packet or a block. The crate tells neither which nor where: 13, 14 or 15, without its offset.
+    LengthMismatch(usize, usize),
+}
+
+impl Refusal {
+    /// The crate's error of a frame, which it says to be one byte shorter than it has to be.
+    pub fn of_frame(error: ParserError) -> Self {
+        match error {
+            ParserError::LengthMismatch { expected, actual } => {
+                Self::FrameLengthWrong(expected + 1, actual)
+            }
+            other => other.into(),
+        }
+    }
 }
 
 impl From<ParserError> for Refusal {
@@ -43,7 +57,6 @@ impl From<WriterError> for Refusal {
 impl fmt::Display for Refusal {
     fn fmt(&self, f: &mut fmt::Formatter) -> fmt::Result {
         match self {
-            Self::LengthMismatch(expected, actual) => write!(f, "1 {expected} {actual}"),
             Self::Cea608AfterCea708(byte_pos) => write!(f, "2 {byte_pos}"),
             Self::WouldOverflow(over) => write!(f, "3 {over}"),
             Self::ReadOnly => write!(f, "4"),
@@ -54,6 +67,8 @@ impl fmt::Display for Refusal {
             Self::OutShort(needed) => write!(f, "9 {needed}"),
             Self::Full => write!(f, "10"),
             Self::BadValue => write!(f, "11"),
+            Self::FrameLengthWrong(expected, actual) => write!(f, "12 {expected} {actual}"),
+            Self::LengthMismatch(expected, actual) => write!(f, "13-15 {expected} {actual}"),
         }
     }
 }

@@ -11,7 +11,7 @@ use borrow.Author.Tests.{eq-eqb}
 use Rattle.model.specs.Said.{Said, accepted, badValue, measured}
 use Rattle.caption.specs.Answers.{saidRefusal, saidAnswer, saidCounted, saidTruth}
 use Rattle.caption.specs.declared.Refusal.{Refusal}
-use Rattle.caption.specs.declared.Refusal.the-variants.{LengthMismatch, Cea608AfterCea708, WouldOverflow, ReadOnly, EmptyService, BadNumber, BadRun, BadRate, OutShort, Full, BadValue}
+use Rattle.caption.specs.declared.Refusal.the-variants.{Cea608AfterCea708, WouldOverflow, ReadOnly, EmptyService, BadNumber, BadRun, BadRate, OutShort, Full, BadValue, FrameLengthWrong, PacketLengthWrong, BlockHeaderShort, BlockBodyShort}
 use Rattle.caption.specs.declared.Answer.{Answer}
 use Rattle.caption.specs.declared.Answer.the-variants as answer
 use Rattle.caption.specs.declared.Counted.{Counted}
@@ -19,11 +19,10 @@ use Rattle.caption.specs.declared.Counted.the-variants as counted
 use Rattle.caption.specs.declared.Truth.{Truth}
 use Rattle.caption.specs.declared.Truth.the-variants as truth
 
--- the table's rows, with the values that they carry
+-- the table's rows from 2 on, with the values that they carry
 abbrev refusals : List ℕ → List Refusal
 refusals v =
-    LengthMismatch (getD v 0 0) (getD v 1 0)
-    ∷ Cea608AfterCea708 (getD v 0 0)
+    Cea608AfterCea708 (getD v 0 0)
     ∷ WouldOverflow (getD v 0 0)
     ∷ ReadOnly
     ∷ EmptyService
@@ -33,17 +32,20 @@ refusals v =
     ∷ OutShort (getD v 0 0)
     ∷ Full
     ∷ BadValue
+    ∷ FrameLengthWrong (getD v 0 0) (getD v 1 0)
+    ∷ PacketLengthWrong (getD v 0 0) (getD v 1 0) (getD v 2 0)
+    ∷ BlockHeaderShort (getD v 0 0) (getD v 1 0) (getD v 2 0)
+    ∷ BlockBodyShort (getD v 0 0) (getD v 1 0) (getD v 2 0)
     ∷ []
 
 -- Every answer that gives values or refuses is taken back from what it says in the same way.
 module _ {A : Type 0} (given : List ℕ → A) (refused : Refusal → A) where
   -- 0 gives the values, any other number the table's row
   abbrev pub answerOf : Said → A
-  answerOf s = cond (eqb (s .number) 0) (given (s .values)) (refused (getD (refusals (s .values)) (s .number - 1) BadValue))
+  answerOf s = cond (eqb (s .number) 0) (given (s .values)) (refused (getD (refusals (s .values)) (s .number - 2) BadValue))
 
   -- so no refusal says what another says, and none says accepted
   pub refused-again : (why : Refusal) → answerOf (saidRefusal why) ≡ refused why
-  refused-again (LengthMismatch expected actual) = refl
   refused-again (Cea608AfterCea708 bytePos) = refl
   refused-again (WouldOverflow bytesOver) = refl
   refused-again ReadOnly = refl
@@ -54,6 +56,10 @@ module _ {A : Type 0} (given : List ℕ → A) (refused : Refusal → A) where
   refused-again (OutShort needed) = refl
   refused-again Full = refl
   refused-again BadValue = refl
+  refused-again (FrameLengthWrong expected actual) = refl
+  refused-again (PacketLengthWrong expected actual offset) = refl
+  refused-again (BlockHeaderShort expected actual offset) = refl
+  refused-again (BlockBodyShort expected actual offset) = refl
 
 -- so each has a number of its own, and that is not 0
 pub refusal-numbered : (why : Refusal) → saidRefusal why .number ≡ 0 → ⊥

@@ -1,9 +1,9 @@
 -- What the shared answers say [A1]: the number of a refusal in the table R, and the values that it carries. Assumes nothing.
 use mathlib.Core.Bool.{cond}
 use mathlib.Core.List.{[], _∷_}
-use Rattle.model.specs.Said.{Said, accepted, lengthMismatch, cea608AfterCea708, wouldOverflow, readOnly, emptyService, badNumber, badRun, badRate, outShort, full, badValue}
+use Rattle.model.specs.Said.{Said, accepted, cea608AfterCea708, wouldOverflow, readOnly, emptyService, badNumber, badRun, badRate, outShort, full, badValue, frameLengthWrong, packetLengthWrong, blockHeaderShort, blockBodyShort}
 use Rattle.caption.specs.declared.Refusal.{Refusal}
-use Rattle.caption.specs.declared.Refusal.the-variants.{LengthMismatch, Cea608AfterCea708, WouldOverflow, ReadOnly, EmptyService, BadNumber, BadRun, BadRate, OutShort, Full, BadValue}
+use Rattle.caption.specs.declared.Refusal.the-variants.{Cea608AfterCea708, WouldOverflow, ReadOnly, EmptyService, BadNumber, BadRun, BadRate, OutShort, Full, BadValue, FrameLengthWrong, PacketLengthWrong, BlockHeaderShort, BlockBodyShort}
 use Rattle.caption.specs.declared.Answer.{Answer}
 use Rattle.caption.specs.declared.Answer.the-variants as answer
 use Rattle.caption.specs.declared.Counted.{Counted}
@@ -13,7 +13,6 @@ use Rattle.caption.specs.declared.Truth.the-variants as truth
 
 -- the table, row by row
 abbrev pub saidRefusal : Refusal → Said
-saidRefusal (LengthMismatch expected actual) = lengthMismatch expected actual
 saidRefusal (Cea608AfterCea708 bytePos) = cea608AfterCea708 bytePos
 saidRefusal (WouldOverflow bytesOver) = wouldOverflow bytesOver
 saidRefusal ReadOnly = readOnly
@@ -24,6 +23,10 @@ saidRefusal BadRate = badRate
 saidRefusal (OutShort needed) = outShort needed
 saidRefusal Full = full
 saidRefusal BadValue = badValue
+saidRefusal (FrameLengthWrong expected actual) = frameLengthWrong expected actual
+saidRefusal (PacketLengthWrong expected actual offset) = packetLengthWrong expected actual offset
+saidRefusal (BlockHeaderShort expected actual offset) = blockHeaderShort expected actual offset
+saidRefusal (BlockBodyShort expected actual offset) = blockBodyShort expected actual offset
 
 -- accepted, with no value
 abbrev pub saidAnswer : Answer → Said

@@ -11,10 +11,10 @@ use basics::cut;
 
 // Why a call was refused.
 pub enum Refusal {
-    // A length rule fails.
-    LengthMismatch { expected: usize, actual: usize },
     // A valid 608 triple stands after a 708 triple.
-    Cea608AfterCea708 { byte_pos: usize },
+    Cea608AfterCea708 {
+        byte_pos: usize,
+    },
     // A run or a block does not fit, by this many bytes.
     WouldOverflow(usize),
     // A run is for service 0.
@@ -28,11 +28,36 @@ pub enum Refusal {
     // A frame rate has no budgets.
     BadRate,
     // The lent output is shorter than what would be written.
-    OutShort { needed: usize },
+    OutShort {
+        needed: usize,
+    },
     // No place is left.
     Full,
     // A state, packet or block breaks a limit.
     BadValue,
+    // A frame has another length than its count asks for.
+    FrameLengthWrong {
+        expected: usize,
+        actual: usize,
+    },
+    // A packet has another length than its header allows; it stands at offset 0.
+    PacketLengthWrong {
+        expected: usize,
+        actual: usize,
+        offset: usize,
+    },
+    // The header of the block that begins at this offset of the packet is cut short; a block read alone stands at 0.
+    BlockHeaderShort {
+        expected: usize,
+        actual: usize,
+        offset: usize,
+    },
+    // So is the payload behind its header.
+    BlockBodyShort {
+        expected: usize,
+        actual: usize,
+        offset: usize,
+    },
 }
 
 // The answer of a call that only accepts or refuses.

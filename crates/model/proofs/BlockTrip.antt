@@ -7,14 +7,14 @@ use lib.Dec.{ltb}
 use lib.ListN.{length, getD, length-append}
 use borrow.Author.Tests.{ne-eqb, le-ltb, ltb-true, ltb-false}
 use Rattle.model.specs.Said.{gave}
-use Rattle.model.specs.Block.{Block, topNumber, blockSize, headerLength, numberIn, needed, blockIn, readBlock, writtenBlock}
+use Rattle.model.specs.Block.{Block, topNumber, blockSize, headerLength, numberIn, isHeaderShort, needed, blockIn, readBlockAt, writtenBlock}
 use Rattle.model.specs.Packet.{plainMove, tidyMove}
 use Rattle.model.proofs.Cases.{by-test}
 use Rattle.model.proofs.Blocks.{Carriable, header-one, header-two, written-short, written-long, block-length, block-at, read-at, read-whole}
 
 -- what is known of bytes that begin with a written block
 pub record Begins (b : Block) (d : List ℕ) : Type 0 where
-  pub read : readBlock d ≡ gave b
+  pub read : (offset : ℕ) → readBlockAt offset d ≡ gave b
   pub block : blockIn d ≡ b
   pub tidy : headerLength (getD d 0 0) + blockSize (getD d 0 0) ≡ length (writtenBlock b)
 
@@ -60,8 +60,8 @@ module _ (b : Block) (rest : List ℕ) (f : Carriable b) where
   begins : Begins b (writtenBlock b ++ rest)
   begins = by-test (ltb (b .number) 7) (λ e. begins-short (ltb-true _ _ e)) (λ e. begins-long (ltb-false _ _ e))
 
-  -- a block that is written is read back
-  pub read-written : readBlock (writtenBlock b ++ rest) ≡ gave b
+  -- a block that is written is read back, wherever it stands
+  pub read-written : (offset : ℕ) → readBlockAt offset (writtenBlock b ++ rest) ≡ gave b
   read-written = begins .read
 
   -- the plain reader moves on past it
@@ -79,9 +79,9 @@ module _ (b : Block) (rest : List ℕ) (f : Carriable b) where
   written-some = by-test (ltb (b .number) 7) (λ e. rw (written-short b (ltb-true _ _ e)) (omega (arith, f .filled))) (λ e. rw (written-long b (ltb-false _ _ e)) (omega arith))
 
 -- the byte that fills an odd length is a block without payload, which both readers pass in one byte
-pub fill-read : (rest : List ℕ) → readBlock (0x00 ∷ rest) ≡ gave (record { number = 0; payload = [] })
-unfolding blockIn numberIn headerLength needed
-fill-read rest = rw (read-whole (0x00 ∷ rest) (simp (le-ltb (suc (length rest)) 1 (omega arith)) (omega arith)))
+pub fill-read : (offset : ℕ) (rest : List ℕ) → readBlockAt offset (0x00 ∷ rest) ≡ gave (record { number = 0; payload = [] })
+unfolding blockIn numberIn headerLength needed isHeaderShort
+fill-read offset rest = rw (read-whole offset (0x00 ∷ rest) (simp (le-ltb (suc (length rest)) 1 (omega arith)) (omega arith)))
 
 -- the plain reader passes it
 pub plain-fill : (rest : List ℕ) → plainMove (0x00 ∷ rest) ≡ 1

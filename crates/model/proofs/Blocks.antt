@@ -8,8 +8,8 @@ use lib.Dec.{eqb, leb, ltb}
 use lib.ListN.{length, getD, drop, length-append}
 use lib.Seq.{take-at}
 use borrow.Author.Tests.{eq-eqb, ne-eqb, le-leb, lt-ltb, le-ltb, leb-true}
-use Rattle.model.specs.Said.{gave, refused, lengthMismatch}
-use Rattle.model.specs.Block.{Block, validBlock, topNumber, blockSize, headerLength, numberIn, needed, isShort, blockIn, readBlock, writtenHeader, writtenBlock, blockLength}
+use Rattle.model.specs.Said.{gave, refused, blockHeaderShort, blockBodyShort}
+use Rattle.model.specs.Block.{Block, validBlock, topNumber, blockSize, headerLength, numberIn, isHeaderShort, needed, isShort, blockIn, shortAt, readBlockAt, readBlock, writtenHeader, writtenBlock, blockLength}
 use Rattle.model.specs.Packet.{carriable}
 use Rattle.model.proofs.Cases.{by-test, both}
 
@@ -58,15 +58,23 @@ pub header-bare : (h : ℕ) → blockSize h ≡ 0 → headerLength h ≡ 1
 unfolding headerLength
 header-bare h s = by-test (eqb (topNumber h) 7) (λ e. simp (e, eq-eqb _ _ s)) (λ e. simp e)
 
--- bytes missing, and none missing
-pub read-short : (d : List ℕ) → length d < needed d → readBlock d ≡ refused (lengthMismatch (needed d) (length d))
-unfolding readBlock isShort
-read-short d h = simp (lt-ltb _ _ h)
+-- bytes that are read as a block, at any offset
+module _ (offset : ℕ) (d : List ℕ) where
+  -- of the header some are missing
+  pub header-missing : length d < headerLength (getD d 0 0) → readBlockAt offset d ≡ refused (blockHeaderShort (headerLength (getD d 0 0)) (length d) offset)
+  unfolding readBlockAt shortAt isShort needed isHeaderShort
+  header-missing h = simp (lt-ltb _ _ h)
 
--- none missing
-pub read-whole : (d : List ℕ) → needed d ≤ length d → readBlock d ≡ gave (blockIn d)
-unfolding readBlock isShort
-read-whole d h = simp (le-ltb _ _ h)
+  -- the header is there, and of the payload some are missing
+  pub body-missing : headerLength (getD d 0 0) ≤ length d → length d < headerLength (getD d 0 0) + blockSize (getD d 0 0)
+      → readBlockAt offset d ≡ refused (blockBodyShort (headerLength (getD d 0 0) + blockSize (getD d 0 0)) (length d) offset)
+  unfolding readBlockAt shortAt isShort needed isHeaderShort
+  body-missing k h = simp (le-ltb _ _ k, lt-ltb _ _ h)
+
+  -- none is missing
+  pub read-whole : needed d ≤ length d → readBlockAt offset d ≡ gave (blockIn d)
+  unfolding readBlockAt isShort
+  read-whole h = simp (le-ltb _ _ h)
 
 -- what a block is written in
 pub written-short : (b : Block) → b .number < 7 → writtenBlock b ≡ (b .number * 32 + length (b .payload)) ∷ b .payload
@@ -113,7 +121,7 @@ module _ (d p rest : List ℕ) (n k : ℕ) (head : headerLength (getD d 0 0) ≡
     (named : n ≡ 0 → ⊥) (body : drop k d ≡ p ++ rest) (enough : k + length p ≤ length d) where
   -- so many bytes are needed
   pub needed-at : needed d ≡ k + length p
-  unfolding needed
+  unfolding needed isHeaderShort
   needed-at = simp (head, size, le-ltb (length d) k (omega arith))
 
   -- it is the block of that number and payload
@@ -121,6 +129,6 @@ module _ (d p rest : List ℕ) (n k : ℕ) (head : headerLength (getD d 0 0) ≡
   unfolding blockIn
   block-at = simp (number, ne-eqb _ _ named, head, size, body, take-at p rest (length p) refl)
 
-  -- and the reader gives it
-  pub read-at : readBlock d ≡ gave (record { number = n; payload = p })
-  read-at = rw (read-whole d (omega (arith, needed-at)), block-at)
+  -- and the reader gives it, wherever it stands
+  pub read-at : (offset : ℕ) → readBlockAt offset d ≡ gave (record { number = n; payload = p })
+  read-at offset = rw (read-whole offset d (omega (arith, needed-at)), block-at)

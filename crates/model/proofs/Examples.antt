@@ -5,7 +5,7 @@ use mathlib.Core.Bool.{true, false}
 use mathlib.Core.List.{List, [], _∷_, map}
 use Prim.Native.Nat.{ℕ}
 use Rattle.model.specs.Said.{Said, Outcome, gave, refused, mapped}
-use Rattle.model.specs.Block.{headerLength, numberIn, needed, isShort, blockIn, readBlock, writtenHeader, writtenBlock, blockLength}
+use Rattle.model.specs.Block.{Block, headerLength, numberIn, isHeaderShort, needed, isShort, blockIn, shortAt, readBlockAt, readBlock, writtenHeader, writtenBlock, blockLength}
 use Rattle.model.specs.Packet.{Packet, sequenceIn, packetSize, plainMove, tidyMove, blocksFrom, readBy, readPacket, reads, readTidy, blocksLength, packetLength, writtenBlocks, packetHeader, fill, writtenPacket}
 use Rattle.model.specs.Frame.{pair, Cea608, field1, field2, seen, seenAll, flat, triplesIn, flagged, frameBytes}
 use Rattle.model.specs.Demux.{turn608On, freshDemux, pairsIn, lateAfter, lateFrom, carries708, closed, packetsOf, kept, wants, gather, ended, gathered, takeGathered, takeTriples, unread, takeFrame}
@@ -17,7 +17,7 @@ use Rattle.model.specs.Run.{Call, pushes, pushes608, sets, call, run, re
 pub data Input : Type 0 where
   header : ℕ → Input
   written : Packet → Input
-  plain tidy : List ℕ → Input
+  plain tidy alone : List ℕ → Input
   frames : List (List ℕ) → Input
   frame readBack : ℕ → ℕ → List Call → Input
 
@@ -26,6 +26,7 @@ pub data Result : Type 0 where
   size : ℕ → ℕ → Result
   bytes : List ℕ → Result
   packet : Packet → Result
+  block : Block → Result
   refusal : Said → Result
   items : List Said → List Cea608 → List Packet → Result
 
@@ -58,6 +59,7 @@ answer (header h) = size (sequenceIn h) (packetSize h)
 answer (written p) = bytes (writtenPacket p)
 answer (plain d) = told packet (readPacket d)
 answer (tidy d) = told packet (readTidy d)
+answer (alone d) = told block (readBlock d)
 answer (frames fs) = read fs
 answer (frame numer denom calls) = told bytes (afterCalls numer denom calls)
 answer (readBack numer denom calls) = told (λ f. read (f ∷ [])) (afterCalls numer denom calls)
@@ -82,13 +84,19 @@ table =
     ∷ row (header 0xFF) (size 3 126)
     ∷ row (written (one 2 1 (0x41 ∷ []))) (bytes (0x82 ∷ 0x21 ∷ 0x41 ∷ 0x00 ∷ []))
     ∷ row (plain (0x02 ∷ 0xE1 ∷ 0x07 ∷ 0x41 ∷ [])) (packet (one 0 7 (0x41 ∷ [])))
-    ∷ row (plain (0x02 ∷ 0xE1 ∷ 0x01 ∷ 0x41 ∷ [])) (refusal (says 1 (2 ∷ 1 ∷ [])))
+    ∷ row (plain (0x02 ∷ 0xE1 ∷ 0x01 ∷ 0x41 ∷ [])) (refusal (says 15 (2 ∷ 1 ∷ 3 ∷ [])))
     ∷ row (plain (0x02 ∷ 0x01 ∷ 0x21 ∷ 0x41 ∷ [])) (packet (one 0 1 (0x41 ∷ [])))
-    ∷ row (tidy (0x02 ∷ 0x01 ∷ 0x21 ∷ 0x41 ∷ [])) (refusal (says 1 (2 ∷ 1 ∷ [])))
-    ∷ row (plain (0x01 ∷ 0x21 ∷ 0x41 ∷ 0x00 ∷ [])) (refusal (says 1 (2 ∷ 4 ∷ [])))
+    ∷ row (tidy (0x02 ∷ 0x01 ∷ 0x21 ∷ 0x41 ∷ [])) (refusal (says 15 (2 ∷ 1 ∷ 3 ∷ [])))
+    ∷ row (plain (0x01 ∷ 0x21 ∷ 0x41 ∷ 0x00 ∷ [])) (refusal (says 13 (2 ∷ 4 ∷ 0 ∷ [])))
     ∷ row (plain (0x08 ∷ 0x21 ∷ 0x41 ∷ [])) (packet (one 0 1 (0x41 ∷ [])))
-    ∷ row (tidy (0x08 ∷ 0x21 ∷ 0x41 ∷ [])) (refusal (says 1 (16 ∷ 3 ∷ [])))
-    ∷ row (frames ((0xC2 ∷ 0xFF ∷ 0xFF ∷ 0x02 ∷ 0x21 ∷ []) ∷ [])) (items (says 1 (7 ∷ 5 ∷ []) ∷ []) [] [])
+    ∷ row (tidy (0x08 ∷ 0x21 ∷ 0x41 ∷ [])) (refusal (says 13 (16 ∷ 3 ∷ 0 ∷ [])))
+    ∷ row (plain (0x04 ∷ 0x21 ∷ 0x41 ∷ 0xE2 ∷ [])) (refusal (says 14 (2 ∷ 1 ∷ 3 ∷ [])))
+    ∷ row (plain (0x04 ∷ 0x21 ∷ 0x41 ∷ 0xE2 ∷ 0x07 ∷ 0x42 ∷ [])) (refusal (says 15 (4 ∷ 3 ∷ 3 ∷ [])))
+    ∷ row (plain []) (refusal (says 13 (1 ∷ 0 ∷ 0 ∷ [])))
+    ∷ row (tidy []) (refusal (says 13 (1 ∷ 0 ∷ 0 ∷ [])))
+    ∷ row (alone []) (refusal (says 14 (1 ∷ 0 ∷ 0 ∷ [])))
+    ∷ row (alone (0x22 ∷ 0x41 ∷ [])) (refusal (says 15 (3 ∷ 2 ∷ 0 ∷ [])))
+    ∷ row (frames ((0xC2 ∷ 0xFF ∷ 0xFF ∷ 0x02 ∷ 0x21 ∷ []) ∷ [])) (items (says 12 (8 ∷ 5 ∷ []) ∷ []) [] [])
     ∷ row (frames ((0xC2 ∷ 0xFF ∷ 0xFA ∷ 0x00 ∷ 0x00 ∷ 0xFC ∷ 0x94 ∷ 0x2C ∷ []) ∷ [])) (items (says 2 (3 ∷ []) ∷ []) [] [])
     ∷ row (frames ((0xC1 ∷ 0xFF ∷ 0xFF ∷ 0x02 ∷ 0x21 ∷ []) ∷ [])) (items (says 0 [] ∷ []) [] [])
     ∷ row
@@ -98,7 +106,7 @@ table =
     ∷ row
     (frame 30 1 silentTurn)
     (bytes (0xC4 ∷ 0xFF ∷ 0xFC ∷ 0x94 ∷ 0x2C ∷ 0xFF ∷ 0x82 ∷ 0x21 ∷ 0xFE ∷ 0x41 ∷ 0x00 ∷ []))
-    ∷ row (readBack 30 1 silentTurn) (items (says 1 (13 ∷ 11 ∷ []) ∷ []) [] [])
+    ∷ row (readBack 30 1 silentTurn) (items (says 12 (14 ∷ 11 ∷ []) ∷ []) [] [])
     ∷ row
     (frame 30 1 (sets (trueCounting true) ∷ silentTurn))
     (bytes (0xC3 ∷ 0xFF ∷ 0xFC ∷ 0x94 ∷ 0x2C ∷ 0xFF ∷ 0x82 ∷ 0x21 ∷ 0xFE ∷ 0x41 ∷ 0x00 ∷ []))
@@ -112,7 +120,7 @@ table =
 -- every row computes to its result
 pub examples : map (λ (r : Row). answer (r .input)) table ≡ map (λ (r : Row). r .result) table
 unfolding table
-    headerLength numberIn needed isShort blockIn readBlock writtenHeader writtenBlock blockLength
+    headerLength numberIn isHeaderShort needed isShort blockIn shortAt readBlockAt writtenHeader writtenBlock blockLength
     packetSize plainMove tidyMove blocksFrom readBy readPacket reads readTidy blocksLength packetLength writtenBlocks packetHeader fill writtenPacket
     seen seenAll flat triplesIn flagged frameBytes
     pairsIn lateAfter lateFrom carries708 closed packetsOf kept wants gather ended gathered takeGathered takeTriples unread takeFrame

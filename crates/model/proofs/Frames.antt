@@ -8,7 +8,7 @@ use native.Mathlib.Omega.{arith}
 use lib.Dec.{eqb}
 use lib.ListN.{length, getD, take, drop, length-append}
 use borrow.Author.Tests.{eq-eqb, ne-eqb, lt-ltb, le-ltb}
-use Rattle.model.specs.Said.{Outcome, gave, refused, isGiven, accepted, lengthMismatch, full}
+use Rattle.model.specs.Said.{Outcome, gave, refused, isGiven, accepted, full, frameLengthWrong}
 use Rattle.model.specs.Packet.{Packet, packetSize, readPacket, reads}
 use Rattle.model.specs.Frame.{Triple, tri, Cea608, Seen, first, second, start, more, void608, void708, seenAll, triplesIn, flat, flagged, countIn, Frame, frameBytes, mostFrame}
 use Rattle.model.specs.Demux.{Demux, Gathered, withPairs, pairsIn, lateFrom, carries708, givenIn, closed, packetsOf, kept, wants, gather, ended, gathered, takeGathered, takeTriples, unread, takeFrame}
@@ -41,8 +41,8 @@ module _ (n : ℕ) (f : List ℕ) (d : Demux) (a : Announces n f) where
   unfolding unread
   read-it = simp (le-ltb _ _ (a .bytes), a .flag, a .count, ne-eqb n 0 (λ e. omega (arith, a .some)))
 
-  -- a wrong length is 1, with 3n+1 expected [F3]
-  pub take-mismatch : (length f ≡ 3 * n + 2 → ⊥) → takeFrame f d ≡ record { answer = lengthMismatch (3 * n + 1) (length f); runs = []; next = withPairs [] d }
+  -- a wrong length is 12, with 3n+2 expected [F3]
+  pub take-mismatch : (length f ≡ 3 * n + 2 → ⊥) → takeFrame f d ≡ record { answer = frameLengthWrong (3 * n + 2) (length f); runs = []; next = withPairs [] d }
   unfolding takeFrame
   take-mismatch ne = simp (read-it, a .count, ne-eqb _ _ ne)
 

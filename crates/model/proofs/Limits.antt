@@ -10,7 +10,7 @@ use lib.Seq.{length-take-le}
 use borrow.Author.Tests.{eq-eqb, ne-eqb, le-leb, eqb-true, eqb-false, ltb-true, ltb-false, not-false}
 use Rattle.model.specs.Lists.{every}
 use Rattle.model.specs.Said.{gave}
-use Rattle.model.specs.Block.{Block, validBlock, topNumber, blockSize, headerLength, numberIn, needed, isShort, blockIn, readBlock, blockLength}
+use Rattle.model.specs.Block.{Block, validBlock, topNumber, blockSize, headerLength, numberIn, isHeaderShort, needed, isShort, blockIn, readBlockAt, readBlock, blockLength}
 use Rattle.model.specs.Packet.{Packet, packetSize, plainMove, tidyMove, kept, blocksFrom, readBy, readPacket, readTidy, blocksLength, packetLength, carriable}
 use Rattle.model.proofs.Cases.{by-test, by-cond, and-both, Gives, gives-then, gives-mapped, gives-at}
 use Rattle.model.proofs.Blocks.{Carriable, facts-carriable, header-one, header-two, header-bare, block-length, block-length-none, length-short, length-long}
@@ -61,7 +61,7 @@ payload-none d z = simp (eq-eqb _ _ z)
 module _ (d : List ℕ) (whole : needed d ≤ length d) where
   -- the header and its body are there
   pub all-there : headerLength (getD d 0 0) + blockSize (getD d 0 0) ≤ length d
-  unfolding needed
+  unfolding needed isHeaderShort
   all-there =
       by-test (ltb (length d) (headerLength (getD d 0 0)))
       (λ e. let w : headerLength (getD d 0 0) ≤ length d = simp e at whole in absurd (omega (arith, ltb-true (length d) (headerLength (getD d 0 0)) e)))
@@ -162,15 +162,15 @@ block-valid d whole =
 
 -- a block that the reader gives breaks no limit
 pub read-valid : (d : List ℕ) {b : Block} → readBlock d ≡ gave b → validBlock b ≡ true
-unfolding readBlock isShort
+unfolding readBlockAt isShort
 read-valid d e =
     gives-at (λ (b : Block). validBlock b ≡ true) _ e
     (by-cond (Gives (λ (b : Block). validBlock b ≡ true)) (ltb (length d) (needed d)) (λ _. tt) (λ q. block-valid d (ltb-false _ _ q)))
 
 -- a block reader gives blocks of that kind
-read-gives : (d : List ℕ) → Gives (ReadFrom d) (readBlock d)
-unfolding readBlock isShort
-read-gives d = by-cond (Gives (ReadFrom d)) (ltb (length d) (needed d)) (λ _. tt) (λ e. read-from d (ltb-false _ _ e))
+read-gives : (offset : ℕ) (d : List ℕ) → Gives (ReadFrom d) (readBlockAt offset d)
+unfolding readBlockAt isShort
+read-gives offset d = by-cond (Gives (ReadFrom d)) (ltb (length d) (needed d)) (λ _. tt) (λ e. read-from d (ltb-false _ _ e))
 
 -- blocks that are within the limits and written in at most n bytes
 pub record Within (n : ℕ) (bs : List Block) : Type 0 where
@@ -199,15 +199,15 @@ size-most h = by-cond (λ n. n ≤ 128) (eqb (h % 64) 0) (λ _. omega arith) (λ
 -- a way of moving on that stays within the bytes and behind no written block
 module _ (move : List ℕ → ℕ) (moves : (d : List ℕ) (b : Block) → ReadFrom d b → Moves (move d) (length d) (blockLength b)) where
   -- the blocks read from some bytes are written in no more of them
-  pub blocks-within : (k : ℕ) (d : List ℕ) → k ≤ length d → Gives (Within (length d - k)) (blocksFrom move k d)
+  pub blocks-within : (offset k : ℕ) (d : List ℕ) → k ≤ length d → Gives (Within (length d - k)) (blocksFrom move offset k d)
   unfolding blocksFrom every blocksLength
-  blocks-within k [] h = record { carriable = refl; short = omega arith }
-  blocks-within (suc k) (x ∷ d) h = let e : suc (length d) - suc k ≡ length d - k = omega arith in rw e (blocks-within k d (omega arith))
-  blocks-within zero (x ∷ d) h =
-      gives-then (Within (suc (length d) - 0)) (ReadFrom (x ∷ d)) (readBlock (x ∷ d)) _ (read-gives (x ∷ d))
+  blocks-within offset k [] h = record { carriable = refl; short = omega arith }
+  blocks-within offset (suc k) (x ∷ d) h = let e : suc (length d) - suc k ≡ length d - k = omega arith in rw e (blocks-within (suc offset) k d (omega arith))
+  blocks-within offset zero (x ∷ d) h =
+      gives-then (Within (suc (length d) - 0)) (ReadFrom (x ∷ d)) (readBlockAt offset (x ∷ d)) _ (read-gives offset (x ∷ d))
       (λ b f. let m = moves (x ∷ d) b f in
-      gives-mapped (Within (suc (length d) - 0)) (Within (length d - (move (x ∷ d) - 1))) (blocksFrom move (move (x ∷ d) - 1) d) (kept b)
-      (blocks-within (move (x ∷ d) - 1) d (omega (arith, m .least, m .most)))
+      gives-mapped (Within (suc (length d) - 0)) (Within (length d - (move (x ∷ d) - 1))) (blocksFrom move (suc offset) (move (x ∷ d) - 1) d) (kept b)
+      (blocks-within (suc offset) (move (x ∷ d) - 1) d (omega (arith, m .least, m .most)))
       (λ bs w. let v = within-kept b bs (length d - (move (x ∷ d) - 1)) (f .carried) w in
       record { carriable = v .carriable; short = omega (arith, v .short, m .least, m .most, m .covers) }))
 
@@ -218,7 +218,7 @@ module _ (move : List ℕ → ℕ) (moves : (d : List ℕ) (b : Block) → ReadF
       by-cond (Gives Valid) (eqb (length d) 0) (λ _. tt)
       (λ e. by-cond (Gives Valid) (wrong (packetSize (getD d 0 0)) (length d)) (λ _. tt)
       (λ r. let l = short r in
-      gives-mapped Valid (Within (length (drop 1 d) - 0)) (blocksFrom move 0 (drop 1 d)) _ (blocks-within 0 (drop 1 d) (omega arith))
+      gives-mapped Valid (Within (length (drop 1 d) - 0)) (blocksFrom move 1 0 (drop 1 d)) _ (blocks-within 1 0 (drop 1 d) (omega arith))
       (λ bs w. record { sequence = omega arith; blocks = w .carriable; length = packet-short _ bs (omega (arith, w .short, length-drop 1 d)) })))
 
 -- the plain reader

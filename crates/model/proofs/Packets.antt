@@ -113,13 +113,15 @@ module _ (p : Packet) (v : Valid p) (some : 1 ≤ length (p .blocks)) where
 -- written blocks and the byte that may fill them are read as the blocks
 module _ (move : List ℕ → ℕ) (passes : Passes move) where
   -- the filling alone is no block
-  filled-none : (n : ℕ) → blocksFrom move 0 (fill n) ≡ gave []
+  filled-none : (offset n : ℕ) → blocksFrom move offset 0 (fill n) ≡ gave []
   unfolding fill
-  filled-none n = by-test (eqb (n % 2) 1) (λ e. simp e (blocks-fill move passes [] ∙ blocks-none move)) (λ e. simp e (blocks-none move))
+  filled-none offset n =
+      by-test (eqb (n % 2) 1) (λ e. simp e (blocks-fill move passes offset [] ∙ blocks-none move (offset + 1))) (λ e. simp e (blocks-none move offset))
 
   -- the blocks are read back
-  pub blocks-back : (bs : List Block) (n : ℕ) → every carriable bs ≡ true → blocksFrom move 0 (writtenBlocks bs ++ fill n) ≡ gave bs
-  blocks-back bs n ok = blocks-written move passes bs (fill n) ok ∙ rw (filled-none n) (ap gave (append-nil bs))
+  pub blocks-back : (offset : ℕ) (bs : List Block) (n : ℕ) → every carriable bs ≡ true → blocksFrom move offset 0 (writtenBlocks bs ++ fill n) ≡ gave bs
+  blocks-back offset bs n ok =
+      blocks-written move passes offset bs (fill n) ok ∙ rw (filled-none (offset + length (writtenBlocks bs)) n) (ap gave (append-nil bs))
 
   -- a reader whose length rule the written packet meets
   pub back-by : (wrong : ℕ → ℕ → Bool) (p : Packet) → Valid p → wrong (packetSize (packetHeader p)) (length (writtenPacket p)) ≡ false
@@ -129,7 +131,7 @@ module _ (move : List ℕ → ℕ) (passes : Passes move) where
       let top : sequenceIn (p .sequence * 64 + (packetLength p + 1) / 2 % 64) ≡ p .sequence = omega (arith, v .sequence) in
       let n : eqb (suc (length (writtenBlocks (p .blocks) ++ fill (packetLength p)))) 0 ≡ false =
       ne-eqb (suc (length (writtenBlocks (p .blocks) ++ fill (packetLength p)))) 0 (λ e. omega arith) in
-      rw (n, fits, blocks-back (p .blocks) (packetLength p) (v .blocks)) (ap (λ (q : ℕ). gave (record { sequence = q; blocks = p .blocks })) top)
+      rw (n, fits, blocks-back 1 (p .blocks) (packetLength p) (v .blocks)) (ap (λ (q : ℕ). gave (record { sequence = q; blocks = p .blocks })) top)
 
 -- a written packet is not longer than its header says
 empty-size : (q : ℕ) → packetSize (packetHeader (record { sequence = q; blocks = [] })) ≡ 128

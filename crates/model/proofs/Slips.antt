@@ -7,7 +7,7 @@ use Prim.Native.Nat.{ℕ}
 use lib.ListN.{replicate}
 use Rattle.model.specs.Said.{Said, gave, checked, putInto}
 use Rattle.model.specs.Said as said
-use Rattle.model.specs.Block.{Block, headerLength, numberIn, needed, isShort, blockIn, readBlock, newBlock, pushToBlock, writtenHeader, writtenBlock, blockLength}
+use Rattle.model.specs.Block.{Block, headerLength, numberIn, isHeaderShort, needed, isShort, blockIn, shortAt, readBlockAt, readBlock, newBlock, pushToBlock, writtenHeader, writtenBlock, blockLength}
 use Rattle.model.specs.Packet.{Packet, packetSize, plainMove, blocksFrom, readBy, readPacket, reads, blocksLength, packetLength, pushBlock, latestOf, pushNew, pushAt, pushRunAt, pushRunBy, pushRun, pushRunSingle}
 use Rattle.model.specs.Frame.{pair, field1, seen, seenAll, triplesIn, flagged}
 use Rattle.model.specs.Demux.{turn608On, freshDemux, pairsIn, lateAfter, lateFrom, carries708, closed, packetsOf, kept, wants, gather, ended, gathered, takeGathered, takeTriples, unread, takeFrame}
@@ -28,7 +28,7 @@ halves = (0xC1 ∷ 0xFF ∷ 0xFF ∷ 0x02 ∷ 0x21 ∷ []) ∷ (0xC1 ∷ 0xFF �
 -- a frame of 608 data keeps the bytes that are pending: the packet comes whole, and so does the pair
 pub pending-kept : given halves .packets ≡ one 0 1 (0x41 ∷ []) ∷ []
 unfolding
-    headerLength numberIn needed isShort blockIn readBlock packetSize plainMove blocksFrom readBy readPacket reads writtenHeader writtenBlock blockLength
+    headerLength numberIn isHeaderShort needed isShort blockIn readBlockAt packetSize plainMove blocksFrom readBy readPacket reads writtenHeader writtenBlock blockLength
     seen seenAll triplesIn flagged pairsIn lateAfter lateFrom carries708 closed packetsOf kept wants gather ended gathered takeGathered takeTriples unread takeFrame readFrames
 pending-kept = refl
 
@@ -62,8 +62,7 @@ full-block = refl
 -- Each refusal [A1], by one call that gives it.
 unfoldable pub refusals : List Said
 refusals =
-    said.says (readPacket [])
-    ∷ takeFrame (0xC2 ∷ 0xFF ∷ 0xFA ∷ 0x00 ∷ 0x00 ∷ 0xFC ∷ 0x94 ∷ 0x2C ∷ []) freshDemux .answer
+    takeFrame (0xC2 ∷ 0xFF ∷ 0xFA ∷ 0x00 ∷ 0x00 ∷ 0xFC ∷ 0x94 ∷ 0x2C ∷ []) freshDemux .answer
     ∷ said.says (pushToBlock (run 33) (block 1 []))
     ∷ said.says (pushToBlock (run 1) (block 0 []))
     ∷ said.says (pushBlock (block 1 []) bare)
@@ -73,12 +72,17 @@ refusals =
     ∷ said.says (putInto (0x00 ∷ []) (run 3))
     ∷ said.says (pushPair (pair 0x94 0x2C) (replicate 64 (pair 0x94 0x2C)))
     ∷ said.says (checked false (gave bare))
+    ∷ takeFrame (0xC2 ∷ 0xFF ∷ 0xFF ∷ 0x02 ∷ 0x21 ∷ []) freshDemux .answer
+    ∷ said.says (readPacket [])
+    ∷ said.says (readBlock [])
+    ∷ said.says (readBlock (0x22 ∷ 0x41 ∷ []))
     ∷ []
 
 -- their numbers, and the values that they carry
 pub refusals-told : refusals
-    ≡ says 1 (1 ∷ 0 ∷ []) ∷ says 2 (3 ∷ []) ∷ says 3 (2 ∷ []) ∷ says 4 [] ∷ says 5 [] ∷ says 6 [] ∷ says 7 [] ∷ says 8 [] ∷ says 9 (3 ∷ []) ∷ says 10 [] ∷ says 11 [] ∷ []
+    ≡ says 2 (3 ∷ []) ∷ says 3 (2 ∷ []) ∷ says 4 [] ∷ says 5 [] ∷ says 6 [] ∷ says 7 [] ∷ says 8 [] ∷ says 9 (3 ∷ []) ∷ says 10 [] ∷ says 11 []
+    ∷ says 12 (8 ∷ 5 ∷ []) ∷ says 13 (1 ∷ 0 ∷ 0 ∷ []) ∷ says 14 (1 ∷ 0 ∷ 0 ∷ []) ∷ says 15 (3 ∷ 2 ∷ 0 ∷ []) ∷ []
 unfolding
-    refusals readBy readPacket packetSize seen seenAll triplesIn flagged pairsIn lateAfter lateFrom takeTriples unread takeFrame pushToBlock blockLength blocksLength packetLength pushBlock
+    refusals headerLength isHeaderShort needed isShort shortAt readBlockAt readBy readPacket packetSize seen seenAll triplesIn flagged pairsIn lateAfter lateFrom takeTriples unread takeFrame pushToBlock blockLength blocksLength packetLength pushBlock
     newBlock rounded budgets putInto isNull queued pushPair
 refusals-told = refl

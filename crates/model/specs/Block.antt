@@ -4,7 +4,7 @@ use mathlib.Core.List.{List, [], _∷_, _++_}
 use Prim.Native.Nat.{ℕ, _+_, _-_, _*_, _/_, _%_}
 use lib.Dec.{eqb, leb, ltb}
 use lib.ListN.{length, getD, take, drop}
-use Rattle.model.specs.Said.{Outcome, gave, refused, lengthMismatch, wouldOverflow, readOnly, badNumber, badRun}
+use Rattle.model.specs.Said.{Said, Outcome, gave, refused, wouldOverflow, readOnly, badNumber, badRun, blockHeaderShort, blockBodyShort}
 
 -- a block: its number and its payload [B1]
 pub record Block : Type 0 where
@@ -39,9 +39,13 @@ headerLength h = cond (eqb (topNumber h) 7 && not (eqb (blockSize h) 0)) 2 1
 unfoldable pub numberIn : List ℕ → ℕ
 numberIn d = cond (eqb (headerLength (getD d 0 0)) 2) (getD d 1 0 % 64) (topNumber (getD d 0 0))
 
+-- whether any byte of the header is missing [B4]
+unfoldable pub isHeaderShort : List ℕ → Bool
+isHeaderShort d = ltb (length d) (headerLength (getD d 0 0))
+
 -- how many bytes are wanted: the header's, and once they are there its payload's too [B4]
 unfoldable pub needed : List ℕ → ℕ
-needed d = let h = getD d 0 0 in cond (ltb (length d) (headerLength h)) (headerLength h) (headerLength h + blockSize h)
+needed d = let h = getD d 0 0 in cond (isHeaderShort d) (headerLength h) (headerLength h + blockSize h)
 
 -- whether any of them are missing [B4]
 unfoldable pub isShort : List ℕ → Bool
@@ -53,9 +57,17 @@ blockIn d =
     let h = getD d 0 0 in
     record { number = numberIn d; payload = cond (eqb (numberIn d) 0) [] (take (blockSize h) (drop (headerLength h) d)) }
 
--- A block read: where bytes are missing, 1 with those wanted and those there [B4].
-unfoldable pub readBlock : List ℕ → Outcome Block
-readBlock d = cond (isShort d) (refused (lengthMismatch (needed d) (length d))) (gave (blockIn d))
+-- which are missing: of the header, or of the payload that it announces; with those wanted, those there, and where the block begins [B4]
+unfoldable pub shortAt : ℕ → List ℕ → Said
+shortAt offset d = cond (isHeaderShort d) (blockHeaderShort (needed d) (length d) offset) (blockBodyShort (needed d) (length d) offset)
+
+-- A block read that begins at this offset of its packet [B4] [B5].
+unfoldable pub readBlockAt : ℕ → List ℕ → Outcome Block
+readBlockAt offset d = cond (isShort d) (refused (shortAt offset d)) (gave (blockIn d))
+
+-- A block read alone: its offset is 0 [B4].
+abbrev pub readBlock : List ℕ → Outcome Block
+readBlock d = readBlockAt 0 d
 
 -- the part of the caller's bytes that is the payload [B6]
 unfoldable pub partIn : List ℕ → List ℕ

@@ -6,7 +6,7 @@ use Prim.Native.Nat.{ℕ, suc, _+_, _-_, _*_, _%_}
 use lib.Dec.{eqb, leb, ltb}
 use lib.ListN.{length, getD, take, drop}
 use Rattle.model.specs.Lists.{every}
-use Rattle.model.specs.Said.{Said, Outcome, gave, refused, accepted, lengthMismatch, cea608AfterCea708, full}
+use Rattle.model.specs.Said.{Said, Outcome, gave, refused, accepted, cea608AfterCea708, full, frameLengthWrong}
 use Rattle.model.specs.Packet.{Packet, noPacket, packetSize, readPacket, reads, validPacket}
 use Rattle.model.specs.Frame.{pair, Cea608, field1, field2, Seen, first, second, start, more, void608, void708, seenAll, triplesIn, flagged, countIn}
 
@@ -172,14 +172,14 @@ takeTriples ts none d = takeGathered (pairsIn ts) (gathered (d .pending) ts) d
 unfoldable pub unread : List ℕ → Bool
 unread f = ltb (length f) 5 || (not (flagged (getD f 0 0)) || eqb (countIn (getD f 0 0)) 0)
 
--- A frame: the list is emptied first [F1]; a wrong length is 1, with 3n+1 expected [F3]; triples begin at the third byte [F4].
+-- A frame: the list is emptied first [F1]; a wrong length is 12, with 3n+2 expected [F3]; triples begin at the third byte [F4].
 unfoldable pub takeFrame : List ℕ → Demux → Taken
 takeFrame f d =
     let n = countIn (getD f 0 0) in
     let ts = seenAll (triplesIn (drop 2 f)) in
     cond (unread f) (quiet (withPairs [] d))
     (cond (eqb (length f) (3 * n + 2)) (takeTriples ts (lateFrom 0 ts) d)
-    (record { answer = lengthMismatch (3 * n + 1) (length f); runs = []; next = withPairs [] d }))
+    (record { answer = frameLengthWrong (3 * n + 2) (length f); runs = []; next = withPairs [] d }))
 
 -- what is drawn: a pair, a packet, or nothing [F14]
 pub data Item : Type 0 where

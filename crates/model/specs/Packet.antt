@@ -6,8 +6,8 @@ use Prim.Native.Nat.{ℕ, zero, suc, _+_, _-_, _*_, _/_, _%_}
 use lib.Dec.{eqb, leb, ltb}
 use lib.ListN.{length, getD, set, drop}
 use Rattle.model.specs.Lists.{every}
-use Rattle.model.specs.Said.{Outcome, gave, refused, isGiven, andThen, mapped, lengthMismatch, wouldOverflow, readOnly, emptyService, badNumber, badRun}
-use Rattle.model.specs.Block.{Block, mostPayload, headerLength, blockSize, blockIn, readBlock, writtenBlock, blockLength, blockRoom, withRun}
+use Rattle.model.specs.Said.{Outcome, gave, refused, isGiven, andThen, mapped, wouldOverflow, readOnly, emptyService, badNumber, badRun, packetLengthWrong}
+use Rattle.model.specs.Block.{Block, mostPayload, headerLength, blockSize, blockIn, readBlockAt, writtenBlock, blockLength, blockRoom, withRun}
 
 -- a packet: its sequence number and its blocks [P1]
 pub record Packet : Type 0 where
@@ -42,20 +42,21 @@ tidyMove d = headerLength (getD d 0 0) + blockSize (getD d 0 0)
 abbrev pub kept : Block → List Block → List Block
 kept b bs = cond (eqb (length (b .payload)) 0) bs (b ∷ bs)
 
--- Blocks are read until no byte is left, and the refusal of one is the refusal of all [P4]. The first `passed` bytes are before the place that the
--- block before went on to; `move` says how far the block at the head of the bytes goes on.
-unfoldable pub blocksFrom : (List ℕ → ℕ) → ℕ → List ℕ → Outcome (List Block)
-blocksFrom move passed [] = gave []
-blocksFrom move (suc passed) (x ∷ d) = blocksFrom move passed d
-blocksFrom move zero (x ∷ d) = andThen (readBlock (x ∷ d)) (λ b. mapped (kept b) (blocksFrom move (move (x ∷ d) - 1) d))
+-- Blocks are read until no byte is left, and the refusal of one is the refusal of all [P4]. The bytes stand at `offset` in the packet, and the first
+-- `passed` of them are before the place that the block before went on to; `move` says how far the block at the head of the bytes goes on.
+unfoldable pub blocksFrom : (List ℕ → ℕ) → ℕ → ℕ → List ℕ → Outcome (List Block)
+blocksFrom move offset passed [] = gave []
+blocksFrom move offset (suc passed) (x ∷ d) = blocksFrom move (suc offset) passed d
+blocksFrom move offset zero (x ∷ d) = andThen (readBlockAt offset (x ∷ d)) (λ b. mapped (kept b) (blocksFrom move (suc offset) (move (x ∷ d) - 1) d))
 
--- A packet reader, by how far a block goes on and by which length is wrong where the header says `size`; no bytes are 1 (1, 0) [P3].
+-- A packet reader, by how far a block goes on and by which length is wrong where the header says `size`; no bytes are 13 (1, 0, 0) [P3]. The first
+-- block's offset is 1.
 unfoldable pub readBy : (List ℕ → ℕ) → (ℕ → ℕ → Bool) → List ℕ → Outcome Packet
 readBy move wrong d =
     let size = packetSize (getD d 0 0) in
-    cond (eqb (length d) 0) (refused (lengthMismatch 1 0))
-    (cond (wrong size (length d)) (refused (lengthMismatch size (length d)))
-    (mapped (λ bs. record { sequence = sequenceIn (getD d 0 0); blocks = bs }) (blocksFrom move 0 (drop 1 d))))
+    cond (eqb (length d) 0) (refused (packetLengthWrong 1 0 0))
+    (cond (wrong size (length d)) (refused (packetLengthWrong size (length d) 0))
+    (mapped (λ bs. record { sequence = sequenceIn (getD d 0 0); blocks = bs }) (blocksFrom move 1 0 (drop 1 d))))
 
 -- The plain reader: more bytes than the header says are refused, fewer are read [P3].
 unfoldable pub readPacket : List ℕ → Outcome Packet

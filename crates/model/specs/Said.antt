@@ -17,10 +17,6 @@ pub record Said : Type 0 where
 abbrev pub accepted : List ℕ → Said
 accepted values = record { number = 0; values = values }
 
--- 1: bytes are missing or too many [R1]
-abbrev pub lengthMismatch : ℕ → ℕ → Said
-lengthMismatch expected actual = record { number = 1; values = expected ∷ actual ∷ [] }
-
 -- 2: a pair behind packet data [R2]
 abbrev pub cea608AfterCea708 : ℕ → Said
 cea608AfterCea708 bytePos = record { number = 2; values = bytePos ∷ [] }
@@ -60,6 +56,22 @@ full = record { number = 10; values = [] }
 -- 11: a value that breaks a limit [R11]
 abbrev pub badValue : Said
 badValue = record { number = 11; values = [] }
+
+-- 12: a frame has another length than its count asks for [R12]
+abbrev pub frameLengthWrong : ℕ → ℕ → Said
+frameLengthWrong expected actual = record { number = 12; values = expected ∷ actual ∷ [] }
+
+-- 13: a packet has another length than its header allows; the offset is that of the packet [R13]
+abbrev pub packetLengthWrong : ℕ → ℕ → ℕ → Said
+packetLengthWrong expected actual offset = record { number = 13; values = expected ∷ actual ∷ offset ∷ [] }
+
+-- 14: a block's header is cut short; the offset is that of the block's first byte in its packet [R14]
+abbrev pub blockHeaderShort : ℕ → ℕ → ℕ → Said
+blockHeaderShort expected actual offset = record { number = 14; values = expected ∷ actual ∷ offset ∷ [] }
+
+-- 15: a block's payload is cut short; the offset is that of the block's first byte too [R15]
+abbrev pub blockBodyShort : ℕ → ℕ → ℕ → Said
+blockBodyShort expected actual offset = record { number = 15; values = expected ∷ actual ∷ offset ∷ [] }
 
 -- A call gives its value, or refuses and gives none.
 pub data Outcome (A : Type 0) : Type 0 where

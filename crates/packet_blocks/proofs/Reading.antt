@@ -17,9 +17,9 @@ use Rattle.caption.specs.Answers.{saidRefusal}
 use Rattle.model.specs.Block.{Block}
 use Rattle.model.proofs.Cases.{by-cond}
 use Rattle.service_headers.specs.declared.Head.{Head}
-use Rattle.service_headers.specs.declared.Head.the-variants.{Whole, Short}
+use Rattle.service_headers.specs.declared.Head.the-variants.{Whole}
 use Rattle.service_headers.specs.Head.{blockHead, saidShort}
-use Rattle.service_headers.proofs.Heads.{headed}
+use Rattle.service_headers.proofs.Heads.{NotWhole, headed}
 use Rattle.basics.proofs.Runs.{sets-append, sets-more}
 use Rattle.packet_blocks.specs.declared.Kept.{Kept}
 use Rattle.packet_entries.specs.Fields.{Arrays, numbersOf, sizesOf, payloadsOf, blockFrom}
@@ -106,11 +106,11 @@ module _ (b : List ℕ) (end : ℕ) (fits : end ≤ length b) where
       within : here < length front
       within = in-front b end fits tidy here left head is
 
-      -- of a header that is short the refusal is told
-      pub stored-short : (k : ℕ) (why : Refusal) (at : Kept) (x y : Arrays) → head ≡ Short k → saidRefusal why ≡ saidShort head (end - here)
+      -- of a header that is not whole the refusal is told, with the place where it is met
+      pub stored-short : (why : Refusal) (at : Kept) (x y : Arrays) → NotWhole head → saidRefusal why ≡ saidShort head (end - here) here
           → Stored (blocksIn b end tidy here) at (Refused why) x y
       unfolding Stored
-      stored-short k why at x y q w = rw (refused-at tidy front here within k (sym is ∙ q)) (why, refl, w ∙ rw (q, long b end fits))
+      stored-short why at x y none w = rw (refused-at tidy front here within head is none) (why, refl, w ∙ rw (long b end fits))
 
       -- one that is whole
       module _ (n st sz : ℕ) (q : head ≡ Whole n st sz) where

@@ -165,8 +165,7 @@ fn read_blocks(
         size,
     } = head
     else {
-        let why = service_headers::short_of(head, end - at);
-        return Counted::Refused(why);
+        return Counted::Refused(service_headers::short_of(head, end - at, at));
     };
     let next = keep_block(
         bytes,

@@ -8,17 +8,17 @@ use lib.Dec.{eqb, ltb}
 use lib.ListN.{length, take, drop, getD, length-drop, drop-of-length-le}
 use lib.Seq.{drop-drop, length-take-le}
 use borrow.Author.Tests.{eq-eqb, ne-eqb, eqb-true, eqb-false, ltb-false}
-use Rattle.model.specs.Said.{Outcome, gave, refused, isGiven, mapped, lengthMismatch}
-use Rattle.model.specs.Block.{Block, needed, isShort, blockIn, readBlock, blockLength}
+use Rattle.model.specs.Said.{Outcome, gave, refused, isGiven, mapped}
+use Rattle.model.specs.Block.{Block, needed, isShort, blockIn, readBlockAt, blockLength}
 use Rattle.model.specs.Packet.{plainMove, tidyMove, kept, blocksFrom}
 use Rattle.model.proofs.Cases.{by-test, by-cond, mapped-by}
 use Rattle.model.proofs.Blocks.{block-length, written-length}
 use Rattle.model.proofs.Walk.{blocks-next, blocks-none}
 use Rattle.model.proofs.Limits.{Moves, read-from}
 use Rattle.service_headers.specs.declared.Head.{Head}
-use Rattle.service_headers.specs.declared.Head.the-variants.{Whole, Short}
-use Rattle.service_headers.specs.Head.{blockHead}
-use Rattle.service_headers.proofs.Heads.{Headed, headed, head-short, header-least, header-most}
+use Rattle.service_headers.specs.declared.Head.the-variants.{Whole}
+use Rattle.service_headers.specs.Head.{blockHead, saidShort}
+use Rattle.service_headers.proofs.Heads.{Headed, NotWhole, headed, read-short, header-least, header-most}
 use Rattle.packet_moves.specs.Moves.{moveBy, moveFor, keptFor, blocksIn}
 
 -- bytes whose header was read
@@ -33,9 +33,9 @@ module _ (d : List ℕ) (n st sz : ℕ) (h : Headed d n st sz) where
   unfolding isShort
   there = ltb-false _ _ (h .whole)
 
-  read-is : readBlock d ≡ gave (blockIn d)
-  unfolding readBlock
-  read-is = simp (h .whole)
+  read-is : (offset : ℕ) → readBlockAt offset d ≡ gave (blockIn d)
+  unfolding readBlockAt
+  read-is offset = simp (h .whole)
 
   block-null : n ≡ 0 → blockIn d ≡ record { number = n; payload = [] }
   unfolding blockIn
@@ -92,12 +92,11 @@ module _ (tidy : Bool) (d : List ℕ) (here : ℕ) (left : here < length d) wher
   pub some-left : 1 ≤ length (drop here d)
   some-left = rw length-drop (omega arith)
 
-  -- a header that is short
-  pub refused-at : (k : ℕ) → blockHead (drop here d) ≡ Short k → blocksFrom (moveBy tidy) 0 (drop here d) ≡ refused (lengthMismatch k (length d - here))
-  unfolding readBlock
-  refused-at k e =
-      let s = head-short (drop here d) k e in
-      blocks-next (moveBy tidy) (drop here d) some-left (move-least tidy (drop here d)) ∙ rw (s .0, s .1, length-drop here d)
+  -- a header that is not whole
+  pub refused-at : (head : Head) → head ≡ blockHead (drop here d) → NotWhole head
+      → blocksFrom (moveBy tidy) here 0 (drop here d) ≡ refused (saidShort head (length d - here) here)
+  refused-at head is none =
+      blocks-next (moveBy tidy) here (drop here d) some-left (move-least tidy (drop here d)) ∙ rw (read-short (drop here d) head is none here, length-drop here d)
 
   -- a header that is whole
   module _ (n st sz : ℕ) (e : blockHead (drop here d) ≡ Whole n st sz) where
@@ -110,11 +109,14 @@ module _ (tidy : Bool) (d : List ℕ) (here : ℕ) (left : here < length d) wher
     pub body-is : take sz (drop st (drop here d)) ≡ body
     body-is = rw (drop-drop st here d)
 
-    pub next-is : blocksFrom (moveBy tidy) 0 (drop here d) ≡ mapped (λ cs. keptFor n body ++ cs) (blocksFrom (moveBy tidy) 0 (drop (here + moveFor tidy n st sz) d))
+    abbrev next : ℕ
+    next = here + moveFor tidy n st sz
+
+    pub next-is : blocksFrom (moveBy tidy) here 0 (drop here d) ≡ mapped (λ cs. keptFor n body ++ cs) (blocksFrom (moveBy tidy) next 0 (drop next d))
     next-is =
-        blocks-next (moveBy tidy) (drop here d) some-left (move-least tidy (drop here d))
-        ∙ rw (read-is (drop here d) n st sz header, ← move-is (drop here d) n st sz header tidy, drop-drop (moveFor tidy n st sz) here d)
-        (mapped-by (λ cs. kept-is (drop here d) n st sz header cs ∙ rw body-is) (blocksFrom (moveBy tidy) 0 (drop (here + moveFor tidy n st sz) d)))
+        blocks-next (moveBy tidy) here (drop here d) some-left (move-least tidy (drop here d))
+        ∙ rw (read-is (drop here d) n st sz header here, ← move-is (drop here d) n st sz header tidy, drop-drop (moveFor tidy n st sz) here d)
+        (mapped-by (λ cs. kept-is (drop here d) n st sz header cs ∙ rw body-is) (blocksFrom (moveBy tidy) next 0 (drop next d)))
 
     -- the room that is there
     pub move-bounds : Moves (moveFor tidy n st sz) (length d - here) (blockLength (blockIn (drop here d)))
@@ -152,7 +154,7 @@ module _ (b : List ℕ) (end : ℕ) (fits : end ≤ length b) where
   module _ (tidy : Bool) (here : ℕ) where
     -- no bytes are left
     pub from-none : end ≤ here → blocksIn b end tidy here ≡ gave []
-    from-none h = let e : length (take end b) ≤ here = omega (arith, long) in rw (drop-of-length-le (take end b) e, blocks-none (moveBy tidy))
+    from-none h = let e : length (take end b) ≤ here = omega (arith, long) in rw (drop-of-length-le (take end b) e, blocks-none (moveBy tidy) here)
 
     -- which read
     pub given-none : end ≤ here → true ≡ isGiven (blocksIn b end tidy here)
@@ -163,9 +165,9 @@ module _ (b : List ℕ) (end : ℕ) (fits : end ≤ length b) where
       pub in-front : here < length (take end b)
       in-front = omega (arith, long)
 
-      -- a header that is short does not read
-      pub given-short : (k : ℕ) → head ≡ Short k → false ≡ isGiven (blocksIn b end tidy here)
-      given-short k q = rw (refused-at tidy (take end b) here in-front k (sym is ∙ q))
+      -- a header that is not whole does not read
+      pub given-short : NotWhole head → false ≡ isGiven (blocksIn b end tidy here)
+      given-short none = rw (refused-at tidy (take end b) here in-front head is none)
 
       -- one that is whole
       module _ (n st sz : ℕ) (q : head ≡ Whole n st sz) where

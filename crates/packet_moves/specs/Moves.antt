@@ -30,7 +30,7 @@ keptFor number part = cond (eqb number 0) [] (cond (eqb (length part) 0) [] (rec
 
 -- the blocks of the first `end` bytes, from a place on
 abbrev pub blocksIn : List ℕ → ℕ → Bool → ℕ → Outcome (List Block)
-blocksIn d end tidy place = blocksFrom (moveBy tidy) 0 (drop place (take end d))
+blocksIn d end tidy place = blocksFrom (moveBy tidy) place 0 (drop place (take end d))
 
 -- the packet of these blocks, by its first byte
 abbrev pub packetWith : List ℕ → List Block → Packet

@@ -7,7 +7,7 @@ use native.Mathlib.Omega.{arith}
 use lib.ListN.{length, getD, take, drop, replicate, length-replicate}
 use lib.Seq.{sets, take-append-seam}
 use borrow.Author.Tests.{ne-eqb, lt-ltb}
-use Rattle.model.specs.Said.{Said, Outcome, refused, mapped, lengthMismatch}
+use Rattle.model.specs.Said.{Said, Outcome, refused, mapped, packetLengthWrong}
 use Rattle.model.specs.Block.{Block}
 use Rattle.model.specs.Packet.{Packet, packetSize, sequenceIn, blocksFrom}
 use Rattle.model.proofs.Limits.{size-most}
@@ -37,19 +37,19 @@ module _ (b : List ℕ) (len n : ℕ) (is : n ≡ length (take len b)) where
     test-is = rw (← is) (sym t)
 
     -- a wrong length is refused
-    pub read-wrong : (why : Said) (r : Filled) → w ≡ true → why ≡ lengthMismatch size n → ReadsInto (refused why) r → ReadsInto (readAs tidy d) r
+    pub read-wrong : (why : Said) (r : Filled) → w ≡ true → why ≡ packetLengthWrong size n 0 → ReadsInto (refused why) r → ReadsInto (readAs tidy d) r
     read-wrong why r y m k =
-        read-refused (readAs tidy d) why r (wrong-as tidy d has-some size sized (test-is ∙ y) ∙ ap refused (sym (m ∙ ap (lengthMismatch size) is))) k
+        read-refused (readAs tidy d) why r (wrong-as tidy d has-some size sized (test-is ∙ y) ∙ ap refused (sym (m ∙ ap (λ (k : ℕ). packetLengthWrong size k 0) is))) k
 
     -- else the blocks tell the packet
     pub read-blocks : w ≡ false → (r : Filled) → ReadsInto (mapped (packetWith b) (blocksIn b n tidy 1)) r → ReadsInto (readAs tidy d) r
     read-blocks y r k =
         let made : ℕ → List Block → Packet = λ h bs. record { sequence = sequenceIn h; blocks = bs } in
         rw (blocks-as tidy d has-some size sized (test-is ∙ y))
-        (subst (λ (h : ℕ). ReadsInto (mapped (made h) (blocksFrom (moveBy tidy) 0 (drop 1 d))) r) (first-is b len n is some) (rw (front-is b len n is) at k))
+        (subst (λ (h : ℕ). ReadsInto (mapped (made h) (blocksFrom (moveBy tidy) 1 0 (drop 1 d))) r) (first-is b len n is some) (rw (front-is b len n is) at k))
 
   -- no bytes are refused
-  pub read-none : (tidy : Bool) (why : Said) (r : Filled) → n ≡ 0 → why ≡ lengthMismatch 1 0 → ReadsInto (refused why) r → ReadsInto (readAs tidy d) r
+  pub read-none : (tidy : Bool) (why : Said) (r : Filled) → n ≡ 0 → why ≡ packetLengthWrong 1 0 0 → ReadsInto (refused why) r → ReadsInto (readAs tidy d) r
   read-none tidy why r z m k = read-refused (readAs tidy d) why r (none-as tidy d (sym is ∙ z) ∙ ap refused (sym m)) k
 
 -- bytes of which there are more than a packet has
@@ -62,7 +62,7 @@ module _ (d : List ℕ) (many : 128 < length d) where
   too-long false size e = lt-ltb size (length d) (omega (arith, size-most (getD d 0 0)))
 
   -- they are refused
-  pub read-many : (tidy : Bool) (size : ℕ) → size ≡ packetSize (getD d 0 0) → (why : Said) (r : Filled) → why ≡ lengthMismatch size (length d) → ReadsInto (refused why) r → ReadsInto (readAs tidy d) r
+  pub read-many : (tidy : Bool) (size : ℕ) → size ≡ packetSize (getD d 0 0) → (why : Said) (r : Filled) → why ≡ packetLengthWrong size (length d) 0 → ReadsInto (refused why) r → ReadsInto (readAs tidy d) r
   read-many tidy size e why r m k = read-refused (readAs tidy d) why r (wrong-as tidy d some-of size e (too-long tidy size e) ∙ ap refused (sym m)) k
 
 -- bytes that are copied to the front of an array are its first

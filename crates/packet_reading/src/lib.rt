@@ -2,7 +2,7 @@
 ghost use mathlib.Core.Path.{_≡_};
 ghost use lib.ListN.{take};
 ghost use Rattle.caption.specs.Answers.{saidRefusal};
-ghost use Rattle.model.specs.Said.{lengthMismatch};
+ghost use Rattle.model.specs.Said.{packetLengthWrong};
 ghost use Rattle.packet_moves.specs.Moves.{wrongLength, readAs};
 ghost use Rattle.packet_blocks.specs.Reading.{ReadsInto};
 use basics::MOST_PACKET;
@@ -17,7 +17,7 @@ pub fn read(data: &[u8], tidy: bool) -> Filled
 {
     let n = data.len();
     if MOST_PACKET < n {
-        return unread(mismatch(packet_moves::packet_size(data[0]), n));
+        return unread(wrong(packet_moves::packet_size(data[0]), n));
     }
     let mut bytes = [0u8; 128];
     put_bytes(&mut bytes, 0, data);
@@ -30,11 +30,11 @@ pub fn read_in(bytes: &[u8; 128], len: usize, tidy: bool) -> Filled
 {
     let n = packet_moves::held(bytes, len);
     if n == 0 {
-        return unread(mismatch(1, 0));
+        return unread(wrong(1, 0));
     }
     let size = packet_moves::packet_size(bytes[0]);
     if wrong_length(tidy, size, n) {
-        return unread(mismatch(size, n));
+        return unread(wrong(size, n));
     }
     packet_blocks::fill(bytes, n, tidy)
 }
@@ -49,9 +49,13 @@ fn wrong_length(tidy: bool, size: usize, actual: usize) -> bool
     size < actual
 }
 
-// Why data of this length is refused.
-fn mismatch(expected: usize, actual: usize) -> Refusal
-    ensures { λ r. ⌜ saidRefusal r ≡ lengthMismatch expected actual ⌝ }
+// Why a packet of this length is refused: it stands at offset 0.
+fn wrong(expected: usize, actual: usize) -> Refusal
+    ensures { λ r. ⌜ saidRefusal r ≡ packetLengthWrong expected actual 0 ⌝ }
 {
-    Refusal::LengthMismatch { expected, actual }
+    Refusal::PacketLengthWrong {
+        expected,
+        actual,
+        offset: 0,
+    }
 }

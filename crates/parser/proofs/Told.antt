@@ -13,7 +13,7 @@ use Rattle.caption.specs.declared.Answer.{Answer}
 use Rattle.caption.specs.declared.Answer.the-variants.{Accepted, Refused}
 use Rattle.caption.specs.declared.Refusal.the-variants as refusal
 use Rattle.caption.specs.Answers.{saidAnswer}
-use Rattle.model.specs.Said.{lengthMismatch, cea608AfterCea708, full}
+use Rattle.model.specs.Said.{cea608AfterCea708, full, frameLengthWrong}
 use Rattle.model.specs.Frame.{Cea608, countIn}
 use Rattle.model.specs.Demux as model
 use Rattle.model.specs.Demux.{Demux, Taken, packetsOf, withPairs, pairsIn, lateFrom, carries708, ended, takeGathered, takeTriples, unread, takeFrame}
@@ -170,11 +170,11 @@ module _ (p : CCDataParser) (v : Fine p) (s : Shaped p) where
   module _ (f : List ℕ) where
     -- triples, or a wrong length
     told-length : (b : Bool) → eqb (length f) (3 * countIn (getD f 0 0) + 2) ≡ b
-        → Told p (cond b (planFound (lateFrom 0 (seenFrom 0 f)) (carries708 (seenFrom 0 f))) (plan (Refused (refusal.LengthMismatch (3 * countIn (getD f 0 0) + 1) (length f))) false false)) f
+        → Told p (cond b (planFound (lateFrom 0 (seenFrom 0 f)) (carries708 (seenFrom 0 f))) (plan (Refused (refusal.FrameLengthWrong (3 * countIn (getD f 0 0) + 2) (length f))) false false)) f
         (cond b (takeTriples (seenFrom 0 f) (lateFrom 0 (seenFrom 0 f)) (means p))
-        (record { answer = lengthMismatch (3 * countIn (getD f 0 0) + 1) (length f); runs = []; next = withPairs [] (means p) }))
+        (record { answer = frameLengthWrong (3 * countIn (getD f 0 0) + 2) (length f); runs = []; next = withPairs [] (means p) }))
     told-length true e = told-triples f (omega (arith, eqb-true (length f) (3 * countIn (getD f 0 0) + 2) e)) (lateFrom 0 (seenFrom 0 f))
-    told-length false e = told-emptied (Refused (refusal.LengthMismatch (3 * countIn (getD f 0 0) + 1) (length f))) f
+    told-length false e = told-emptied (Refused (refusal.FrameLengthWrong (3 * countIn (getD f 0 0) + 2) (length f))) f
 
     -- or nothing to read
     told-frame : (u : Bool) → unread f ≡ u → Told p (planOf f) f (takeFrame f (means p))

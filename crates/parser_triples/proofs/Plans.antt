@@ -6,7 +6,7 @@ use Prim.Native.Nat.{ℕ, _+_, _*_}
 use lib.ListN.{length, getD}
 use lib.Dec.{eqb}
 use Rattle.caption.specs.declared.Answer.the-variants.{Accepted, Refused}
-use Rattle.caption.specs.declared.Refusal.the-variants.{LengthMismatch, Cea608AfterCea708}
+use Rattle.caption.specs.declared.Refusal.the-variants.{FrameLengthWrong, Cea608AfterCea708}
 use Rattle.model.specs.Frame.{countIn}
 use Rattle.model.specs.Demux.{unread}
 use Rattle.model.proofs.Cases.{by-test}
@@ -45,7 +45,7 @@ module _ (f : List ℕ) (s : Scan) (found : s ≡ scanned f) where
 -- the plan by the header
 abbrev planHeaded : Head → List ℕ → Plan
 planHeaded head.Unread f = plan Accepted false false
-planHeaded (head.Mismatch expected actual) f = plan (Refused (LengthMismatch expected actual)) false false
+planHeaded (head.Mismatch expected actual) f = plan (Refused (FrameLengthWrong expected actual)) false false
 planHeaded head.Walk f = planWalked f
 
 -- the header decides as the model does
@@ -65,7 +65,7 @@ module _ (f : List ℕ) (h : Head) (found : h ≡ headOf f) where
   plan-unread e = rw e at header-plan
 
   -- a wrong length
-  pub plan-wrong : (x y : ℕ) → h ≡ head.Mismatch x y → plan (Refused (LengthMismatch x y)) false false ≡ planOf f
+  pub plan-wrong : (x y : ℕ) → h ≡ head.Mismatch x y → plan (Refused (FrameLengthWrong x y)) false false ≡ planOf f
   plan-wrong x y e = rw e at header-plan
 
   -- triples

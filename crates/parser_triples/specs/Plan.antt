@@ -7,7 +7,7 @@ use lib.ListN.{length, getD}
 use lib.Dec.{eqb}
 use Rattle.caption.specs.declared.Answer.{Answer}
 use Rattle.caption.specs.declared.Answer.the-variants.{Accepted, Refused}
-use Rattle.caption.specs.declared.Refusal.the-variants.{LengthMismatch, Cea608AfterCea708}
+use Rattle.caption.specs.declared.Refusal.the-variants.{FrameLengthWrong, Cea608AfterCea708}
 use Rattle.model.specs.Frame.{countIn}
 use Rattle.model.specs.Demux.{unread, lateFrom, carries708}
 use Rattle.parser_triples.specs.Walk.{seenFrom}
@@ -19,7 +19,7 @@ use Rattle.parser_triples.specs.declared.Plan.{Plan}
 unfoldable pub headOf : List ℕ → Head
 headOf f =
     let n = countIn (getD f 0 0) in
-    cond (unread f) Unread (cond (eqb (length f) (3 * n + 2)) Walk (Mismatch (3 * n + 1) (length f)))
+    cond (unread f) Unread (cond (eqb (length f) (3 * n + 2)) Walk (Mismatch (3 * n + 2) (length f)))
 
 -- an answer, whether pairs are listed, and whether bytes are gathered
 abbrev pub plan : Answer → Bool → Bool → Plan
@@ -39,4 +39,4 @@ unfoldable pub planOf : List ℕ → Plan
 planOf f =
     let n = countIn (getD f 0 0) in
     cond (unread f) (plan Accepted false false)
-    (cond (eqb (length f) (3 * n + 2)) (planWalked f) (plan (Refused (LengthMismatch (3 * n + 1) (length f))) false false))
+    (cond (eqb (length f) (3 * n + 2)) (planWalked f) (plan (Refused (FrameLengthWrong (3 * n + 2) (length f))) false false))

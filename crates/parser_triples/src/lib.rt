@@ -57,7 +57,7 @@ fn header(frame: &[u8]) -> Head
     if n == 3 * k + 2 {
         return Head::Walk;
     }
-    Head::Mismatch(3 * k + 1, n)
+    Head::Mismatch(3 * k + 2, n)
 }
 
 // The search after the 608 part, from the triple at `from` on.
@@ -138,7 +138,7 @@ pub fn plan_of(frame: &[u8]) -> Plan
             gathers: false,
         },
         Head::Mismatch(expected, actual) => Plan {
-            answer: Answer::Refused(Refusal::LengthMismatch { expected, actual }),
+            answer: Answer::Refused(Refusal::FrameLengthWrong { expected, actual }),
             lists: false,
             gathers: false,
         },

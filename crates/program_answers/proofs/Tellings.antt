@@ -1,4 +1,4 @@
--- What is told of an answer says it again: no answer carries more than two values. Assumes nothing.
+-- What is told of an answer says it again: no answer carries more than three values. Assumes nothing.
 use mathlib.Core.Path.{_≡_, refl, sym, ap, _∙_}
 use mathlib.Core.List.{List, [], _∷_}
 use Prim.Native.Nat.{ℕ, _≤_}
@@ -19,19 +19,19 @@ use Rattle.program_answers.specs.Telling.{toldBy, saidBy}
 pub told-as : {A : Type 0} (said : A → Said) (t : Numbers) (x row : A) → x ≡ row → t ≡ toldBy (said row) → t ≡ toldBy (said x)
 told-as said t x row e s = s ∙ sym (ap (λ (y : _). toldBy (said y)) e)
 
--- at most two values are told whole
-told-values : (vs : List ℕ) → length vs ≤ 2 → take (length vs) (getD vs 0 0 ∷ getD vs 1 0 ∷ []) ≡ vs
+-- at most three values are told whole
+told-values : (vs : List ℕ) → length vs ≤ 3 → take (length vs) (getD vs 0 0 ∷ getD vs 1 0 ∷ getD vs 2 0 ∷ []) ≡ vs
 told-values [] h = refl
 told-values (v ∷ []) h = refl
 told-values (v ∷ w ∷ []) h = refl
-told-values (v ∷ w ∷ x ∷ vs) h = absurd (omega arith)
+told-values (v ∷ w ∷ x ∷ []) h = refl
+told-values (v ∷ w ∷ x ∷ y ∷ vs) h = absurd (omega arith)
 
-pub told-back : (s : Said) → length (s .values) ≤ 2 → saidBy (toldBy s) ≡ s
+pub told-back : (s : Said) → length (s .values) ≤ 3 → saidBy (toldBy s) ≡ s
 told-back s h = rw (told-values (s .values) h)
 
 -- no refusal carries more,
-pub few-refusal : (why : Refusal) → length (saidRefusal why .values) ≤ 2
-few-refusal (refusal.LengthMismatch e a) = omega arith
+pub few-refusal : (why : Refusal) → length (saidRefusal why .values) ≤ 3
 few-refusal (refusal.Cea608AfterCea708 p) = omega arith
 few-refusal (refusal.WouldOverflow o) = omega arith
 few-refusal refusal.ReadOnly = omega arith
@@ -42,12 +42,16 @@ few-refusal refusal.BadRate = omega arith
 few-refusal (refusal.OutShort n) = omega arith
 few-refusal refusal.Full = omega arith
 few-refusal refusal.BadValue = omega arith
+few-refusal (refusal.FrameLengthWrong e a) = omega arith
+few-refusal (refusal.PacketLengthWrong e a o) = omega arith
+few-refusal (refusal.BlockHeaderShort e a o) = omega arith
+few-refusal (refusal.BlockBodyShort e a o) = omega arith
 
 -- so no answer does
-pub few-answer : (a : Answer) → length (saidAnswer a .values) ≤ 2
+pub few-answer : (a : Answer) → length (saidAnswer a .values) ≤ 3
 few-answer answer.Accepted = omega arith
 few-answer (answer.Refused why) = few-refusal why
 
-pub few-counted : (c : Counted) → length (saidCounted c .values) ≤ 2
+pub few-counted : (c : Counted) → length (saidCounted c .values) ≤ 3
 few-counted (counted.Count n) = omega arith
 few-counted (counted.Refused why) = few-refusal why

@@ -7,23 +7,25 @@ use caption::Answer;
 use caption::Counted;
 use caption::Refusal;
 
-// What an answer says: its number, and the first `count` of two values; the others are 0.
+// What an answer says: its number, and the first `count` of three values; the others are 0.
 pub struct Numbers {
     pub number: u64,
     pub count: usize,
     pub first: usize,
     pub second: usize,
+    pub third: usize,
 }
 
-// These four, together.
-fn telling(number: u64, count: usize, first: usize, second: usize) -> Numbers
-    ensures { λ r. ⌜ r ≡ record { number = number; count = count; first = first; second = second } ⌝ }
+// These five, together.
+fn telling(number: u64, count: usize, first: usize, second: usize, third: usize) -> Numbers
+    ensures { λ r. ⌜ r ≡ record { number = number; count = count; first = first; second = second; third = third } ⌝ }
 {
     Numbers {
         number,
         count,
         first,
         second,
+        third,
     }
 }
 
@@ -31,14 +33,14 @@ fn telling(number: u64, count: usize, first: usize, second: usize) -> Numbers
 fn bare(number: u64) -> Numbers
     ensures { λ r. ⌜ r ≡ toldBy (record { number = number; values = [] }) ⌝ }
 {
-    telling(number, 0, 0, 0)
+    telling(number, 0, 0, 0, 0)
 }
 
 // An answer with one value.
 fn with_value(number: u64, value: usize) -> Numbers
     ensures { λ r. ⌜ r ≡ toldBy (record { number = number; values = value ∷ [] }) ⌝ }
 {
-    telling(number, 1, value, 0)
+    telling(number, 1, value, 0, 0)
 }
 
 // What a refusal says.
@@ -46,7 +48,6 @@ pub fn tell_refusal(why: Refusal) -> Numbers
     ensures { λ r. ⌜ r ≡ toldBy (saidRefusal why) ⌝ }
 {
     match why {
-        Refusal::LengthMismatch { expected, actual } => telling(1, 2, expected, actual),
         Refusal::Cea608AfterCea708 { byte_pos } => with_value(2, byte_pos),
         Refusal::WouldOverflow(over) => with_value(3, over),
         Refusal::ReadOnly => bare(4),
@@ -57,6 +58,22 @@ pub fn tell_refusal(why: Refusal) -> Numbers
         Refusal::OutShort { needed } => with_value(9, needed),
         Refusal::Full => bare(10),
         Refusal::BadValue => bare(11),
+        Refusal::FrameLengthWrong { expected, actual } => telling(12, 2, expected, actual, 0),
+        Refusal::PacketLengthWrong {
+            expected,
+            actual,
+            offset,
+        } => telling(13, 3, expected, actual, offset),
+        Refusal::BlockHeaderShort {
+            expected,
+            actual,
+            offset,
+        } => telling(14, 3, expected, actual, offset),
+        Refusal::BlockBodyShort {
+            expected,
+            actual,
+            offset,
+        } => telling(15, 3, expected, actual, offset),
     }
 }
 

@@ -1,7 +1,7 @@
 -- The example of what `ccread` prints [C2], and lines of `ccscript`. Assumes nothing.
 use mathlib.Core.Path.{_≡_, refl}
 use mathlib.Core.List.{[], _∷_, _++_, map}
-use Rattle.model.specs.Said.{accepted, lengthMismatch, cea608AfterCea708, outShort, badValue}
+use Rattle.model.specs.Said.{accepted, cea608AfterCea708, outShort, badValue, frameLengthWrong, blockBodyShort}
 use Rattle.model.specs.Frame.{pair, field1}
 use Rattle.program_text.specs.Text.{word, digit, decimalIn, decimal, run}
 use Rattle.program_lines.specs.Lines.{valueText, valuesText, runText, blockText, answerText, pairText, packetText, frameLine, blockLine, endLine, stoppedLine}
@@ -19,13 +19,13 @@ unfolding frameLine pairText packetText blockLine endLine decimal decimalIn digi
 read-example = refl
 
 -- a refused frame, and input that stops
-stopped-example : frameLine 12 (lengthMismatch 7 5) ++ stoppedLine 1205 ≡ word "frame 12 refused 1\nstopped at byte 1205\n"
+stopped-example : frameLine 3 (frameLengthWrong 8 5) ++ stoppedLine 1205 ≡ word "frame 3 refused 12\nstopped at byte 1205\n"
 unfolding frameLine stoppedLine decimal decimalIn digit
 stopped-example = refl
 
 -- answers with their values
-answers-example : map answerText (accepted [] ∷ accepted (128 ∷ []) ∷ lengthMismatch 2 1 ∷ cea608AfterCea708 3 ∷ outShort 95 ∷ badValue ∷ [])
-    ≡ word "ok" ∷ word "ok 128" ∷ word "refused 1 2 1" ∷ word "refused 2 3" ∷ word "refused 9 95" ∷ word "refused 11" ∷ []
+answers-example : map answerText (accepted [] ∷ accepted (128 ∷ []) ∷ blockBodyShort 2 1 3 ∷ cea608AfterCea708 3 ∷ outShort 95 ∷ badValue ∷ [])
+    ≡ word "ok" ∷ word "ok 128" ∷ word "refused 15 2 1 3" ∷ word "refused 2 3" ∷ word "refused 9 95" ∷ word "refused 11" ∷ []
 unfolding answerText valuesText valueText decimal decimalIn digit
 answers-example = refl
 

@@ -15,7 +15,7 @@ use Rattle.program_text.specs.Text.{word, decimal}
 use Rattle.program_lines.specs.Lines.{valueText, valuesText, answerText, frameLine}
 use Rattle.program_text.proofs.Layings.{laid-append}
 
--- one value, and two
+-- one value, two, and three
 values-one : (v : ℕ) → valuesText (v ∷ []) ≡ valueText v
 unfolding valuesText
 values-one v = append-nil (valueText v)
@@ -23,6 +23,10 @@ values-one v = append-nil (valueText v)
 values-two : (v w : ℕ) → valuesText (v ∷ w ∷ []) ≡ valueText v ++ valueText w
 unfolding valuesText
 values-two v w = rw append-nil
+
+values-three : (v w x : ℕ) → valuesText (v ∷ w ∷ x ∷ []) ≡ valueText v ++ (valueText w ++ valueText x)
+unfolding valuesText
+values-three v w x = rw append-nil
 
 -- the values, by how many there are
 module _ (t : Numbers) {out after : List ℕ} {at r : ℕ} where
@@ -33,10 +37,15 @@ module _ (t : Numbers) {out after : List ℕ} {at r : ℕ} where
   pub one-value : t .count ≡ 1 → Laid (valueText (t .first)) out at r after → Laid (valuesText (saidBy t .values)) out at r after
   one-value z w = rw (z, values-one) w
 
-  pub two-values : {mid : List ℕ} {p : ℕ} → (t .count ≡ 0 → ⊥) → (t .count ≡ 1 → ⊥) → Laid (valueText (t .first)) out at p mid
-      → Laid (valueText (t .second)) mid p r after → Laid (valuesText (saidBy t .values)) out at r after
-  two-values x y f s =
-      let two : 2 ≤ t .count = omega arith in rw (take-all (t .count) (t .first ∷ t .second ∷ []) two, values-two) (laid-append f s)
+  pub two-values : {mid : List ℕ} {p : ℕ} → t .count ≡ 2 → Laid (valueText (t .first)) out at p mid → Laid (valueText (t .second)) mid p r after
+      → Laid (valuesText (saidBy t .values)) out at r after
+  two-values z f s = rw (z, values-two) (laid-append f s)
+
+  pub three-values : {mid more : List ℕ} {p q : ℕ} → (t .count ≡ 0 → ⊥) → (t .count ≡ 1 → ⊥) → (t .count ≡ 2 → ⊥) → Laid (valueText (t .first)) out at p mid
+      → Laid (valueText (t .second)) mid p q more → Laid (valueText (t .third)) more q r after → Laid (valuesText (saidBy t .values)) out at r after
+  three-values x y z f s l =
+      let three : 3 ≤ t .count = omega arith in
+      rw (take-all (t .count) (t .first ∷ t .second ∷ t .third ∷ []) three, values-three) (laid-append f (laid-append s l))
 
 -- an answer: accepted, and refused
 module _ (t : Numbers) {out mid after : List ℕ} {at p r : ℕ} where
@@ -51,7 +60,7 @@ module _ (t : Numbers) {out mid after : List ℕ} {at p r : ℕ} where
   told-refused e f v = rw (ne-eqb _ _ e) (laid-append f v)
 
 -- what is told of an answer is the answer's
-pub laid-told : {out after : List ℕ} {at r : ℕ} (t : Numbers) (s : Said) → t ≡ toldBy s → length (s .values) ≤ 2 → Laid (answerText (saidBy t)) out at r after
+pub laid-told : {out after : List ℕ} {at r : ℕ} (t : Numbers) (s : Said) → t ≡ toldBy s → length (s .values) ≤ 3 → Laid (answerText (saidBy t)) out at r after
     → Laid (answerText s) out at r after
 laid-told t s e few w = rw (ap saidBy e ∙ told-back s few) at w
 

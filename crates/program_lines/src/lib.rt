@@ -76,7 +76,11 @@ fn put_values(out: &mut [u8], at: usize, told: Numbers) -> usize
     if told.count == 1 {
         return p;
     }
-    put_value(out, p, told.second as u64)
+    let q = put_value(out, p, told.second as u64);
+    if told.count == 2 {
+        return q;
+    }
+    put_value(out, q, told.third as u64)
 }
 
 // An answer: `ok` or its number as a refusal, and its values.

@@ -4,12 +4,13 @@ use mathlib.Core.Bool.{false}
 use mathlib.Core.List.{List, [], _∷_, _++_, append-nil, append-assoc}
 use Prim.Native.Nat.{ℕ}
 use lib.Dec.{eqb}
+use borrow.Author.Tests.{ne-eqb}
 use Rattle.model.specs.Said.{Said, accepted}
 use Rattle.caption.specs.declared.Counted.{Counted}
 use Rattle.caption.specs.declared.Counted.the-variants as counted
 use Rattle.caption.specs.declared.Refusal.{Refusal}
-use Rattle.caption.specs.declared.Refusal.the-variants as refusal
 use Rattle.caption.specs.Answers.{saidRefusal}
+use Rattle.caption.proofs.Answers.{refusal-numbered}
 use Rattle.program_text.specs.Laid.{Laid}
 use Rattle.program_text.specs.Text.{word}
 use Rattle.program_text.proofs.Layings.{laid-append}
@@ -18,17 +19,7 @@ use Rattle.script_answers.specs.Script.{answerLine, lentLine, runLine, c
 
 -- no refusal says 0
 pub refused-number : (why : Refusal) → eqb (saidRefusal why .number) 0 ≡ false
-refused-number (refusal.LengthMismatch e a) = refl
-refused-number (refusal.Cea608AfterCea708 b) = refl
-refused-number (refusal.WouldOverflow o) = refl
-refused-number refusal.ReadOnly = refl
-refused-number refusal.EmptyService = refl
-refused-number refusal.BadNumber = refl
-refused-number refusal.BadRun = refl
-refused-number refusal.BadRate = refl
-refused-number (refusal.OutShort n) = refl
-refused-number refusal.Full = refl
-refused-number refusal.BadValue = refl
+refused-number why = ne-eqb (saidRefusal why .number) 0 (refusal-numbered why)
 
 -- one value more behind others
 values-more : (ns : List ℕ) (n : ℕ) → valuesText ns ++ valueText n ≡ valuesText (ns ++ (n ∷ []))

@@ -41,4 +41,4 @@ pub written-back : (s : Service) (rest : List ℕ) → validService s ≡ true �
 written-back s rest v places some =
     let n : length (take (s .len) (s .payload)) ≡ s .len = payload-length s _ refl places v in
     let named : 1 ≤ s .number = by-test (eqb (s .number) 0) (λ e. absurd (omega (arith, valid-null s places v (eqb-true (s .number) 0 e)))) (λ e. omega (arith, eqb-false (s .number) 0 e)) in
-    read-written (blockOf s) rest (record { named = named; known = valid-number s v; filled = omega arith; small = omega (arith, valid-len s v) })
+    read-written (blockOf s) rest (record { named = named; known = valid-number s v; filled = omega arith; small = omega (arith, valid-len s v) }) 0

@@ -5,15 +5,16 @@ use Prim.Native.Nat.{ℕ}
 use lib.ListN.{take, drop}
 use borrow.Author.Tests.{eq-eqb, ne-eqb}
 use Rattle.model.specs.Block.{blockIn, partIn}
-use Rattle.service_headers.specs.declared.Head.the-variants.{Whole, Short}
+use Rattle.service_headers.specs.declared.Head.{Head}
+use Rattle.service_headers.specs.declared.Head.the-variants.{Whole}
 use Rattle.service_headers.specs.Head.{blockHead}
-use Rattle.service_headers.proofs.Heads.{headed, head-short}
+use Rattle.service_headers.proofs.Heads.{NotWhole, headed, head-short}
 
 module _ (d : List ℕ) where
   -- none where bytes are missing
-  pub part-short : (k : ℕ) → blockHead d ≡ Short k → [] ≡ partIn d
+  pub part-short : (head : Head) → head ≡ blockHead d → NotWhole head → [] ≡ partIn d
   unfolding partIn
-  part-short k e = simp (head-short d k e .0)
+  part-short head is none = simp (head-short d head is none)
 
   -- none where the number is 0
   pub part-null : (n st sz : ℕ) → blockHead d ≡ Whole n st sz → n ≡ 0 → [] ≡ partIn d

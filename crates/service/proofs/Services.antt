@@ -12,17 +12,17 @@ use borrow.Author.Tests.{eq-eqb, ne-eqb, le-leb, lt-leb, lt-ltb, le-ltb, leb-tru
 use Rattle.caption.specs.declared.Counted.{Counted}
 use Rattle.caption.specs.Answers.{saidAnswer, saidCounted}
 use Rattle.caption.proofs.Answers.{measure-good}
-use Rattle.model.specs.Said.{Said, Outcome, gave, refused, checked, measured, putInto, accepted, badValue, badNumber, badRun, readOnly, wouldOverflow, lengthMismatch, outShort}
-use Rattle.model.specs.Block.{Block, validBlock, newBlock, readBlock, blockIn, pushToBlock, withRun, writtenHeader, writtenBlock, blockLength}
+use Rattle.model.specs.Said.{Said, Outcome, gave, refused, checked, measured, putInto, accepted, badValue, badNumber, badRun, readOnly, wouldOverflow, outShort}
+use Rattle.model.specs.Block.{Block, validBlock, newBlock, readBlockAt, readBlock, blockIn, pushToBlock, withRun, writtenHeader, writtenBlock, blockLength}
 use Rattle.model.proofs.Cases.{by-test, both}
 use Rattle.model.proofs.Blocks.{written-length}
 use Rattle.service.specs.declared.Service.{Service}
 use Rattle.service.specs.declared.ServiceAnswer.{ServiceAnswer}
-use Rattle.service_headers.specs.declared.Head.the-variants.{Whole, Short}
+use Rattle.service_headers.specs.declared.Head.the-variants.{Whole}
 use Rattle.service_headers.specs.Head.{blockHead, lengthFor}
 use Rattle.service.specs.Service.{Answers, Writes, blockOf, over, blank, validService}
 use Rattle.basics.proofs.Runs.{sets-front, sets-behind}
-use Rattle.service_headers.proofs.Heads.{headed, head-short, length-of, laid-block}
+use Rattle.service_headers.proofs.Heads.{headed, length-of, laid-block}
 
 -- a block and the places that it is laid in
 pub laid-as : (n k : ℕ) (p q : List ℕ) → length q ≡ k → p ≡ sets (replicate 31 0) 0 q
@@ -239,20 +239,15 @@ module _ (s : Service) (v : Bool) (is : v ≡ validService s) where
 
 -- a block read
 module _ (d : List ℕ) where
-  -- bytes missing
-  pub parse-short : (k : ℕ) → blockHead d ≡ Short k → readBlock d ≡ refused (lengthMismatch k (length d))
-  unfolding readBlock
-  parse-short k e = let h = head-short d k e in simp (h .0, h .1)
-
   -- number 0
   pub parse-null : (n st sz : ℕ) → blockHead d ≡ Whole n st sz → n ≡ 0 → readBlock d ≡ gave (record { number = 0; payload = [] })
-  unfolding readBlock blockIn
+  unfolding readBlockAt blockIn
   parse-null n st sz e z = let h = headed d n st sz e in simp (h .whole, h .number, z)
 
   -- any other number
   pub parse-some : (n st sz : ℕ) → blockHead d ≡ Whole n st sz → (n ≡ 0 → ⊥)
       → readBlock d ≡ gave (record { number = n; payload = take sz (drop st d) })
-  unfolding readBlock blockIn
+  unfolding readBlockAt blockIn
   parse-some n st sz e z = let h = headed d n st sz e in simp (h .whole, h .number, ne-eqb n 0 z, h .start, h .size)
 
   -- its payload is as long as the header says

@@ -139,7 +139,7 @@ impl Service {
         } = head
         else {
             return refused(
-                service_headers::short_of(head, data.len()),
+                service_headers::short_of(head, data.len(), 0),
                 Service {
                     number: 0,
                     len: 0,

@@ -1,7 +1,7 @@
 -- What the header of a block says, by each way out of its reader. Assumes nothing.
 use mathlib.Core.Path.{_≡_, refl, sym, _∙_}
 use mathlib.Core.Bool.{Bool, true, false, cond, not, _&&_}
-use mathlib.Core.List.{List, []}
+use mathlib.Core.List.{List, [], _∷_}
 use Prim.Native.Nat.{ℕ, suc, _+_, _-_, _*_, _/_, _%_, _≤_, _<_, min}
 use native.Mathlib.Nat.{add-zero}
 use native.Mathlib.Numerals.{add-one}
@@ -9,15 +9,19 @@ use native.Mathlib.Omega.{arith}
 use lib.Dec.{eqb, ltb}
 use lib.ListN.{length, take, drop, getD, set, replicate, length-replicate, length-take, length-drop, drop-of-length-le, length-set}
 use lib.Seq.{sets, getD-take, getD-drop, set-out}
+use types.Run.{OneOf, miss}
+use denote.Enum.Declared.{tagOf}
 use borrow.Author.Tests.{eq-eqb, ne-eqb, lt-ltb, le-ltb, ltb-false}
-use Rattle.model.specs.Block.{Block, topNumber, blockSize, headerLength, numberIn, needed, isShort, writtenHeader, writtenBlock, blockLength}
-use Rattle.model.proofs.Cases.{by-cond}
+use Rattle.model.specs.Said.{refused}
+use Rattle.model.specs.Block.{Block, topNumber, blockSize, headerLength, numberIn, isHeaderShort, needed, isShort, shortAt, readBlockAt, writtenHeader, writtenBlock, blockLength}
+use Rattle.model.proofs.Cases.{by-test, by-cond}
 use Rattle.model.proofs.Blocks.{header-one, header-two, header-bare, header-written, written-length}
 use Rattle.model.proofs.Limits.{all-there}
 use Rattle.service_headers.specs.declared.Head.{Head}
-use Rattle.service_headers.specs.declared.Head.the-variants.{Whole, Short}
-use Rattle.service_headers.specs.Head.{blockHead, HeadBy, lengthFor}
+use Rattle.service_headers.specs.declared.Head.the-variants.{Whole, HeaderShort, BodyShort}
+use Rattle.service_headers.specs.Head.{blockHead, HeadBy, lengthFor, saidShort}
 use Rattle.basics.proofs.Runs.{sets-append}
+use Rattle.service_headers.proofs.Head.{the-type}
 
 -- the header's own length
 pub two-bytes : (h : ℕ) → h / 32 % 8 ≡ 7 → (h % 32 ≡ 0 → ⊥) → 2 ≡ headerLength h
@@ -48,25 +52,25 @@ written-most n start e = rw e (by-cond (λ k. k ≤ 2) (ltb n 7) (λ _. omega ar
 -- bytes of this many that begin so
 module _ (d : List ℕ) (n h second start : ℕ) (is : length d ≡ n) (first : h ≡ getD d 0 0) (e : start ≡ headerLength h) where
   -- the header is cut
-  pub head-cut : n < start → Short start ≡ blockHead d
-  unfolding blockHead isShort needed
+  pub head-cut : n < start → HeaderShort start ≡ blockHead d
+  unfolding blockHead isShort needed isHeaderShort
   head-cut k = rw (← first, ← e, is) (simp (lt-ltb _ _ k))
 
   module _ (k : start ≤ n) where
     -- the body is cut
-    pub body-cut : n < start + h % 32 → Short (start + h % 32) ≡ blockHead d
-    unfolding blockHead isShort needed
+    pub body-cut : n < start + h % 32 → BodyShort (start + h % 32) ≡ blockHead d
+    unfolding blockHead isShort needed isHeaderShort
     body-cut m = rw (← first, ← e, is) (simp (le-ltb _ _ k, lt-ltb _ _ m))
 
     module _ (m : start + h % 32 ≤ n) where
       -- two bytes: the second gives the number
       pub head-two : (2 ≤ n → second ≡ getD d 1 0) → start ≡ 2 → Whole (second % 64) start (h % 32) ≡ blockHead d
-      unfolding blockHead isShort needed numberIn
+      unfolding blockHead isShort needed isHeaderShort numberIn
       head-two next t = rw (← first, ← e, is, ← next (omega arith)) (simp (le-ltb _ _ k, le-ltb _ _ m, eq-eqb _ _ t))
 
       -- one byte: its top bits do
       pub head-one : (start ≡ 2 → ⊥) → Whole (h / 32 % 8) start (h % 32) ≡ blockHead d
-      unfolding blockHead isShort needed numberIn
+      unfolding blockHead isShort needed isHeaderShort numberIn
       head-one t = rw (← first, ← e, is) (simp (le-ltb _ _ k, le-ltb _ _ m, ne-eqb _ _ t))
 
 -- bytes from a place on, of which the header is told by the first two
@@ -147,31 +151,44 @@ pub record Headed (d : List ℕ) (n st sz : ℕ) : Type 0 where
   pub some : 1 ≤ st
   pub small : sz ≤ 31
 
+-- what is said of a header is not that it is whole: it is one of the two other cases of `Head`
+abbrev pub NotWhole : Head → Type 0
+NotWhole h = OneOf (1 ∷ 2 ∷ []) (tagOf the-type h)
+
 -- no byte is missing
 not-short : (d : List ℕ) → isShort d ≡ false → needed d ≤ length d
 unfolding isShort
 not-short d e = ltb-false _ _ e
 
--- an answer that is whole came by the second way, with these values
-whole-parts : (b : Bool) (k n st sz n′ st′ sz′ : ℕ) → cond b (Short k) (Whole n st sz) ≡ Whole n′ st′ sz′ → (b ≡ false) × (n ≡ n′) × (st ≡ st′) × (sz ≡ sz′)
-whole-parts false k n st sz n′ st′ sz′ e = (refl, cc, cc, cc)
-whole-parts true k n st sz n′ st′ sz′ e = let z : _≡_ {A = ℕ} 0 1 = cc in absurd (omega arith)
-
--- one that is short came by the first
-short-parts : (b : Bool) (k n st sz k′ : ℕ) → cond b (Short k) (Whole n st sz) ≡ Short k′ → (b ≡ true) × (k ≡ k′)
-short-parts true k n st sz k′ e = (refl, cc)
-short-parts false k n st sz k′ e = let z : _≡_ {A = ℕ} 0 1 = cc in absurd (omega arith)
+-- an answer that is whole came by the last way, with these values
+whole-parts : (b c : Bool) (k n st sz n′ st′ sz′ : ℕ) → cond b (cond c (HeaderShort k) (BodyShort k)) (Whole n st sz) ≡ Whole n′ st′ sz′
+    → (b ≡ false) × (n ≡ n′) × (st ≡ st′) × (sz ≡ sz′)
+whole-parts false c k n st sz n′ st′ sz′ e = (refl, cc, cc, cc)
+whole-parts true true k n st sz n′ st′ sz′ e = let z : _≡_ {A = ℕ} 0 1 = cc in absurd (omega arith)
+whole-parts true false k n st sz n′ st′ sz′ e = let z : _≡_ {A = ℕ} 0 1 = cc in absurd (omega arith)
 
 module _ (d : List ℕ) where
   -- a whole header is so
   pub headed : (n st sz : ℕ) → blockHead d ≡ Whole n st sz → Headed d n st sz
   unfolding blockHead
   headed n st sz e =
-      let w = whole-parts (isShort d) _ _ _ _ n st sz e in
+      let w = whole-parts (isShort d) (isHeaderShort d) _ _ _ _ n st sz e in
       let m = all-there d (not-short d (w .0)) in
       record { whole = w .0; number = w .1; start = w .2; size = w .3; fits = omega (arith, m, w .2, w .3); some = omega (arith, header-least (getD d 0 0), w .2); small = omega (arith, w .3) }
 
-  -- a short one misses bytes
-  pub head-short : (k : ℕ) → blockHead d ≡ Short k → (isShort d ≡ true) × (needed d ≡ k)
-  unfolding blockHead
-  head-short k e = short-parts (isShort d) _ _ _ _ k e
+  -- one that is not whole
+  module _ (head : Head) (is : head ≡ blockHead d) (none : NotWhole head) where
+    -- misses bytes
+    pub head-short : isShort d ≡ true
+    unfolding blockHead
+    head-short =
+        by-test (isShort d) (λ e. e)
+        (λ e. let w : head ≡ Whole (numberIn d) (headerLength (getD d 0 0)) (blockSize (getD d 0 0)) = is ∙ simp e in
+        absurd (miss (1 ∷ 2 ∷ []) 0 tt (rw w at none)))
+
+    -- and says which they are, so that the reader says the same
+    pub read-short : (offset : ℕ) → readBlockAt offset d ≡ refused (saidShort head (length d) offset)
+    unfolding readBlockAt shortAt blockHead
+    read-short offset =
+        let e = head-short in
+        rw (is, e) (by-test (isHeaderShort d) (λ h. rw h) (λ h. rw h))

@@ -4,14 +4,16 @@ use mathlib.Core.Bool.{cond}
 use mathlib.Core.List.{List}
 use Prim.Native.Nat.{ℕ, _≤_}
 use lib.ListN.{length, getD, replicate}
-use Rattle.model.specs.Said.{Said, badValue, lengthMismatch}
-use Rattle.model.specs.Block.{headerLength, blockSize, numberIn, needed, isShort, blockLength}
+use Rattle.model.specs.Said.{Said, badValue, blockHeaderShort, blockBodyShort}
+use Rattle.model.specs.Block.{headerLength, blockSize, numberIn, isHeaderShort, needed, isShort, blockLength}
 use Rattle.service_headers.specs.declared.Head.{Head}
-use Rattle.service_headers.specs.declared.Head.the-variants.{Whole, Short}
+use Rattle.service_headers.specs.declared.Head.the-variants.{Whole, HeaderShort, BodyShort}
 
--- how many bytes are wanted, where some are missing [B4]; else the number, where the payload starts and its size
+-- what is cut short, and how many bytes are wanted, where some are missing [B4]; else the number, where the payload starts and its size
 unfoldable pub blockHead : List ℕ → Head
-blockHead d = cond (isShort d) (Short (needed d)) (Whole (numberIn d) (headerLength (getD d 0 0)) (blockSize (getD d 0 0)))
+blockHead d =
+    cond (isShort d) (cond (isHeaderShort d) (HeaderShort (needed d)) (BodyShort (needed d)))
+    (Whole (numberIn d) (headerLength (getD d 0 0)) (blockSize (getD d 0 0)))
 
 -- an answer is the header of all bytes that are so many and begin so; without a second byte any may stand for it
 abbrev pub HeadBy : ℕ → ℕ → ℕ → Head → Type 0
@@ -21,7 +23,8 @@ HeadBy first second n r = (d : List ℕ) → length d ≡ n → first ≡ getD d
 abbrev pub lengthFor : ℕ → ℕ → ℕ
 lengthFor number size = blockLength (record { number = number; payload = replicate size 0 })
 
--- what a header that is short says, `present` bytes being there; one that is whole is none
-abbrev pub saidShort : Head → ℕ → Said
-saidShort (Whole number start size) present = badValue
-saidShort (Short k) present = lengthMismatch k present
+-- what is said of a block that is cut short, `present` bytes being there from `offset` on; one that is whole is none
+abbrev pub saidShort : Head → ℕ → ℕ → Said
+saidShort (Whole number start size) present offset = badValue
+saidShort (HeaderShort k) present offset = blockHeaderShort k present offset
+saidShort (BodyShort k) present offset = blockBodyShort k present offset

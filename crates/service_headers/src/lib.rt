@@ -11,14 +11,18 @@ ghost use Rattle.service_headers.specs.Head.{blockHead, HeadBy, lengthFo
 use basics::lesser;
 use caption::Refusal;
 
-// What the header of a block says: its number, where its payload starts and how long it is; or how many bytes are needed.
+// What the header of a block says: its number, where its payload starts and how long it is; or what is cut short, the header itself or the payload,
+// and how many bytes are needed.
 pub enum Head {
     Whole {
         number: u8,
         start: usize,
         size: usize,
     },
-    Short {
+    HeaderShort {
+        needed: usize,
+    },
+    BodyShort {
         needed: usize,
     },
 }
@@ -42,10 +46,10 @@ fn head_by(h: u8, second: u8, n: usize) -> Head
     let start = header_length(h);
     let size = (h % 32) as usize;
     if n < start {
-        return Head::Short { needed: start };
+        return Head::HeaderShort { needed: start };
     }
     if n < start + size {
-        return Head::Short {
+        return Head::BodyShort {
             needed: start + size,
         };
     }
@@ -91,9 +95,9 @@ pub fn head_in(bytes: &[u8; 128], at: usize, end: usize) -> Head
     head_by(bytes[at], bytes[(at + 1) % 128], n - at)
 }
 
-// Why a block is refused whose header is short, `present` bytes being there.
-pub fn short_of(head: Head, present: usize) -> Refusal
-    ensures { λ r. ⌜ saidRefusal r ≡ saidShort head present ⌝ }
+// Why a block is refused that is cut short, `present` bytes being there from `offset` on.
+pub fn short_of(head: Head, present: usize, offset: usize) -> Refusal
+    ensures { λ r. ⌜ saidRefusal r ≡ saidShort head present offset ⌝ }
 {
     match head {
         Head::Whole {
@@ -101,9 +105,15 @@ pub fn short_of(head: Head, present: usize) -> Refusal
             start: _,
             size: _,
         } => Refusal::BadValue,
-        Head::Short { needed } => Refusal::LengthMismatch {
+        Head::HeaderShort { needed } => Refusal::BlockHeaderShort {
             expected: needed,
             actual: present,
+            offset,
+        },
+        Head::BodyShort { needed } => Refusal::BlockBodyShort {
+            expected: needed,
+            actual: present,
+            offset,
         },
     }
 }

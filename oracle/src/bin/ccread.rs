@@ -55,7 +55,7 @@ fn main() -> std::io::Result<()> {
                 writeln!(out, "frame {records} ok")?;
                 print_items(&mut parser, &mut out)?;
             }
-            Err(ParserError::LengthMismatch { .. }) => writeln!(out, "frame {records} refused 1")?,
+            Err(ParserError::LengthMismatch { .. }) => writeln!(out, "frame {records} refused 12")?,
             Err(ParserError::Cea608AfterCea708 { .. }) => writeln!(out, "frame {records} refused 2")?,
         }
         at += 3 + frame.len();

@@ -106,9 +106,6 @@ read-blocks-head-in-requires t c κs = search needs
 read-blocks-enum-known-head : (t : ℕ) → read-blocks-lts.Need-enum-known-head (read-blocks-claims t) (read-blocks-at t) read-blocks.Post
 read-blocks-enum-known-head t c = search needs
 
-read-blocks-enum-told : (t : ℕ) → read-blocks-lts.Need-enum-told (read-blocks-claims t) (read-blocks-at t) read-blocks.Post
-read-blocks-enum-told t c = search needs
-
 read-blocks-sub-short-of : (t : ℕ) → read-blocks-lts.Need-sub-short-of (read-blocks-claims t) (read-blocks-at t) read-blocks.Post
 read-blocks-sub-short-of t c = search needs
 
@@ -163,7 +160,6 @@ pub +read-blocks-spec : {M : Type 1} → statement M
     (read-blocks-returns t)
     (read-blocks-head-in-requires t)
     (read-blocks-enum-known-head t)
-    (read-blocks-enum-told t)
     (read-blocks-sub-short-of t)
     (read-blocks-short-of-requires t)
     (read-blocks-returns-2 t)

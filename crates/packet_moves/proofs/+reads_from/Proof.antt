@@ -58,11 +58,8 @@ reads-from-head-in-requires t c κs = search needs
 reads-from-enum-known-number : (t : ℕ) → reads-from-lts.Need-enum-known-number (reads-from-claims t) (reads-from-at t) reads-from.Post
 reads-from-enum-known-number t c = search needs
 
-reads-from-enum-told : (t : ℕ) → reads-from-lts.Need-enum-told (reads-from-claims t) (reads-from-at t) reads-from.Post
-reads-from-enum-told t c = search needs
-
 reads-from-returns-2 : (t : ℕ) → reads-from-lts.Need-returns-2 (reads-from-claims t) (reads-from-at t) reads-from.Post
-reads-from-returns-2 t c = let h = c .before .before in given-short _ _ (h .before .before .pre .1) false _ (h .before .if1 .left) _ (h .head-in .ensures) _ (c .enum-told .given .1)
+reads-from-returns-2 t c = let h = c .before in given-short _ _ (h .before .before .pre .1) false _ (h .before .if1 .left) _ (h .head-in .ensures) (c .match .keys2)
 
 reads-from-cast-moved : (t : ℕ) → reads-from-lts.Need-cast-moved (reads-from-claims t) (reads-from-at t) reads-from.Post
 reads-from-cast-moved t c = let w = head-room _ _ _ _ _ (c .before .before .before .head-in .ensures) (c .before .number .given .1) in omega (arith, w .0)
@@ -93,7 +90,6 @@ pub +reads-from-spec : {M : Type 1} → statement M
     (reads-from-returns t)
     (reads-from-head-in-requires t)
     (reads-from-enum-known-number t)
-    (reads-from-enum-told t)
     (reads-from-returns-2 t)
     (reads-from-cast-moved t)
     (reads-from-cast-moved-2 t)

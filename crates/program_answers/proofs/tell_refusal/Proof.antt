@@ -8,17 +8,11 @@ use Rattle.program_answers.proofs.tell_refusal.Tie as tie
 enum-known-why : tie.Need-enum-known-why
 enum-known-why c = search needs
 
-telling-requires : tie.Need-telling-requires
-telling-requires c κs = search needs
-
-enum-known-why-2 : tie.Need-enum-known-why-2
-enum-known-why-2 c = search needs
-
 with-value-requires : tie.Need-with-value-requires
 with-value-requires c κs = search needs
 
-enum-known-why-3 : tie.Need-enum-known-why-3
-enum-known-why-3 c = search needs
+enum-known-why-2 : tie.Need-enum-known-why-2
+enum-known-why-2 c = search needs
 
 with-value-requires-2 : tie.Need-with-value-requires-2
 with-value-requires-2 c κs = search needs
@@ -53,8 +47,8 @@ enum-told-5 c = search needs
 bare-requires-5 : tie.Need-bare-requires-5
 bare-requires-5 c κs = search needs
 
-enum-known-why-4 : tie.Need-enum-known-why-4
-enum-known-why-4 c = search needs
+enum-known-why-3 : tie.Need-enum-known-why-3
+enum-known-why-3 c = search needs
 
 with-value-requires-3 : tie.Need-with-value-requires-3
 with-value-requires-3 c κs = search needs
@@ -70,6 +64,30 @@ enum-told-7 c = search needs
 
 bare-requires-7 : tie.Need-bare-requires-7
 bare-requires-7 c κs = search needs
+
+enum-known-why-4 : tie.Need-enum-known-why-4
+enum-known-why-4 c = search needs
+
+telling-requires : tie.Need-telling-requires
+telling-requires c κs = search needs
+
+enum-known-why-5 : tie.Need-enum-known-why-5
+enum-known-why-5 c = search needs
+
+telling-requires-2 : tie.Need-telling-requires-2
+telling-requires-2 c κs = search needs
+
+enum-known-why-6 : tie.Need-enum-known-why-6
+enum-known-why-6 c = search needs
+
+telling-requires-3 : tie.Need-telling-requires-3
+telling-requires-3 c κs = search needs
+
+enum-known-why-7 : tie.Need-enum-known-why-7
+enum-known-why-7 c = search needs
+
+telling-requires-4 : tie.Need-telling-requires-4
+telling-requires-4 c κs = search needs
 
 returns : tie.Need-returns
 returns c = search (needs, told-as saidRefusal)
@@ -104,15 +122,22 @@ returns-10 c = search (needs, told-as saidRefusal)
 returns-11 : tie.Need-returns-11
 returns-11 c = search (needs, told-as saidRefusal)
 
+returns-12 : tie.Need-returns-12
+returns-12 c = search (needs, told-as saidRefusal)
+
+returns-13 : tie.Need-returns-13
+returns-13 c = search (needs, told-as saidRefusal)
+
+returns-14 : tie.Need-returns-14
+returns-14 c = search (needs, told-as saidRefusal)
+
 pub tell-refusal-spec : {M : Type 1} → statement M
 tell-refusal-spec =
     tie.close
     (tie.spec
     enum-known-why
-    telling-requires
-    enum-known-why-2
     with-value-requires
-    enum-known-why-3
+    enum-known-why-2
     with-value-requires-2
     enum-told
     bare-requires
@@ -124,12 +149,20 @@ tell-refusal-spec =
     bare-requires-4
     enum-told-5
     bare-requires-5
-    enum-known-why-4
+    enum-known-why-3
     with-value-requires-3
     enum-told-6
     bare-requires-6
     enum-told-7
     bare-requires-7
+    enum-known-why-4
+    telling-requires
+    enum-known-why-5
+    telling-requires-2
+    enum-known-why-6
+    telling-requires-3
+    enum-known-why-7
+    telling-requires-4
     returns
     returns-2
     returns-3
@@ -140,4 +173,7 @@ tell-refusal-spec =
     returns-8
     returns-9
     returns-10
-    returns-11)
+    returns-11
+    returns-12
+    returns-13
+    returns-14)

@@ -1,5 +1,5 @@
--- None, one or two values, laid one behind the other. Assumes nothing.
-use Rattle.program_lines.proofs.Tellings.{no-values, one-value, two-values}
+-- None, one, two or three values, laid one behind the other. Assumes nothing.
+use Rattle.program_lines.proofs.Tellings.{no-values, one-value, two-values, three-values}
 use borrow.Author.Needs.{needs}
 use Rattle.program_lines.proofs.put_values.Statement.{statement}
 use Rattle.program_lines.proofs.put_values.Tie as tie
@@ -34,6 +34,15 @@ same-length-3 c = search needs
 returns-3 : tie.Need-returns-3
 returns-3 c = search (needs, two-values)
 
+put-value-requires-3 : tie.Need-put-value-requires-3
+put-value-requires-3 c κs = search needs
+
+same-length-4 : tie.Need-same-length-4
+same-length-4 c = search needs
+
+returns-4 : tie.Need-returns-4
+returns-4 c = search (needs, three-values)
+
 pub put-values-spec : {M : Type 1} → statement M
 put-values-spec =
     tie.close
@@ -47,4 +56,7 @@ put-values-spec =
     returns-2
     put-value-requires-2
     same-length-3
-    returns-3)
+    returns-3
+    put-value-requires-3
+    same-length-4
+    returns-4)

@@ -40,9 +40,6 @@ read-head-requires c κs = search needs
 enum-known-head : tie.Need-enum-known-head
 enum-known-head c = search needs
 
-enum-told : tie.Need-enum-told
-enum-told c = search needs
-
 sub-result : tie.Need-sub-result
 sub-result c = search needs
 
@@ -53,7 +50,7 @@ part-result-end : tie.Need-part-result-end
 part-result-end c = search needs
 
 returns : tie.Need-returns
-returns c = part-short _ _ (sym (c .before .before .before .read-head .ensures) ∙ c .before .enum-told .given .1)
+returns c = part-short _ _ (c .before .before .read-head .ensures) (c .before .match .keys2)
 
 sub-result-2 : tie.Need-sub-result-2
 sub-result-2 c = search needs
@@ -88,7 +85,6 @@ payload-of-spec =
     (tie.spec
     read-head-requires
     enum-known-head
-    enum-told
     sub-result
     part-result-start
     part-result-end

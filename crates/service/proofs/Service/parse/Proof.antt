@@ -11,8 +11,8 @@ use denote.Ref.{now}
 use borrow.Author.Needs.{needs}
 use Rattle.service_headers.specs.declared.Head.the-variants.{Whole}
 use Rattle.service_headers.specs.Head.{blockHead}
-use Rattle.service_headers.proofs.Heads.{Headed, headed}
-use Rattle.service.proofs.Services.{refuses, gives, blank-places, parse-short, parse-null, parse-some, part-length, laid-as}
+use Rattle.service_headers.proofs.Heads.{Headed, headed, read-short}
+use Rattle.service.proofs.Services.{refuses, gives, blank-places, parse-null, parse-some, part-length, laid-as}
 use Rattle.service.proofs.Service.parse.Statement.{statement}
 use Rattle.service.proofs.Service.parse.Tie as tie
 
@@ -46,9 +46,6 @@ read-head-requires c κs = search needs
 enum-known-head : tie.Need-enum-known-head
 enum-known-head c = search needs
 
-enum-told : tie.Need-enum-told
-enum-told c = search needs
-
 short-of-requires : tie.Need-short-of-requires
 short-of-requires c κs = search needs
 
@@ -57,9 +54,8 @@ refused-requires c κs = search needs
 
 returns : tie.Need-returns
 returns c =
-    let e = c .before .before .enum-told .given .1 in
-    refuses _ _ _ _ (parse-short _ _ (sym (c .before .before .before .before .read-head .ensures) ∙ e))
-    (c .refused .ensures .0 ∙ c .before .short-of .ensures ∙ simp e) (c .refused .ensures .1)
+    let h = c .before .before .before in
+    refuses _ _ _ _ (read-short _ _ (h .read-head .ensures) (c .before .before .match .keys2) 0) (c .refused .ensures .0 ∙ c .before .short-of .ensures) (c .refused .ensures .1)
 
 returns-2 : tie.Need-returns-2
 returns-2 c = gives _ _ _ _ blank-places (omega arith) (parse-null _ _ _ _ (is (c .before .before)) (c .if1 .taken)) refl refl
@@ -95,7 +91,6 @@ parse-spec =
     (tie.spec
     read-head-requires
     enum-known-head
-    enum-told
     short-of-requires
     refused-requires
     returns
