@@ -1,7 +1,7 @@
 -- Reasoning by cases on a test and on an outcome. Assumes nothing.
 use mathlib.Core.Path.{_≡_, refl, ap, subst}
 use mathlib.Core.Bool.{Bool, true, false, cond, _&&_, false≢true}
-use Rattle.model.specs.Said.{Outcome, gave, refused, andThen, mapped}
+use Rattle.model.specs.Said.{Said, Outcome, gave, refused, andThen, mapped}
 
 -- what holds under either outcome of a test holds
 pub by-test : {P : Type 0} (b : Bool) → (b ≡ true → P) → (b ≡ false → P) → P
@@ -41,6 +41,27 @@ module _ {A B : Type 0} where
 -- an outcome that gives x
 pub gives-at : {A : Type 0} (P : A → Type 0) {x : A} (o : Outcome A) → o ≡ gave x → Gives P o → P x
 gives-at P o e g = subst (Gives P) e g
+
+-- P holds of what an outcome is refused with, if it is refused
+abbrev pub Refuses : {A : Type 0} → (Said → Type 0) → Outcome A → Type 0
+Refuses P (gave x) = Unit {0}
+Refuses P (refused why) = P why
+
+-- so does what follows of P
+pub refuses-weaker : {A : Type 0} {P Q : Said → Type 0} → ((why : Said) → P why → Q why) → (o : Outcome A) → Refuses P o → Refuses Q o
+refuses-weaker h (gave x) p = tt
+refuses-weaker h (refused why) p = h why p
+
+module _ {A B : Type 0} (P : Said → Type 0) where
+  -- what the first of two calls is refused with, or the second
+  pub refuses-then : (o : Outcome A) (f : A → Outcome B) → Refuses P o → ((x : A) → Refuses P (f x)) → Refuses P (andThen o f)
+  refuses-then (gave x) f p h = h x
+  refuses-then (refused why) f p h = p
+
+  -- a map leaves it
+  pub refuses-mapped : (f : A → B) (o : Outcome A) → Refuses P o → Refuses P (mapped f o)
+  refuses-mapped f (gave x) p = tt
+  refuses-mapped f (refused why) p = p
 
 -- two maps, one after the other
 pub mapped-mapped : {A B C : Type 0} (f : B → C) (g : A → B) (o : Outcome A) → mapped f (mapped g o) ≡ mapped (λ x. f (g x)) o

@@ -3,6 +3,7 @@ pub mod Lists
 pub mod Blocks
 pub mod BlockTrip
 pub mod Walk
+pub mod Lengths
 pub mod Packets
 pub mod Limits
 pub mod Rates
