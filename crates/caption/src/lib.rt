@@ -46,13 +46,13 @@ pub enum Refusal {
         actual: usize,
         offset: usize,
     },
-    // The header of the block that begins at this offset of the packet is cut short; a block read alone stands at 0.
+    // The header of the block that begins at this offset of its packet is cut short; a block that is read alone stands at 0.
     BlockHeaderShort {
         expected: usize,
         actual: usize,
         offset: usize,
     },
-    // So is the payload behind its header.
+    // The payload of the block that begins at this offset is cut short.
     BlockBodyShort {
         expected: usize,
         actual: usize,

@@ -165,7 +165,8 @@ fn read_blocks(
         size,
     } = head
     else {
-        return Counted::Refused(service_headers::short_of(head, end - at, at));
+        let why = service_headers::short_of(head, end - at, at);
+        return Counted::Refused(why);
     };
     let next = keep_block(
         bytes,
