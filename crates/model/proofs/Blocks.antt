@@ -9,7 +9,7 @@ use lib.ListN.{length, getD, drop, length-append}
 use lib.Seq.{take-at}
 use borrow.Author.Tests.{eq-eqb, ne-eqb, le-leb, lt-ltb, le-ltb, leb-true}
 use Rattle.model.specs.Said.{gave, refused, blockHeaderShort, blockBodyShort}
-use Rattle.model.specs.Block.{Block, validBlock, topNumber, blockSize, headerLength, numberIn, isHeaderShort, needed, isShort, blockIn, shortAt, readBlockAt, readBlock, writtenHeader, writtenBlock, blockLength}
+use Rattle.model.specs.Block.{Block, validBlock, topNumber, blockSize, headerLength, numberIn, isHeaderShort, needed, isShort, blockIn, shortAt, readBlockAt, writtenHeader, writtenBlock, blockLength}
 use Rattle.model.specs.Packet.{carriable}
 use Rattle.model.proofs.Cases.{by-test, both}
 

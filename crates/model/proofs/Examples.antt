@@ -124,6 +124,8 @@ unfolding table
     packetSize plainMove tidyMove blocksFrom readBy readPacket reads readTidy blocksLength packetLength writtenBlocks packetHeader fill writtenPacket
     seen seenAll flat triplesIn flagged frameBytes
     pairsIn lateAfter lateFrom carries708 closed packetsOf kept wants gather ended gathered takeGathered takeTriples unread takeFrame
-    rounded budgets goingOn carriedBudget leftOver carriedOn carriedShare shareBy queued pushPacket isNull pushPair pushCea608 turnsDue turn1 turn2 turned continued started packetTriples triplesQueued turnsSending turnsCounted countDue send padding framed writeFrame
+    rounded budgets goingOn carriedBudget leftOver carriedOn carriedShare shareBy
+    queued pushPacket isNull pushPair pushCea608 turnsDue turn1 turn2 turned continued started packetTriples triplesQueued
+    turnsSending turnsCounted countDue send padding framed writeFrame
     call run readFrames
 examples = refl

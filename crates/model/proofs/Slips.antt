@@ -83,6 +83,6 @@ pub refusals-told : refusals
     ≡ says 2 (3 ∷ []) ∷ says 3 (2 ∷ []) ∷ says 4 [] ∷ says 5 [] ∷ says 6 [] ∷ says 7 [] ∷ says 8 [] ∷ says 9 (3 ∷ []) ∷ says 10 [] ∷ says 11 []
     ∷ says 12 (8 ∷ 5 ∷ []) ∷ says 13 (1 ∷ 0 ∷ 0 ∷ []) ∷ says 14 (1 ∷ 0 ∷ 0 ∷ []) ∷ says 15 (3 ∷ 2 ∷ 0 ∷ []) ∷ []
 unfolding
-    refusals headerLength isHeaderShort needed isShort shortAt readBlockAt readBy readPacket packetSize seen seenAll triplesIn flagged pairsIn lateAfter lateFrom takeTriples unread takeFrame pushToBlock blockLength blocksLength packetLength pushBlock
-    newBlock rounded budgets putInto isNull queued pushPair
+    refusals headerLength isHeaderShort needed isShort shortAt readBlockAt readBy readPacket packetSize seen seenAll triplesIn flagged pairsIn lateAfter lateFrom takeTriples unread takeFrame
+    pushToBlock blockLength blocksLength packetLength pushBlock newBlock rounded budgets putInto isNull queued pushPair
 refusals-told = refl

@@ -62,7 +62,8 @@ module _ (d : List ℕ) (many : 128 < length d) where
   too-long false size e = lt-ltb size (length d) (omega (arith, size-most (getD d 0 0)))
 
   -- they are refused
-  pub read-many : (tidy : Bool) (size : ℕ) → size ≡ packetSize (getD d 0 0) → (why : Said) (r : Filled) → why ≡ packetLengthWrong size (length d) 0 → ReadsInto (refused why) r → ReadsInto (readAs tidy d) r
+  pub read-many : (tidy : Bool) (size : ℕ) → size ≡ packetSize (getD d 0 0) → (why : Said) (r : Filled) → why ≡ packetLengthWrong size (length d) 0
+      → ReadsInto (refused why) r → ReadsInto (readAs tidy d) r
   read-many tidy size e why r m k = read-refused (readAs tidy d) why r (wrong-as tidy d some-of size e (too-long tidy size e) ∙ ap refused (sym m)) k
 
 -- bytes that are copied to the front of an array are its first
