@@ -1,16 +1,17 @@
--- Whether bytes read as a packet is what the answer to reading them says: every refusal of a reader is of a length, and none says accepted. Assumes nothing.
-use mathlib.Core.Path.{_≡_, refl, sym, ap, _∙_}
-use mathlib.Core.Bool.{true, false}
+-- What the answers to reading tell: a refusal is of a length, and none says accepted, so that whether bytes read as a packet is what the answer says.
+-- Assumes nothing.
+use mathlib.Core.Path.{_≡_, refl, sym, ap, subst, _∙_}
+use mathlib.Core.Bool.{true, false, not}
 use mathlib.Core.List.{List}
 use Prim.Native.Nat.{ℕ}
 use native.Mathlib.Omega.{arith}
-use lib.Dec.{ltb}
+use lib.Dec.{eqb, ltb}
 use Rattle.caption.specs.declared.Answer.the-variants.{Accepted, Refused}
 use Rattle.caption.specs.declared.Refusal.{Refusal}
-use Rattle.caption.specs.Answers.{saidAnswer}
-use Rattle.caption.proofs.Answers.{answerOf, refused-again}
+use Rattle.caption.specs.Answers.{saidRefusal, saidAnswer}
+use Rattle.caption.proofs.Answers.{answerOf, refused-again, refusal-numbered}
 use Rattle.model.specs.Said.{Said, Outcome, gave, refused, isGiven, says}
-use Rattle.model.specs.Packet.{Packet, plainMove, readPacket, reads}
+use Rattle.model.specs.Packet.{Packet, plainMove, tidyMove, readPacket, readTidy, reads}
 use Rattle.model.proofs.Cases.{Refuses}
 use Rattle.model.proofs.Lengths.{OfLength, own, inside, packet-refusals}
 use Rattle.packet.specs.Packet.{Answers, blank}
@@ -37,3 +38,20 @@ module _ (d : List ℕ) (r : PacketAnswer) (read : Answers (readPacket d) blank 
       by : (o : Outcome Packet) → saidAnswer (r .answer) ≡ says o → isGiven o ≡ false
       by (gave x) h = ap (answerOf (λ v. true) (λ y. false)) (sym (rw e at h)) ∙ refused-again (λ v. true) (λ y. false) why
       by (refused y) h = refl
+
+-- What reading a packet is refused with is of a length, and its values hang together as `OfLength` says: of any answer that a contract of a reader allows.
+lengths-told : (d : List ℕ) (o : Outcome Packet) → Refuses (OfLength d) o → (r : PacketAnswer) → Answers o blank r → (why : Refusal) → r .answer ≡ Refused why
+    → OfLength d (saidRefusal why)
+lengths-told d (gave x) q r read why e = absurd (refusal-numbered why (ap (λ (s : Said). s .number) (rw e at (read .answer))))
+lengths-told d (refused y) q r read why e = subst (OfLength d) (sym (rw e at (read .answer))) q
+
+module _ (d : List ℕ) (r : PacketAnswer) (why : Refusal) (is : r .answer ≡ Refused why) where
+  -- the plain reader
+  pub plain-lengths : Answers (readPacket d) blank r → OfLength d (saidRefusal why)
+  unfolding readPacket
+  plain-lengths read = lengths-told d (readPacket d) (packet-refusals plainMove ltb d) r read why is
+
+  -- the tidy one
+  pub tidy-lengths : Answers (readTidy d) blank r → OfLength d (saidRefusal why)
+  unfolding readTidy
+  tidy-lengths read = lengths-told d (readTidy d) (packet-refusals tidyMove (λ size actual. not (eqb size actual)) d) r read why is
