@@ -333,7 +333,7 @@ def answer(state, record):
 
 
 def length_refusal(record):
-    """The number and the values with which a read of a block or a packet is refused that does not have its length."""
+    """Which length of a block or a packet that is read is wrong: the refusal's number and its values, or four times nothing."""
     try:
         carry_out(FRESH, chr(record[0]), bytes(record[1:]))
     except Refused as refusal:

@@ -1,8 +1,9 @@
 """Scripts for `ccscript`, by kind: all short ones, every limit from both sides, damaged copies of good bytes, any order of calls.
 
 An operation is a tuple of its letter and its arguments, or of "raw" and a record's bytes; a script is a list of operations.
-`generate(seed, written)` gives each kind with its scripts, `generate_reading(seed)` those of reading that the reckoning knows, and `generate_carrying(seed)` those of the carrying mode, which the
-crate does not have. `generate_counting` and `generate_carrying_counting` give those with writes once more, with the true count.
+`generate(seed, written)` gives each kind with its scripts, `generate_reading(seed)` those of reading that the reckoning knows
+too, and `generate_carrying(seed)` those of the carrying mode, which the crate does not have. `generate_counting` and
+`generate_carrying_counting` give those with writes once more, with the true count.
 """
 import random, itertools
 R = random.Random()

@@ -40,7 +40,7 @@ refusals v =
 
 -- Every answer that gives values or refuses is taken back from what it says in the same way.
 module _ {A : Type 0} (given : List ℕ → A) (refused : Refusal → A) where
-  -- 0 gives the values, any other number the table's row
+  -- 0 gives the values, a number from 2 on the table's row
   abbrev pub answerOf : Said → A
   answerOf s = cond (eqb (s .number) 0) (given (s .values)) (refused (getD (refusals (s .values)) (s .number - 2) BadValue))
 

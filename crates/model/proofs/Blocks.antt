@@ -1,6 +1,6 @@
 -- What follows of the definitions of a block: how a header reads, how long a block is, and that a block written is read back. Assumes nothing.
 use mathlib.Core.Path.{_≡_, refl, ap, _∙_}
-use mathlib.Core.Bool.{true, false, cond, _&&_}
+use mathlib.Core.Bool.{true, false, cond, not, _&&_}
 use mathlib.Core.List.{List, _∷_, _++_}
 use Prim.Native.Nat.{ℕ, _+_, _*_, _≤_, _<_}
 use native.Mathlib.Omega.{arith}
@@ -11,7 +11,7 @@ use borrow.Author.Tests.{eq-eqb, ne-eqb, le-leb, lt-ltb, le-ltb, leb-true}
 use Rattle.model.specs.Said.{gave, refused, blockHeaderShort, blockBodyShort}
 use Rattle.model.specs.Block.{Block, validBlock, topNumber, blockSize, headerLength, numberIn, isHeaderShort, needed, isShort, blockIn, shortAt, readBlockAt, writtenHeader, writtenBlock, blockLength}
 use Rattle.model.specs.Packet.{carriable}
-use Rattle.model.proofs.Cases.{by-test, both}
+use Rattle.model.proofs.Cases.{by-test, by-cond, both}
 
 -- what a block has to be to stand in a packet, as facts on numbers
 pub record Carriable (b : Block) : Type 0 where
@@ -57,6 +57,16 @@ header-one h t = simp (ne-eqb _ _ t)
 pub header-bare : (h : ℕ) → blockSize h ≡ 0 → headerLength h ≡ 1
 unfolding headerLength
 header-bare h s = by-test (eqb (topNumber h) 7) (λ e. simp (e, eq-eqb _ _ s)) (λ e. simp e)
+
+-- a header has a byte
+pub header-least : (h : ℕ) → 1 ≤ headerLength h
+unfolding headerLength
+header-least h = by-cond (λ n. 1 ≤ n) (eqb (topNumber h) 7 && not (eqb (blockSize h) 0)) (λ _. omega arith) (λ _. omega arith)
+
+-- and at most two
+pub header-most : (h : ℕ) → headerLength h ≤ 2
+unfolding headerLength
+header-most h = by-cond (λ n. n ≤ 2) (eqb (topNumber h) 7 && not (eqb (blockSize h) 0)) (λ _. omega arith) (λ _. omega arith)
 
 -- bytes that are read as a block, at any offset
 module _ (offset : ℕ) (d : List ℕ) where

@@ -47,7 +47,7 @@ abbrev pub Refuses : {A : Type 0} → (Said → Type 0) → Outcome A → Type 0
 Refuses P (gave x) = Unit {0}
 Refuses P (refused why) = P why
 
--- so does what follows of P
+-- and of what an outcome is refused with, all that follows from P holds
 pub refuses-weaker : {A : Type 0} {P Q : Said → Type 0} → ((why : Said) → P why → Q why) → (o : Outcome A) → Refuses P o → Refuses Q o
 refuses-weaker h (gave x) p = tt
 refuses-weaker h (refused why) p = h why p

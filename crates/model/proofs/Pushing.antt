@@ -27,11 +27,11 @@ lengths-append [] b = omega arith
 lengths-append (x ∷ bs) b = omega (arith, lengths-append bs b)
 
 -- a header has at most two bytes, and a block at most 33
-header-most : (n : ℕ) → cond (ltb n 7) 1 2 ≤ 2
-header-most n = by-test (ltb n 7) (λ e. rw e (omega arith)) (λ e. rw e (omega arith))
+written-header-most : (n : ℕ) → cond (ltb n 7) 1 2 ≤ 2
+written-header-most n = by-test (ltb n 7) (λ e. rw e (omega arith)) (λ e. rw e (omega arith))
 
 block-most : (b : Block) → Carriable b → blockLength b ≤ 33
-block-most b c = omega (arith, block-length b (c .filled), written-length b, header-most (b .number), c .small)
+block-most b c = omega (arith, block-length b (c .filled), written-length b, written-header-most (b .number), c .small)
 
 no-lengths : (bs : List Block) → length bs ≡ 0 → blocksLength bs ≡ 0
 unfolding blocksLength

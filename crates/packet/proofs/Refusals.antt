@@ -6,6 +6,7 @@ use mathlib.Core.List.{List}
 use Prim.Native.Nat.{ℕ}
 use native.Mathlib.Omega.{arith}
 use lib.Dec.{eqb, ltb}
+use borrow.Author.Tests.{eq-eqb, le-ltb}
 use Rattle.caption.specs.declared.Answer.the-variants.{Accepted, Refused}
 use Rattle.caption.specs.declared.Refusal.{Refusal}
 use Rattle.caption.specs.Answers.{saidRefusal, saidAnswer}
@@ -13,19 +14,29 @@ use Rattle.caption.proofs.Answers.{answerOf, refused-again, refusal-numbered}
 use Rattle.model.specs.Said.{Said, Outcome, gave, refused, isGiven, says}
 use Rattle.model.specs.Packet.{Packet, plainMove, tidyMove, readPacket, readTidy, reads}
 use Rattle.model.proofs.Cases.{Refuses}
-use Rattle.model.proofs.Lengths.{OfLength, own, inside, packet-refusals}
+use Rattle.model.proofs.Lengths.{inHeader, inBody, OfLength, own, inside, packet-refusals}
 use Rattle.packet.specs.Packet.{Answers, blank}
 use Rattle.packet.specs.declared.PacketAnswer.{PacketAnswer}
 
 -- none of them says accepted
 not-accepted : (d : List ℕ) (why : Said) → OfLength d why → why .number ≡ 0 → ⊥
-not-accepted d why (own expected e) z = let n : why .number ≡ 13 = ap (λ (s : Said). s .number) e in omega arith
-not-accepted d why (inside c) z = omega (arith, c .least)
+not-accepted d why (own expected w e) z = let n : why .number ≡ 13 = ap (λ (s : Said). s .number) e in omega arith
+not-accepted d why (inside (inHeader expected actual offset few m e)) z = let n : why .number ≡ 14 = ap (λ (s : Said). s .number) e in omega arith
+not-accepted d why (inside (inBody expected actual offset some m e)) z = let n : why .number ≡ 15 = ap (λ (s : Said). s .number) e in omega arith
+
+-- a reader refuses so
+plain-refused : (d : List ℕ) → Refuses (OfLength d) (readPacket d)
+unfolding readPacket
+plain-refused d = packet-refusals plainMove ltb (λ n. le-ltb n n (omega arith)) d
+
+tidy-refused : (d : List ℕ) → Refuses (OfLength d) (readTidy d)
+unfolding readTidy
+tidy-refused d = packet-refusals tidyMove (λ size actual. not (eqb size actual)) (λ n. rw (eq-eqb n n refl)) d
 
 module _ (d : List ℕ) (r : PacketAnswer) (read : Answers (readPacket d) blank r) where
   pub accepted-reads : r .answer ≡ Accepted → reads d ≡ true
-  unfolding reads readPacket
-  accepted-reads e = by (readPacket d) (packet-refusals plainMove ltb d) (read .answer)
+  unfolding reads
+  accepted-reads e = by (readPacket d) (plain-refused d) (read .answer)
     where
       by : (o : Outcome Packet) → Refuses (OfLength d) o → saidAnswer (r .answer) ≡ says o → isGiven o ≡ true
       by (gave x) q h = refl
@@ -48,10 +59,8 @@ lengths-told d (refused y) q r read why e = subst (OfLength d) (sym (rw e at (re
 module _ (d : List ℕ) (r : PacketAnswer) (why : Refusal) (is : r .answer ≡ Refused why) where
   -- the plain reader
   pub plain-lengths : Answers (readPacket d) blank r → OfLength d (saidRefusal why)
-  unfolding readPacket
-  plain-lengths read = lengths-told d (readPacket d) (packet-refusals plainMove ltb d) r read why is
+  plain-lengths read = lengths-told d (readPacket d) (plain-refused d) r read why is
 
   -- the tidy one
   pub tidy-lengths : Answers (readTidy d) blank r → OfLength d (saidRefusal why)
-  unfolding readTidy
-  tidy-lengths read = lengths-told d (readTidy d) (packet-refusals tidyMove (λ size actual. not (eqb size actual)) d) r read why is
+  tidy-lengths read = lengths-told d (readTidy d) (tidy-refused d) r read why is

@@ -12,13 +12,13 @@ use Rattle.model.specs.Said.{Outcome, gave, refused, isGiven, mapped}
 use Rattle.model.specs.Block.{Block, needed, isShort, blockIn, readBlockAt, blockLength}
 use Rattle.model.specs.Packet.{plainMove, tidyMove, kept, blocksFrom}
 use Rattle.model.proofs.Cases.{by-test, by-cond, mapped-by}
-use Rattle.model.proofs.Blocks.{block-length, written-length}
+use Rattle.model.proofs.Blocks.{header-least, header-most, block-length, written-length}
 use Rattle.model.proofs.Walk.{blocks-next, blocks-none}
 use Rattle.model.proofs.Limits.{Moves, read-from}
 use Rattle.service_headers.specs.declared.Head.{Head}
 use Rattle.service_headers.specs.declared.Head.the-variants.{Whole}
 use Rattle.service_headers.specs.Head.{blockHead, saidShort}
-use Rattle.service_headers.proofs.Heads.{Headed, NotWhole, headed, read-short, header-least, header-most}
+use Rattle.service_headers.proofs.Heads.{Headed, NotWhole, headed, read-short}
 use Rattle.packet_moves.specs.Moves.{moveBy, moveFor, keptFor, blocksIn}
 
 -- bytes whose header was read

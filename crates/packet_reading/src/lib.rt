@@ -17,7 +17,7 @@ pub fn read(data: &[u8], tidy: bool) -> Filled
 {
     let n = data.len();
     if MOST_PACKET < n {
-        return unread(wrong(packet_moves::packet_size(data[0]), n));
+        return unread(refusal_for(packet_moves::packet_size(data[0]), n));
     }
     let mut bytes = [0u8; 128];
     put_bytes(&mut bytes, 0, data);
@@ -30,11 +30,11 @@ pub fn read_in(bytes: &[u8; 128], len: usize, tidy: bool) -> Filled
 {
     let n = packet_moves::held(bytes, len);
     if n == 0 {
-        return unread(wrong(1, 0));
+        return unread(refusal_for(1, 0));
     }
     let size = packet_moves::packet_size(bytes[0]);
     if wrong_length(tidy, size, n) {
-        return unread(wrong(size, n));
+        return unread(refusal_for(size, n));
     }
     packet_blocks::fill(bytes, n, tidy)
 }
@@ -50,7 +50,7 @@ fn wrong_length(tidy: bool, size: usize, actual: usize) -> bool
 }
 
 // Why a packet of this length is refused: it stands at offset 0.
-fn wrong(expected: usize, actual: usize) -> Refusal
+fn refusal_for(expected: usize, actual: usize) -> Refusal
     ensures { λ r. ⌜ saidRefusal r ≡ packetLengthWrong expected actual 0 ⌝ }
 {
     Refusal::PacketLengthWrong {

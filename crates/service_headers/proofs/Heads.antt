@@ -1,6 +1,6 @@
 -- What the header of a block says, by each way out of its reader. Assumes nothing.
 use mathlib.Core.Path.{_≡_, refl, sym, _∙_}
-use mathlib.Core.Bool.{Bool, true, false, cond, not, _&&_}
+use mathlib.Core.Bool.{Bool, true, false, cond}
 use mathlib.Core.List.{List, [], _∷_}
 use Prim.Native.Nat.{ℕ, suc, _+_, _-_, _*_, _/_, _%_, _≤_, _<_, min}
 use native.Mathlib.Nat.{add-zero}
@@ -13,9 +13,9 @@ use types.Run.{OneOf, miss}
 use denote.Enum.Declared.{tagOf}
 use borrow.Author.Tests.{eq-eqb, ne-eqb, lt-ltb, le-ltb, ltb-false}
 use Rattle.model.specs.Said.{refused}
-use Rattle.model.specs.Block.{Block, topNumber, blockSize, headerLength, numberIn, isHeaderShort, needed, isShort, shortAt, readBlockAt, writtenHeader, writtenBlock, blockLength}
+use Rattle.model.specs.Block.{Block, blockSize, headerLength, numberIn, isHeaderShort, needed, isShort, shortAt, readBlockAt, writtenHeader, writtenBlock, blockLength}
 use Rattle.model.proofs.Cases.{by-test, by-cond}
-use Rattle.model.proofs.Blocks.{header-one, header-two, header-bare, header-written, written-length}
+use Rattle.model.proofs.Blocks.{header-one, header-two, header-bare, header-least, header-written, written-length}
 use Rattle.model.proofs.Limits.{all-there}
 use Rattle.service_headers.specs.declared.Head.{Head}
 use Rattle.service_headers.specs.declared.Head.the-variants.{Whole, HeaderShort, BodyShort}
@@ -34,16 +34,6 @@ one-byte h t = sym (header-one h t)
 -- one byte where the size is 0
 pub bare-byte : (h : ℕ) → h % 32 ≡ 0 → 1 ≡ headerLength h
 bare-byte h s = sym (header-bare h s)
-
--- there is always a byte
-pub header-least : (h : ℕ) → 1 ≤ headerLength h
-unfolding headerLength
-header-least h = by-cond (λ n. 1 ≤ n) (eqb (topNumber h) 7 && not (eqb (blockSize h) 0)) (λ _. omega arith) (λ _. omega arith)
-
--- nor are there more than two
-pub header-most : (h : ℕ) → headerLength h ≤ 2
-unfolding headerLength
-header-most h = by-cond (λ n. n ≤ 2) (eqb (topNumber h) 7 && not (eqb (blockSize h) 0)) (λ _. omega arith) (λ _. omega arith)
 
 -- a header is written in one byte or in two
 pub written-most : (n start : ℕ) → start ≡ cond (ltb n 7) 1 2 → start ≤ 2

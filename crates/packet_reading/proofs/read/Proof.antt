@@ -10,14 +10,14 @@ shared-slice-read-packet-size c = search needs
 packet-size-requires : tie.Need-packet-size-requires
 packet-size-requires c κs = search needs
 
-wrong-requires : tie.Need-wrong-requires
-wrong-requires c κs = search needs
+refusal-for-requires : tie.Need-refusal-for-requires
+refusal-for-requires c κs = search needs
 
 unread-requires : tie.Need-unread-requires
 unread-requires c κs = search needs
 
 returns : tie.Need-returns
-returns c = read-many _ (c .before .before .before .before .if1 .taken) _ _ (c .before .before .packet-size .ensures) _ _ (c .before .wrong .ensures) (c .unread .ensures)
+returns c = read-many _ (c .before .before .before .before .if1 .taken) _ _ (c .before .before .packet-size .ensures) _ _ (c .before .refusal-for .ensures) (c .unread .ensures)
 
 slice-aggregate-put-bytes : tie.Need-slice-aggregate-put-bytes
 slice-aggregate-put-bytes c = search needs
@@ -37,7 +37,7 @@ read-spec =
     (tie.spec
     shared-slice-read-packet-size
     packet-size-requires
-    wrong-requires
+    refusal-for-requires
     unread-requires
     returns
     slice-aggregate-put-bytes

@@ -8,8 +8,8 @@ use Rattle.packet_reading.proofs.read_in.Tie as tie
 held-requires : tie.Need-held-requires
 held-requires c κs = search needs
 
-wrong-requires : tie.Need-wrong-requires
-wrong-requires c κs = search needs
+refusal-for-requires : tie.Need-refusal-for-requires
+refusal-for-requires c κs = search needs
 
 unread-requires : tie.Need-unread-requires
 unread-requires c κs = search needs
@@ -18,7 +18,7 @@ returns : tie.Need-returns
 returns c =
     let h = c .before .before .before in
     let s = h .before in
-    read-none (now (s .args .bytes)) (s .args .len) _ (h .held .ensures .0) _ _ _ (c .before .before .if1 .taken) (c .before .wrong .ensures) (c .unread .ensures)
+    read-none (now (s .args .bytes)) (s .args .len) _ (h .held .ensures .0) _ _ _ (c .before .before .if1 .taken) (c .before .refusal-for .ensures) (c .unread .ensures)
 
 element-copy-out-packet-size : tie.Need-element-copy-out-packet-size
 element-copy-out-packet-size c = search needs
@@ -29,8 +29,8 @@ packet-size-requires c κs = search needs
 wrong-length-requires : tie.Need-wrong-length-requires
 wrong-length-requires c κs = search needs
 
-wrong-requires-2 : tie.Need-wrong-requires-2
-wrong-requires-2 c κs = search needs
+refusal-for-requires-2 : tie.Need-refusal-for-requires-2
+refusal-for-requires-2 c κs = search needs
 
 unread-requires-2 : tie.Need-unread-requires-2
 unread-requires-2 c κs = search needs
@@ -42,7 +42,7 @@ returns-2 c =
     let f = k .before .before in
     let s = f .before .before in
     read-wrong (now (s .args .bytes)) (s .args .len) _ (f .before .held .ensures .0) (f .if1 .left) _ (k .packet-size .ensures) _ _ (w .wrong-length .ensures) _ _
-    (c .before .before .if2 .taken) (c .before .wrong2 .ensures) (c .unread2 .ensures)
+    (c .before .before .if2 .taken) (c .before .refusal-for2 .ensures) (c .unread2 .ensures)
 
 fill-requires : tie.Need-fill-requires
 fill-requires c κs = search needs
@@ -61,13 +61,13 @@ read-in-spec =
     tie.close
     (tie.spec
     held-requires
-    wrong-requires
+    refusal-for-requires
     unread-requires
     returns
     element-copy-out-packet-size
     packet-size-requires
     wrong-length-requires
-    wrong-requires-2
+    refusal-for-requires-2
     unread-requires-2
     returns-2
     fill-requires

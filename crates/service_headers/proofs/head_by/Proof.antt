@@ -1,6 +1,7 @@
 -- One law of `Heads` for each way out, in the order of the tests: header cut, body cut, a number in the second byte, in the first. Assumes nothing.
 use native.Mathlib.Omega.{arith}
-use Rattle.service_headers.proofs.Heads.{header-most, head-cut, body-cut, head-two, head-one}
+use Rattle.model.proofs.Blocks.{header-most}
+use Rattle.service_headers.proofs.Heads.{head-cut, body-cut, head-two, head-one}
 use borrow.Author.Needs.{needs}
 use Rattle.service_headers.proofs.head_by.Statement.{statement}
 use Rattle.service_headers.proofs.head_by.Tie as tie
