@@ -44,6 +44,7 @@ earlier offset n why c = by c
   where
     wider : {expected actual at : ℕ} → Missing (suc offset) (suc offset + n) expected actual at → Missing offset (offset + suc n) expected actual at
     wider m = record { short = m .short; behind = omega (arith, m .behind); rest = omega (arith, m .rest) }
+
     by : CutShort (suc offset) (suc offset + n) why → CutShort offset (offset + suc n) why
     by (inHeader expected actual at few m e) = inHeader expected actual at few (wider m) e
     by (inBody expected actual at some m e) = inBody expected actual at some (wider m) e
