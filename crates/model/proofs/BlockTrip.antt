@@ -5,9 +5,9 @@ use Prim.Native.Nat.{ℕ, suc, _+_, _*_, _%_, _≤_, _<_}
 use native.Mathlib.Omega.{arith}
 use lib.Dec.{ltb}
 use lib.ListN.{length, getD, length-append}
-use borrow.Author.Tests.{ne-eqb, le-ltb, ltb-true, ltb-false}
+use borrow.Author.Tests.{ne-eqb, ltb-true, ltb-false}
 use Rattle.model.specs.Said.{gave}
-use Rattle.model.specs.Block.{Block, topNumber, blockSize, headerLength, numberIn, isHeaderShort, needed, blockIn, readBlockAt, writtenBlock}
+use Rattle.model.specs.Block.{Block, topNumber, blockSize, headerLength, numberIn, blockIn, readBlockAt, writtenBlock}
 use Rattle.model.specs.Packet.{plainMove, tidyMove}
 use Rattle.model.proofs.Cases.{by-test}
 use Rattle.model.proofs.Blocks.{Carriable, header-one, header-two, written-short, written-long, block-length, block-at, read-at, read-whole}
@@ -80,8 +80,8 @@ module _ (b : Block) (rest : List ℕ) (f : Carriable b) where
 
 -- the byte that fills an odd length is a block without payload, which both readers pass in one byte
 pub fill-read : (offset : ℕ) (rest : List ℕ) → readBlockAt offset (0x00 ∷ rest) ≡ gave (record { number = 0; payload = [] })
-unfolding blockIn numberIn headerLength needed isHeaderShort
-fill-read offset rest = rw (read-whole offset (0x00 ∷ rest) (simp (le-ltb (suc (length rest)) 1 (omega arith)) (omega arith)))
+unfolding blockIn numberIn headerLength
+fill-read offset rest = rw (read-whole offset (0x00 ∷ rest) (omega arith))
 
 -- the plain reader passes it
 pub plain-fill : (rest : List ℕ) → plainMove (0x00 ∷ rest) ≡ 1

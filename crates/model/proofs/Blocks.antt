@@ -82,9 +82,9 @@ module _ (offset : ℕ) (d : List ℕ) where
   body-missing k h = simp (le-ltb _ _ k, lt-ltb _ _ h)
 
   -- none is missing
-  pub read-whole : needed d ≤ length d → readBlockAt offset d ≡ gave (blockIn d)
-  unfolding readBlockAt isShort
-  read-whole h = simp (le-ltb _ _ h)
+  pub read-whole : headerLength (getD d 0 0) + blockSize (getD d 0 0) ≤ length d → readBlockAt offset d ≡ gave (blockIn d)
+  unfolding readBlockAt isShort needed isHeaderShort
+  read-whole h = simp (le-ltb (length d) (headerLength (getD d 0 0)) (omega arith), le-ltb _ _ h)
 
 -- what a block is written in
 pub written-short : (b : Block) → b .number < 7 → writtenBlock b ≡ (b .number * 32 + length (b .payload)) ∷ b .payload
@@ -129,11 +129,6 @@ length-long b n h = block-length b h ∙ rw (written-long b n) (omega arith)
 -- bytes d that begin with a header of k bytes for number n and the payload p
 module _ (d p rest : List ℕ) (n k : ℕ) (head : headerLength (getD d 0 0) ≡ k) (size : blockSize (getD d 0 0) ≡ length p) (number : numberIn d ≡ n)
     (named : n ≡ 0 → ⊥) (body : drop k d ≡ p ++ rest) (enough : k + length p ≤ length d) where
-  -- so many bytes are needed
-  pub needed-at : needed d ≡ k + length p
-  unfolding needed isHeaderShort
-  needed-at = simp (head, size, le-ltb (length d) k (omega arith))
-
   -- it is the block of that number and payload
   pub block-at : blockIn d ≡ record { number = n; payload = p }
   unfolding blockIn
@@ -141,4 +136,4 @@ module _ (d p rest : List ℕ) (n k : ℕ) (head : headerLength (getD d 0 0) ≡
 
   -- and the reader gives it, wherever it stands
   pub read-at : (offset : ℕ) → readBlockAt offset d ≡ gave (record { number = n; payload = p })
-  read-at offset = rw (read-whole offset d (omega (arith, needed-at)), block-at)
+  read-at offset = rw (read-whole offset d (omega (arith, head, size)), block-at)

@@ -8,10 +8,10 @@ use lib.Dec.{eqb, ltb}
 use lib.ListN.{length, getD, drop, length-drop}
 use borrow.Author.Tests.{ltb-true, ltb-false, eqb-true, eqb-false}
 use Rattle.model.specs.Said.{Said, packetLengthWrong, blockHeaderShort, blockBodyShort}
-use Rattle.model.specs.Block.{headerLength, isHeaderShort, needed, isShort, shortAt, readBlockAt}
+use Rattle.model.specs.Block.{headerLength, blockSize, readBlockAt}
 use Rattle.model.specs.Packet.{packetSize, kept, blocksFrom, readBy}
-use Rattle.model.proofs.Cases.{by-cond, Refuses, refuses-weaker, refuses-then, refuses-mapped}
-use Rattle.model.proofs.Blocks.{header-least, header-most}
+use Rattle.model.proofs.Cases.{by-test, by-cond, Refuses, refuses-weaker, refuses-then, refuses-mapped}
+use Rattle.model.proofs.Blocks.{header-least, header-most, header-missing, body-missing, read-whole}
 
 -- of the bytes from `from` up to `end` in a packet: more are expected than are there, and those that are there are all from the offset on
 pub record Missing (from end expected actual offset : ℕ) : Type 0 where
@@ -26,17 +26,20 @@ pub data CutShort (from end : ℕ) (why : Said) : Type 0 where
 
 -- a block
 block-cut : (offset : ℕ) (d : List ℕ) → Refuses (CutShort offset (offset + length d)) (readBlockAt offset d)
-unfolding readBlockAt isShort shortAt needed isHeaderShort
 block-cut offset d =
-    by-cond (Refuses (CutShort offset (offset + length d))) (ltb (length d) (needed d))
-    (λ e. by-cond (CutShort offset (offset + length d)) (ltb (length d) (headerLength (getD d 0 0)))
-    (λ h. inHeader (needed d) (length d) offset (rw h (header-most (getD d 0 0))) (there (ltb-true _ _ e)) refl)
-    (λ h. inBody (needed d) (length d) offset (omega (arith, header-least (getD d 0 0), ltb-false (length d) (headerLength (getD d 0 0)) h)) (there (ltb-true _ _ e)) refl))
-    (λ _. tt)
+    let h : ℕ = headerLength (getD d 0 0) in
+    let all : ℕ = h + blockSize (getD d 0 0) in
+    by-test (ltb (length d) h)
+    (λ e. let few = ltb-true (length d) h e in rw (header-missing offset d few) (inHeader h (length d) offset (header-most (getD d 0 0)) (there h few) refl))
+    (λ e. let k = ltb-false (length d) h e in
+    by-test (ltb (length d) all)
+    (λ f. let few = ltb-true (length d) all f in
+    rw (body-missing offset d k few) (inBody all (length d) offset (omega (arith, header-least (getD d 0 0))) (there all few) refl))
+    (λ f. rw (read-whole offset d (ltb-false (length d) all f)) tt))
   where
-    -- the bytes from its first on
-    there : length d < needed d → Missing offset (offset + length d) (needed d) (length d) offset
-    there few = record { short = few; behind = omega arith; rest = refl }
+    -- of so many the bytes from its first on are there
+    there : (expected : ℕ) → length d < expected → Missing offset (offset + length d) expected (length d) offset
+    there expected few = record { short = few; behind = omega arith; rest = refl }
 
 -- among bytes that begin one earlier it is the same
 earlier : (offset n : ℕ) (why : Said) → CutShort (suc offset) (suc offset + n) why → CutShort offset (offset + suc n) why

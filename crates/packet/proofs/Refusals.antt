@@ -1,6 +1,6 @@
 -- What the answers to reading tell: a refusal is of a length, and none says accepted, so that whether bytes read as a packet is what the answer says.
 -- Assumes nothing.
-use mathlib.Core.Path.{_≡_, refl, sym, ap, subst, _∙_}
+use mathlib.Core.Path.{_≡_, refl, sym, ap, subst}
 use mathlib.Core.Bool.{true, false, not}
 use mathlib.Core.List.{List}
 use Prim.Native.Nat.{ℕ}
@@ -10,7 +10,7 @@ use borrow.Author.Tests.{eq-eqb, le-ltb}
 use Rattle.caption.specs.declared.Answer.the-variants.{Accepted, Refused}
 use Rattle.caption.specs.declared.Refusal.{Refusal}
 use Rattle.caption.specs.Answers.{saidRefusal, saidAnswer}
-use Rattle.caption.proofs.Answers.{answerOf, refused-again, refusal-numbered}
+use Rattle.caption.proofs.Answers.{refusal-numbered}
 use Rattle.model.specs.Said.{Said, Outcome, gave, refused, isGiven, says}
 use Rattle.model.specs.Packet.{Packet, plainMove, tidyMove, readPacket, readTidy, reads}
 use Rattle.model.proofs.Cases.{Refuses}
@@ -42,25 +42,21 @@ module _ (d : List ℕ) (r : PacketAnswer) (read : Answers (readPacket d) blank 
       by (gave x) q h = refl
       by (refused why) q h = absurd (not-accepted d why q (sym (ap (λ (s : Said). s .number) (rw e at h))))
 
-  pub refused-reads : (why : Refusal) → r .answer ≡ Refused why → reads d ≡ false
-  unfolding reads
-  refused-reads why e = by (readPacket d) (read .answer)
-    where
-      by : (o : Outcome Packet) → saidAnswer (r .answer) ≡ says o → isGiven o ≡ false
-      by (gave x) h = ap (answerOf (λ v. true) (λ y. false)) (sym (rw e at h)) ∙ refused-again (λ v. true) (λ y. false) why
-      by (refused y) h = refl
+-- an answer that refuses is the refusal of the outcome
+module _ (r : PacketAnswer) (why : Refusal) (is : r .answer ≡ Refused why) where
+  refused-as : (o : Outcome Packet) → saidAnswer (r .answer) ≡ says o → o ≡ refused (saidRefusal why)
+  refused-as (gave x) h = absurd (refusal-numbered why (ap (λ (s : Said). s .number) (rw is at h)))
+  refused-as (refused y) h = ap refused (sym (rw is at h))
 
--- What reading a packet is refused with is of a length, and its values hang together as `OfLength` says: of any answer that a contract of a reader allows.
-lengths-told : (d : List ℕ) (o : Outcome Packet) → Refuses (OfLength d) o → (r : PacketAnswer) → Answers o blank r → (why : Refusal) → r .answer ≡ Refused why
-    → OfLength d (saidRefusal why)
-lengths-told d (gave x) q r read why e = absurd (refusal-numbered why (ap (λ (s : Said). s .number) (rw e at (read .answer))))
-lengths-told d (refused y) q r read why e = subst (OfLength d) (sym (rw e at (read .answer))) q
+  module _ (d : List ℕ) where
+    pub refused-reads : Answers (readPacket d) blank r → reads d ≡ false
+    unfolding reads
+    refused-reads read = ap isGiven (refused-as (readPacket d) (read .answer))
 
-module _ (d : List ℕ) (r : PacketAnswer) (why : Refusal) (is : r .answer ≡ Refused why) where
-  -- the plain reader
-  pub plain-lengths : Answers (readPacket d) blank r → OfLength d (saidRefusal why)
-  plain-lengths read = lengths-told d (readPacket d) (plain-refused d) r read why is
+    -- What reading a packet is refused with is of a length, and its values hang together as `OfLength` says, whatever answer the contract allows: plainly,
+    pub plain-lengths : Answers (readPacket d) blank r → OfLength d (saidRefusal why)
+    plain-lengths read = subst (Refuses (OfLength d)) (refused-as (readPacket d) (read .answer)) (plain-refused d)
 
-  -- the tidy one
-  pub tidy-lengths : Answers (readTidy d) blank r → OfLength d (saidRefusal why)
-  tidy-lengths read = lengths-told d (readTidy d) (tidy-refused d) r read why is
+    -- and tidily
+    pub tidy-lengths : Answers (readTidy d) blank r → OfLength d (saidRefusal why)
+    tidy-lengths read = subst (Refuses (OfLength d)) (refused-as (readTidy d) (read .answer)) (tidy-refused d)
