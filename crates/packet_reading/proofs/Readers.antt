@@ -1,15 +1,17 @@
 -- What reading a packet answers, by each way out. Assumes nothing.
 use mathlib.Core.Path.{_≡_, sym, ap, subst, _∙_}
-use mathlib.Core.Bool.{Bool, true, false}
+use mathlib.Core.Bool.{Bool, true, false, cond, true≢false, _||_}
 use mathlib.Core.List.{List}
 use Prim.Native.Nat.{ℕ, _≤_, _<_}
 use native.Mathlib.Omega.{arith}
+use lib.Dec.{eqb}
 use lib.ListN.{length, getD, take, drop, replicate, length-replicate}
 use lib.Seq.{sets, take-append-seam}
-use borrow.Author.Tests.{ne-eqb, lt-ltb}
+use borrow.Author.Tests.{eq-eqb, ne-eqb, eqb-true, eqb-false, lt-ltb}
 use Rattle.model.specs.Said.{Said, Outcome, refused, mapped, packetLengthWrong}
 use Rattle.model.specs.Block.{Block}
 use Rattle.model.specs.Packet.{Packet, packetSize, sequenceIn, blocksFrom}
+use Rattle.model.proofs.Cases.{by-test}
 use Rattle.model.proofs.Limits.{size-most}
 use Rattle.basics.proofs.Runs.{sets-front}
 use Rattle.packet_moves.specs.Moves.{moveBy, wrongLength, readAs, packetWith, blocksIn}
@@ -21,36 +23,39 @@ use Rattle.packet_blocks.specs.Reading.{ReadsInto}
 read-refused : (o : Outcome Packet) (why : Said) (r : Filled) → o ≡ refused why → ReadsInto (refused why) r → ReadsInto o r
 read-refused o why r e k = rw e k
 
--- the first bytes of an array, `n` of them
-module _ (b : List ℕ) (len n : ℕ) (is : n ≡ length (take len b)) where
+-- the first bytes of an array, `n` of them: so many are expected, and `w` says whether they are refused
+module _ (b : List ℕ) (len n : ℕ) (is : n ≡ length (take len b)) (size : ℕ) (e : size ≡ cond (eqb n 0) 1 (packetSize (getD b 0 0)))
+    (tidy w : Bool) (t : w ≡ (eqb n 0 || wrongLength tidy size n)) where
   abbrev d : List ℕ
   d = take len b
 
-  module _ (some : n ≡ 0 → ⊥) (size : ℕ) (e : size ≡ packetSize (getD b 0 0)) (tidy w : Bool) (t : w ≡ wrongLength tidy size n) where
-    has-some : length d ≡ 0 → ⊥
-    has-some = some-long b len n is some
+  -- none
+  none-told : n ≡ 0 → readAs tidy d ≡ refused (packetLengthWrong size n 0)
+  none-told z = let one : size ≡ 1 = e ∙ rw (eq-eqb n 0 z) in none-as tidy d (sym is ∙ z) ∙ rw (one, z)
 
+  -- or some
+  module _ (some : n ≡ 0 → ⊥) where
     sized : size ≡ packetSize (getD d 0 0)
-    sized = size-is b len n is some size e
+    sized = size-is b len n is some size (e ∙ rw (ne-eqb n 0 some))
 
     test-is : wrongLength tidy size (length d) ≡ w
-    test-is = rw (← is) (sym t)
+    test-is = rw (← is) (sym (t ∙ rw (ne-eqb n 0 some)))
 
-    -- a wrong length is refused
-    pub read-wrong : (why : Said) (r : Filled) → w ≡ true → why ≡ packetLengthWrong size n 0 → ReadsInto (refused why) r → ReadsInto (readAs tidy d) r
-    read-wrong why r y m k =
-        read-refused (readAs tidy d) why r (wrong-as tidy d has-some size sized (test-is ∙ y) ∙ ap refused (sym (m ∙ ap (λ (k : ℕ). packetLengthWrong size k 0) is))) k
+    wrong-told : w ≡ true → readAs tidy d ≡ refused (packetLengthWrong size n 0)
+    wrong-told y = wrong-as tidy d (some-long b len n is some) size sized (test-is ∙ y) ∙ rw (← is)
 
-    -- else the blocks tell the packet
-    pub read-blocks : w ≡ false → (r : Filled) → ReadsInto (mapped (packetWith b) (blocksIn b n tidy 1)) r → ReadsInto (readAs tidy d) r
-    read-blocks y r k =
-        let made : ℕ → List Block → Packet = λ h bs. record { sequence = sequenceIn h; blocks = bs } in
-        rw (blocks-as tidy d has-some size sized (test-is ∙ y))
-        (subst (λ (h : ℕ). ReadsInto (mapped (made h) (blocksFrom (moveBy tidy) 1 0 (drop 1 d))) r) (first-is b len n is some) (rw (front-is b len n is) at k))
+  -- a wrong length is refused
+  pub read-wrong : (why : Said) (r : Filled) → w ≡ true → why ≡ packetLengthWrong size n 0 → ReadsInto (refused why) r → ReadsInto (readAs tidy d) r
+  read-wrong why r y m k =
+      read-refused (readAs tidy d) why r (by-test (eqb n 0) (λ z. none-told (eqb-true n 0 z)) (λ s. wrong-told (eqb-false n 0 s) y) ∙ ap refused (sym m)) k
 
-  -- no bytes are refused
-  pub read-none : (tidy : Bool) (why : Said) (r : Filled) → n ≡ 0 → why ≡ packetLengthWrong 1 0 0 → ReadsInto (refused why) r → ReadsInto (readAs tidy d) r
-  read-none tidy why r z m k = read-refused (readAs tidy d) why r (none-as tidy d (sym is ∙ z) ∙ ap refused (sym m)) k
+  -- else the blocks tell the packet
+  pub read-blocks : w ≡ false → (r : Filled) → ReadsInto (mapped (packetWith b) (blocksIn b n tidy 1)) r → ReadsInto (readAs tidy d) r
+  read-blocks y r k =
+      let some : n ≡ 0 → ⊥ = λ z. true≢false (sym (t ∙ rw (eq-eqb n 0 z)) ∙ y) in
+      let made : ℕ → List Block → Packet = λ h bs. record { sequence = sequenceIn h; blocks = bs } in
+      rw (blocks-as tidy d (some-long b len n is some) size (sized some) (test-is some ∙ y))
+      (subst (λ (h : ℕ). ReadsInto (mapped (made h) (blocksFrom (moveBy tidy) 1 0 (drop 1 d))) r) (first-is b len n is some) (rw (front-is b len n is) at k))
 
 -- bytes of which there are more than a packet has
 module _ (d : List ℕ) (many : 128 < length d) where

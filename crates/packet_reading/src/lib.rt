@@ -1,8 +1,11 @@
 // A packet read from bytes into its places: the tests of its length come first, and its blocks tell the rest.
 ghost use mathlib.Core.Path.{_≡_};
+ghost use mathlib.Core.Bool.{cond, _||_};
+ghost use lib.Dec.{eqb};
 ghost use lib.ListN.{take};
 ghost use Rattle.caption.specs.Answers.{saidRefusal};
 ghost use Rattle.model.specs.Said.{packetLengthWrong};
+ghost use Rattle.model.specs.Packet.{packetSize};
 ghost use Rattle.packet_moves.specs.Moves.{wrongLength, readAs};
 ghost use Rattle.packet_blocks.specs.Reading.{ReadsInto};
 use basics::MOST_PACKET;
@@ -29,20 +32,30 @@ pub fn read_in(bytes: &[u8; 128], len: usize, tidy: bool) -> Filled
     ensures { λ r. ⌜ ReadsInto (readAs tidy (take len (now (bytes .entry)))) r ⌝ }
 {
     let n = packet_moves::held(bytes, len);
-    if n == 0 {
-        return unread(refusal_for(1, 0));
-    }
-    let size = packet_moves::packet_size(bytes[0]);
+    let size = expected_of(bytes[0], n);
     if wrong_length(tidy, size, n) {
         return unread(refusal_for(size, n));
     }
     packet_blocks::fill(bytes, n, tidy)
 }
 
-// Whether a reader refuses `actual` bytes where the header says `size`.
-fn wrong_length(tidy: bool, size: usize, actual: usize) -> bool
-    ensures { λ r. ⌜ r ≡ wrongLength tidy size actual ⌝ }
+// How many bytes are expected where `n` are there and the first is `h`: one for the header, and once it is there as many as it says.
+fn expected_of(h: u8, n: usize) -> usize
+    ensures { λ r. ⌜ r ≡ cond (eqb n 0) 1 (packetSize h) ⌝ }
 {
+    if n == 0 {
+        return 1;
+    }
+    packet_moves::packet_size(h)
+}
+
+// Whether a reader refuses `actual` bytes where so many are expected: none are never enough.
+fn wrong_length(tidy: bool, size: usize, actual: usize) -> bool
+    ensures { λ r. ⌜ r ≡ (eqb actual 0 || wrongLength tidy size actual) ⌝ }
+{
+    if actual == 0 {
+        return true;
+    }
     if tidy {
         return size != actual;
     }
