@@ -1,6 +1,6 @@
 -- What an answer says tells which answer it is: each map into `Said` has a left inverse, so no two answers say the same.
 -- Assumes nothing.
-use mathlib.Core.Path.{_≡_, refl, sym, _∙_}
+use mathlib.Core.Path.{_≡_, refl, sym, ap, _∙_}
 use mathlib.Core.Bool.{Bool, true, false, cond, true≢false}
 use mathlib.Core.List.{List, [], _∷_}
 use mathlib.Mathlib.Logic.Function.Defs.{id, Injective, LeftInverse, LeftInverse·injective}
@@ -9,6 +9,7 @@ use lib.Dec.{eqb}
 use lib.ListN.{getD}
 use borrow.Author.Tests.{eq-eqb}
 use Rattle.model.specs.Said.{Said, accepted, badValue, measured}
+use Rattle.model.specs.Said as model
 use Rattle.caption.specs.Answers.{saidRefusal, saidAnswer, saidCounted, saidTruth}
 use Rattle.caption.specs.declared.Refusal.{Refusal}
 use Rattle.caption.specs.declared.Refusal.the-variants.{Cea608AfterCea708, WouldOverflow, ReadOnly, EmptyService, BadNumber, BadRun, BadRate, OutShort, Full, BadValue, FrameLengthWrong, PacketLengthWrong, BlockHeaderShort, BlockBodyShort}
@@ -61,11 +62,16 @@ module _ {A : Type 0} (given : List ℕ → A) (refused : Refusal → A) where
   refused-again (BlockHeaderShort expected actual offset) = refl
   refused-again (BlockBodyShort expected actual offset) = refl
 
--- so each has a number of its own, and that is not 0
+-- so none has the number of what is accepted
 pub refusal-numbered : (why : Refusal) → saidRefusal why .number ≡ 0 → ⊥
 refusal-numbered why z =
     let e : answerOf (λ _. true) (λ _. false) (saidRefusal why) ≡ true = rw (eq-eqb _ _ z) in
     true≢false (sym e ∙ refused-again (λ _. true) (λ _. false) why)
+
+-- an answer that refuses is the refusal of the outcome that it tells
+pub refused-as : {A : Type 0} (why : Refusal) (o : model.Outcome A) → saidRefusal why ≡ model.says o → o ≡ model.refused (saidRefusal why)
+refused-as why (model.gave x) h = absurd (refusal-numbered why (ap (λ (s : Said). s .number) h))
+refused-as why (model.refused y) h = ap model.refused (sym h)
 
 -- no two refusals say the same
 pub saidRefusal-injective : Injective saidRefusal

@@ -52,7 +52,7 @@ pub enum Refusal {
         actual: usize,
         offset: usize,
     },
-    // The payload of the block that begins at this offset is cut short.
+    // The body of the block that begins at this offset, which its header announces, is cut short.
     BlockBodyShort {
         expected: usize,
         actual: usize,

@@ -110,8 +110,8 @@ waiting-fits d h k ok =
     rw (two (pairLines (d .pairs)) (packetsLines (d .waiting)))
     (omega (arith, pairs-fit (d .pairs), packets-fit (d .waiting) ok))
 
--- a frame's own line: a number of 64 bits has at most 20 digits, and that of a refusal two at the most
-line-fits : (r : ℕ) (s : Said) → r < 2 ^ 64 → s .number ≤ 99 → length (frameLine r s) ≤ 40
+-- a frame's own line: a number of 64 bits has at most 20 digits, and that of a refusal two
+line-fits : (r : ℕ) (s : Said) → r < 2 ^ 64 → s .number ≤ 12 → length (frameLine r s) ≤ 40
 unfolding frameLine
 line-fits r s h k =
     let d : length (decimal r) ≤ 20 = digits-most 19 r (omega arith) in
@@ -127,9 +127,9 @@ line-fits r s h k =
       two (word " refused ") (decimal (s .number)),
     ) (omega arith))
 
--- the number of what a frame is answered has two digits at the most
+-- what a frame is answered is at most 12: 13 to 15 are of packets and blocks alone
 abbrev Numbered : Taken → Type 0
-Numbered t = t .answer .number ≤ 99
+Numbered t = t .answer .number ≤ 12
 
 gathered-numbered : (ps : List Cea608) (o : Gathered) (d : Demux) → Numbered (takeGathered ps o d)
 unfolding takeGathered

@@ -19,7 +19,7 @@ read-head κs = equal
 pub head-in : (κs : Lfts 1) → Determines (HeadIn.Post κs)
 head-in κs = equal
 
--- `short_of(head, present)`
+-- `short_of(head, present, offset)`
 pub short-of : Determines (short_of.Post (tt {0}))
 short-of = said saidRefusal-injective
 

@@ -58,15 +58,10 @@ pub header-bare : (h : ℕ) → blockSize h ≡ 0 → headerLength h ≡ 1
 unfolding headerLength
 header-bare h s = by-test (eqb (topNumber h) 7) (λ e. simp (e, eq-eqb _ _ s)) (λ e. simp e)
 
--- a header has a byte
-pub header-least : (h : ℕ) → 1 ≤ headerLength h
+-- a header has one byte or two
+pub header-bytes : (h : ℕ) → (1 ≤ headerLength h) × (headerLength h ≤ 2)
 unfolding headerLength
-header-least h = by-cond (λ n. 1 ≤ n) (eqb (topNumber h) 7 && not (eqb (blockSize h) 0)) (λ _. omega arith) (λ _. omega arith)
-
--- and at most two
-pub header-most : (h : ℕ) → headerLength h ≤ 2
-unfolding headerLength
-header-most h = by-cond (λ n. n ≤ 2) (eqb (topNumber h) 7 && not (eqb (blockSize h) 0)) (λ _. omega arith) (λ _. omega arith)
+header-bytes h = by-cond (λ n. (1 ≤ n) × (n ≤ 2)) (eqb (topNumber h) 7 && not (eqb (blockSize h) 0)) (λ _. omega arith) (λ _. omega arith)
 
 -- bytes that are read as a block, at any offset
 module _ (offset : ℕ) (d : List ℕ) where
@@ -75,7 +70,7 @@ module _ (offset : ℕ) (d : List ℕ) where
   unfolding readBlockAt shortAt isShort needed isHeaderShort
   header-missing h = simp (lt-ltb _ _ h)
 
-  -- the header is there, and of the payload some are missing
+  -- the header is there, and of the body some are missing
   pub body-missing : headerLength (getD d 0 0) ≤ length d → length d < headerLength (getD d 0 0) + blockSize (getD d 0 0)
       → readBlockAt offset d ≡ refused (blockBodyShort (headerLength (getD d 0 0) + blockSize (getD d 0 0)) (length d) offset)
   unfolding readBlockAt shortAt isShort needed isHeaderShort
@@ -100,6 +95,10 @@ written-long b h = simp (le-ltb _ _ h)
 pub header-written : (number size : ℕ) → length (writtenHeader number size) ≡ cond (ltb number 7) 1 2
 unfolding writtenHeader
 header-written number size = by-test (ltb number 7) (λ e. rw e) (λ e. rw e)
+
+-- two bytes at the most
+pub written-header-most : (n : ℕ) → cond (ltb n 7) 1 2 ≤ 2
+written-header-most n = by-cond (λ k. k ≤ 2) (ltb n 7) (λ _. omega arith) (λ _. omega arith)
 
 -- and how long the block
 pub written-length : (b : Block) → length (writtenBlock b) ≡ cond (ltb (b .number) 7) 1 2 + length (b .payload)

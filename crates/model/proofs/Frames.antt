@@ -42,9 +42,9 @@ module _ (n : ℕ) (f : List ℕ) (d : Demux) (a : Announces n f) where
   read-it = simp (le-ltb _ _ (a .bytes), a .flag, a .count, ne-eqb n 0 (λ e. omega (arith, a .some)))
 
   -- a wrong length is 12, with 3n+2 expected [F3]
-  pub take-mismatch : (length f ≡ 3 * n + 2 → ⊥) → takeFrame f d ≡ record { answer = frameLengthWrong (3 * n + 2) (length f); runs = []; next = withPairs [] d }
+  pub take-wrong : (length f ≡ 3 * n + 2 → ⊥) → takeFrame f d ≡ record { answer = frameLengthWrong (3 * n + 2) (length f); runs = []; next = withPairs [] d }
   unfolding takeFrame
-  take-mismatch ne = simp (read-it, a .count, ne-eqb _ _ ne)
+  take-wrong ne = simp (read-it, a .count, ne-eqb _ _ ne)
 
   -- a frame of the right length goes by its triples
   pub take-whole : length f ≡ 3 * n + 2 → takeFrame f d ≡ (let ts = seenAll (triplesIn (drop 2 f)) in takeTriples ts (lateFrom 0 ts) d)

@@ -1,80 +1,83 @@
--- What the readers of blocks and packets refuse with: 13, 14 and 15 alone, and how their values hang together. Assumes nothing.
-use mathlib.Core.Path.{_≡_, refl, sym, subst, _∙_}
-use mathlib.Core.Bool.{Bool, true, false, true≢false}
+-- What the readers of blocks and packets refuse with: 13, 14 and 15 alone, and what their values are. Assumes nothing.
+use mathlib.Core.Path.{_≡_, refl, sym, ap, subst, _∙_}
+use mathlib.Core.Bool.{Bool, false, true≢false}
 use mathlib.Core.List.{List, [], _∷_}
 use Prim.Native.Nat.{ℕ, zero, suc, _+_, _-_, _≤_, _<_}
 use native.Mathlib.Omega.{arith}
 use lib.Dec.{eqb, ltb}
 use lib.ListN.{length, getD, drop, length-drop}
-use borrow.Author.Tests.{ltb-true, ltb-false, eqb-true, eqb-false}
+use lib.Seq.{drop-drop}
+use borrow.Author.Tests.{ltb-true, ltb-false, eqb-true}
 use Rattle.model.specs.Said.{Said, packetLengthWrong, blockHeaderShort, blockBodyShort}
-use Rattle.model.specs.Block.{headerLength, blockSize, readBlockAt}
+use Rattle.model.specs.Block.{headerLength, blockSize, readBlockAt, readBlock}
 use Rattle.model.specs.Packet.{packetSize, kept, blocksFrom, readBy}
 use Rattle.model.proofs.Cases.{by-test, by-cond, Refuses, refuses-weaker, refuses-then, refuses-mapped}
-use Rattle.model.proofs.Blocks.{header-least, header-most, header-missing, body-missing, read-whole}
+use Rattle.model.proofs.Blocks.{header-missing, body-missing, read-whole}
 
--- of the bytes from `from` up to `end` in a packet: more are expected than are there, and those that are there are all from the offset on
-pub record Missing (from end expected actual offset : ℕ) : Type 0 where
-  pub short : actual < expected
-  pub behind : from ≤ offset
-  pub rest : offset + actual ≡ end
+-- Of the bytes d, which stand at the offset, some of the block that they begin with are missing: of its header, or of what that announces.
+pub data ShortAt (offset : ℕ) (d : List ℕ) (why : Said) : Type 0 where
+  inHeader : length d < headerLength (getD d 0 0) → why ≡ blockHeaderShort (headerLength (getD d 0 0)) (length d) offset → ShortAt offset d why
+  inBody : headerLength (getD d 0 0) ≤ length d → length d < headerLength (getD d 0 0) + blockSize (getD d 0 0)
+      → why ≡ blockBodyShort (headerLength (getD d 0 0) + blockSize (getD d 0 0)) (length d) offset → ShortAt offset d why
 
--- A block among these bytes is cut short: within its header, which has one byte or two, or behind it.
-pub data CutShort (from end : ℕ) (why : Said) : Type 0 where
-  inHeader : (expected actual offset : ℕ) → expected ≤ 2 → Missing from end expected actual offset → why ≡ blockHeaderShort expected actual offset → CutShort from end why
-  inBody : (expected actual offset : ℕ) → 1 ≤ actual → Missing from end expected actual offset → why ≡ blockBodyShort expected actual offset → CutShort from end why
-
--- a block
-block-cut : (offset : ℕ) (d : List ℕ) → Refuses (CutShort offset (offset + length d)) (readBlockAt offset d)
-block-cut offset d =
+block-short : (offset : ℕ) (d : List ℕ) → Refuses (ShortAt offset d) (readBlockAt offset d)
+block-short offset d =
     let h : ℕ = headerLength (getD d 0 0) in
     let all : ℕ = h + blockSize (getD d 0 0) in
     by-test (ltb (length d) h)
-    (λ e. let few = ltb-true (length d) h e in rw (header-missing offset d few) (inHeader h (length d) offset (header-most (getD d 0 0)) (there h few) refl))
+    (λ e. let few = ltb-true (length d) h e in rw (header-missing offset d few) (inHeader few refl))
     (λ e. let k = ltb-false (length d) h e in
     by-test (ltb (length d) all)
-    (λ f. let few = ltb-true (length d) all f in
-    rw (body-missing offset d k few) (inBody all (length d) offset (omega (arith, header-least (getD d 0 0))) (there all few) refl))
+    (λ f. let few = ltb-true (length d) all f in rw (body-missing offset d k few) (inBody k few refl))
     (λ f. rw (read-whole offset d (ltb-false (length d) all f)) tt))
-  where
-    -- of so many the bytes from its first on are there
-    there : (expected : ℕ) → length d < expected → Missing offset (offset + length d) expected (length d) offset
-    there expected few = record { short = few; behind = omega arith; rest = refl }
 
--- among bytes that begin one earlier it is the same
-earlier : (offset n : ℕ) (why : Said) → CutShort (suc offset) (suc offset + n) why → CutShort offset (offset + suc n) why
-earlier offset n why c = by c
-  where
-    wider : {expected actual at : ℕ} → Missing (suc offset) (suc offset + n) expected actual at → Missing offset (offset + suc n) expected actual at
-    wider m = record { short = m .short; behind = omega (arith, m .behind); rest = omega (arith, m .rest) }
+-- a block that is read alone stands at 0
+pub block-refusals : (d : List ℕ) → Refuses (ShortAt 0 d) (readBlock d)
+block-refusals d = block-short 0 d
 
-    by : CutShort (suc offset) (suc offset + n) why → CutShort offset (offset + suc n) why
-    by (inHeader expected actual at few m e) = inHeader expected actual at few (wider m) e
-    by (inBody expected actual at some m e) = inBody expected actual at some (wider m) e
+-- A block of the packet p is short that begins at a place within it, `from` or further on: its offset is that place.
+pub record Inside (from : ℕ) (p : List ℕ) (why : Said) : Type 0 where
+  pub at : ℕ
+  pub behind : from ≤ at
+  pub within : at < length p
+  pub short : ShortAt at (drop at p) why
+
+-- from a place before it is the same
+earlier : (p : List ℕ) (from : ℕ) (why : Said) → Inside (suc from) p why → Inside from p why
+earlier p from why i = record { at = i .at; behind = omega (arith, i .behind); within = i .within; short = i .short }
+
+-- the bytes behind the first
+behind-first : (p : List ℕ) (offset x : ℕ) (d : List ℕ) → drop offset p ≡ x ∷ d → drop (suc offset) p ≡ d
+behind-first p offset x d is = let s : offset + 1 ≡ suc offset = omega arith in rw (← s) (sym (drop-drop 1 offset p) ∙ ap (drop 1) is)
 
 -- blocks one after the other, however the reader moves on
-blocks-cut : (move : List ℕ → ℕ) (offset passed : ℕ) (d : List ℕ) → Refuses (CutShort offset (offset + length d)) (blocksFrom move offset passed d)
+blocks-short : (move : List ℕ → ℕ) (p : List ℕ) (offset passed : ℕ) (d : List ℕ) → drop offset p ≡ d → Refuses (Inside offset p) (blocksFrom move offset passed d)
 unfolding blocksFrom
-blocks-cut move offset passed [] = tt
-blocks-cut move offset (suc passed) (x ∷ d) = refuses-weaker (earlier offset (length d)) (blocksFrom move (suc offset) passed d) (blocks-cut move (suc offset) passed d)
-blocks-cut move offset zero (x ∷ d) =
-    refuses-then (CutShort offset (offset + suc (length d))) (readBlockAt offset (x ∷ d)) _ (block-cut offset (x ∷ d))
-    (λ b. refuses-mapped (CutShort offset (offset + suc (length d))) (kept b) (blocksFrom move (suc offset) (move (x ∷ d) - 1) d)
-    (refuses-weaker (earlier offset (length d)) (blocksFrom move (suc offset) (move (x ∷ d) - 1) d) (blocks-cut move (suc offset) (move (x ∷ d) - 1) d)))
+blocks-short move p offset passed [] is = tt
+blocks-short move p offset (suc passed) (x ∷ d) is =
+    refuses-weaker (earlier p offset) (blocksFrom move (suc offset) passed d) (blocks-short move p (suc offset) passed d (behind-first p offset x d is))
+blocks-short move p offset zero (x ∷ d) is =
+    let long : suc (length d) ≡ length p - offset = sym (ap length is) ∙ length-drop offset p in
+    refuses-then (Inside offset p) (readBlockAt offset (x ∷ d)) _
+    (refuses-weaker (λ why s. record { at = offset; behind = omega arith; within = omega arith; short = subst (λ (e : List ℕ). ShortAt offset e why) (sym is) s })
+    (readBlockAt offset (x ∷ d)) (block-short offset (x ∷ d)))
+    (λ b. refuses-mapped (Inside offset p) (kept b) (blocksFrom move (suc offset) (move (x ∷ d) - 1) d)
+    (refuses-weaker (earlier p offset) (blocksFrom move (suc offset) (move (x ∷ d) - 1) d)
+    (blocks-short move p (suc offset) (move (x ∷ d) - 1) d (behind-first p offset x d is))))
 
--- What a packet is refused with: its own length is another than expected, or a block in it is cut short.
-pub data OfLength (d : List ℕ) (why : Said) : Type 0 where
-  own : (expected : ℕ) → (expected ≡ length d → ⊥) → why ≡ packetLengthWrong expected (length d) 0 → OfLength d why
-  inside : CutShort 1 (length d) why → OfLength d why
+-- What a packet is refused with: there are no bytes, others than its header says, or a block in it is short.
+pub data OfLength (p : List ℕ) (why : Said) : Type 0 where
+  none : length p ≡ 0 → why ≡ packetLengthWrong 1 0 0 → OfLength p why
+  own : (packetSize (getD p 0 0) ≡ length p → ⊥) → why ≡ packetLengthWrong (packetSize (getD p 0 0)) (length p) 0 → OfLength p why
+  inside : Inside 1 p why → OfLength p why
 
 -- either reader: neither takes the length that the header says for wrong
-pub packet-refusals : (move : List ℕ → ℕ) (wrong : ℕ → ℕ → Bool) → ((n : ℕ) → wrong n n ≡ false) → (d : List ℕ) → Refuses (OfLength d) (readBy move wrong d)
+pub packet-refusals : (move : List ℕ → ℕ) (wrong : ℕ → ℕ → Bool) → ((n : ℕ) → wrong n n ≡ false) → (p : List ℕ) → Refuses (OfLength p) (readBy move wrong p)
 unfolding readBy
-packet-refusals move wrong fits d =
-    by-cond (Refuses (OfLength d)) (eqb (length d) 0)
-    (λ e. let z : 0 ≡ length d = sym (eqb-true (length d) 0 e) in own 1 (λ o. omega arith) (rw z))
-    (λ e. by-cond (Refuses (OfLength d)) (wrong (packetSize (getD d 0 0)) (length d))
-    (λ w. own (packetSize (getD d 0 0)) (λ o. true≢false (sym w ∙ rw o (fits (length d)))) refl)
-    (λ _. let all : 1 + length (drop 1 d) ≡ length d = omega (arith, length-drop 1 d, eqb-false (length d) 0 e) in
-    refuses-mapped (OfLength d) _ (blocksFrom move 1 0 (drop 1 d))
-    (refuses-weaker (λ why c. inside (subst (λ (n : ℕ). CutShort 1 n why) all c)) (blocksFrom move 1 0 (drop 1 d)) (blocks-cut move 1 0 (drop 1 d)))))
+packet-refusals move wrong fits p =
+    by-cond (Refuses (OfLength p)) (eqb (length p) 0)
+    (λ e. none (eqb-true (length p) 0 e) refl)
+    (λ e. by-cond (Refuses (OfLength p)) (wrong (packetSize (getD p 0 0)) (length p))
+    (λ w. own (λ o. true≢false (sym w ∙ rw o (fits (length p)))) refl)
+    (λ _. refuses-mapped (OfLength p) _ (blocksFrom move 1 0 (drop 1 p))
+    (refuses-weaker (λ why c. inside c) (blocksFrom move 1 0 (drop 1 p)) (blocks-short move p 1 0 (drop 1 p) refl))))

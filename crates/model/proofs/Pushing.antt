@@ -12,7 +12,7 @@ use Rattle.model.specs.Lists.{every}
 use Rattle.model.specs.Block.{Block, validBlock, blockLength, blockRoom, withRun}
 use Rattle.model.specs.Packet.{Packet, packetLength, packetRoom, blocksLength, carriable, withBlocks, pushBlock, pushNew, pushAt, pushRunAt, pushRunBy, latestOf, latest, noBlock, blockAt, extended}
 use Rattle.model.proofs.Cases.{by-test, by-cond, both, and-both, Gives}
-use Rattle.model.proofs.Blocks.{Carriable, carriable-facts, facts-carriable, block-length, written-length}
+use Rattle.model.proofs.Blocks.{Carriable, carriable-facts, facts-carriable, block-length, written-header-most, written-length}
 use Rattle.model.proofs.Packets.{Valid, length-some}
 
 -- blocks of a packet, one behind the others
@@ -26,10 +26,7 @@ unfolding blocksLength
 lengths-append [] b = omega arith
 lengths-append (x ∷ bs) b = omega (arith, lengths-append bs b)
 
--- a header has at most two bytes, and a block at most 33
-written-header-most : (n : ℕ) → cond (ltb n 7) 1 2 ≤ 2
-written-header-most n = by-test (ltb n 7) (λ e. rw e (omega arith)) (λ e. rw e (omega arith))
-
+-- a block has at most 33 bytes
 block-most : (b : Block) → Carriable b → blockLength b ≤ 33
 block-most b c = omega (arith, block-length b (c .filled), written-length b, written-header-most (b .number), c .small)
 

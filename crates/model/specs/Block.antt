@@ -43,7 +43,7 @@ numberIn d = cond (eqb (headerLength (getD d 0 0)) 2) (getD d 1 0 % 64) (topNumb
 unfoldable pub isHeaderShort : List ℕ → Bool
 isHeaderShort d = ltb (length d) (headerLength (getD d 0 0))
 
--- how many bytes are wanted: the header's, and once they are there its payload's too [B4]
+-- how many bytes are wanted: the header's, and once they are there those of the body that it announces too [B4]
 unfoldable pub needed : List ℕ → ℕ
 needed d = let h = getD d 0 0 in cond (isHeaderShort d) (headerLength h) (headerLength h + blockSize h)
 
@@ -57,7 +57,7 @@ blockIn d =
     let h = getD d 0 0 in
     record { number = numberIn d; payload = cond (eqb (numberIn d) 0) [] (take (blockSize h) (drop (headerLength h) d)) }
 
--- which are missing: of the header, or of the payload that it announces; with those wanted, those there, and where the block begins [B4]
+-- which are missing: of the header, or of the body that it announces; with those wanted, those there, and where the block begins [B4]
 unfoldable pub shortAt : ℕ → List ℕ → Said
 shortAt offset d = cond (isHeaderShort d) (blockHeaderShort (needed d) (length d) offset) (blockBodyShort (needed d) (length d) offset)
 

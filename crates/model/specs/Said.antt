@@ -69,7 +69,7 @@ packetLengthWrong expected actual offset = record { number = 13; values = expect
 abbrev pub blockHeaderShort : ℕ → ℕ → ℕ → Said
 blockHeaderShort expected actual offset = record { number = 14; values = expected ∷ actual ∷ offset ∷ [] }
 
--- 15: a block's payload is cut short; the offset is that of the block's first byte too [R15]
+-- 15: a block's body is cut short; the offset is that of the block's first byte too [R15]
 abbrev pub blockBodyShort : ℕ → ℕ → ℕ → Said
 blockBodyShort expected actual offset = record { number = 15; values = expected ∷ actual ∷ offset ∷ [] }
 

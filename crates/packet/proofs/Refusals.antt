@@ -10,19 +10,23 @@ use borrow.Author.Tests.{eq-eqb, le-ltb}
 use Rattle.caption.specs.declared.Answer.the-variants.{Accepted, Refused}
 use Rattle.caption.specs.declared.Refusal.{Refusal}
 use Rattle.caption.specs.Answers.{saidRefusal, saidAnswer}
-use Rattle.caption.proofs.Answers.{refusal-numbered}
+use Rattle.caption.proofs.Answers.{refused-as}
 use Rattle.model.specs.Said.{Said, Outcome, gave, refused, isGiven, says}
 use Rattle.model.specs.Packet.{Packet, plainMove, tidyMove, readPacket, readTidy, reads}
 use Rattle.model.proofs.Cases.{Refuses}
-use Rattle.model.proofs.Lengths.{inHeader, inBody, OfLength, own, inside, packet-refusals}
+use Rattle.model.proofs.Lengths.{ShortAt, inHeader, inBody, OfLength, none, own, inside, packet-refusals}
 use Rattle.packet.specs.Packet.{Answers, blank}
 use Rattle.packet.specs.declared.PacketAnswer.{PacketAnswer}
 
 -- none of them says accepted
+not-short : {at : ℕ} {d : List ℕ} {why : Said} → ShortAt at d why → why .number ≡ 0 → ⊥
+not-short {at} {d} {why} (inHeader few e) z = let n : why .number ≡ 14 = ap (λ (s : Said). s .number) e in omega arith
+not-short {at} {d} {why} (inBody there few e) z = let n : why .number ≡ 15 = ap (λ (s : Said). s .number) e in omega arith
+
 not-accepted : (d : List ℕ) (why : Said) → OfLength d why → why .number ≡ 0 → ⊥
-not-accepted d why (own expected w e) z = let n : why .number ≡ 13 = ap (λ (s : Said). s .number) e in omega arith
-not-accepted d why (inside (inHeader expected actual offset few m e)) z = let n : why .number ≡ 14 = ap (λ (s : Said). s .number) e in omega arith
-not-accepted d why (inside (inBody expected actual offset some m e)) z = let n : why .number ≡ 15 = ap (λ (s : Said). s .number) e in omega arith
+not-accepted d why (none empty e) z = let n : why .number ≡ 13 = ap (λ (s : Said). s .number) e in omega arith
+not-accepted d why (own other e) z = let n : why .number ≡ 13 = ap (λ (s : Said). s .number) e in omega arith
+not-accepted d why (inside i) z = not-short (i .short) z
 
 -- a reader refuses so
 plain-refused : (d : List ℕ) → Refuses (OfLength d) (readPacket d)
@@ -42,21 +46,16 @@ module _ (d : List ℕ) (r : PacketAnswer) (read : Answers (readPacket d) blank 
       by (gave x) q h = refl
       by (refused why) q h = absurd (not-accepted d why q (sym (ap (λ (s : Said). s .number) (rw e at h))))
 
--- an answer that refuses is the refusal of the outcome
-module _ (r : PacketAnswer) (why : Refusal) (is : r .answer ≡ Refused why) where
-  refused-as : (o : Outcome Packet) → saidAnswer (r .answer) ≡ says o → o ≡ refused (saidRefusal why)
-  refused-as (gave x) h = absurd (refusal-numbered why (ap (λ (s : Said). s .number) (rw is at h)))
-  refused-as (refused y) h = ap refused (sym (rw is at h))
+-- an answer that refuses
+module _ (d : List ℕ) (r : PacketAnswer) (why : Refusal) (is : r .answer ≡ Refused why) where
+  pub refused-reads : Answers (readPacket d) blank r → reads d ≡ false
+  unfolding reads
+  refused-reads read = ap isGiven (refused-as why (readPacket d) (rw is at (read .answer)))
 
-  module _ (d : List ℕ) where
-    pub refused-reads : Answers (readPacket d) blank r → reads d ≡ false
-    unfolding reads
-    refused-reads read = ap isGiven (refused-as (readPacket d) (read .answer))
+  -- What reading a packet is refused with is what `OfLength` says, whatever answer the contract allows: plainly,
+  pub plain-lengths : Answers (readPacket d) blank r → OfLength d (saidRefusal why)
+  plain-lengths read = subst (Refuses (OfLength d)) (refused-as why (readPacket d) (rw is at (read .answer))) (plain-refused d)
 
-    -- What reading a packet is refused with is of a length, and its values hang together as `OfLength` says, whatever answer the contract allows: plainly,
-    pub plain-lengths : Answers (readPacket d) blank r → OfLength d (saidRefusal why)
-    plain-lengths read = subst (Refuses (OfLength d)) (refused-as (readPacket d) (read .answer)) (plain-refused d)
-
-    -- and tidily
-    pub tidy-lengths : Answers (readTidy d) blank r → OfLength d (saidRefusal why)
-    tidy-lengths read = subst (Refuses (OfLength d)) (refused-as (readTidy d) (read .answer)) (tidy-refused d)
+  -- and tidily
+  pub tidy-lengths : Answers (readTidy d) blank r → OfLength d (saidRefusal why)
+  tidy-lengths read = subst (Refuses (OfLength d)) (refused-as why (readTidy d) (rw is at (read .answer))) (tidy-refused d)

@@ -12,7 +12,7 @@ use Rattle.model.specs.Said.{Outcome, gave, refused, isGiven, mapped}
 use Rattle.model.specs.Block.{Block, needed, isShort, blockIn, readBlockAt, blockLength}
 use Rattle.model.specs.Packet.{plainMove, tidyMove, kept, blocksFrom}
 use Rattle.model.proofs.Cases.{by-test, by-cond, mapped-by}
-use Rattle.model.proofs.Blocks.{header-least, header-most, block-length, written-length}
+use Rattle.model.proofs.Blocks.{header-bytes, block-length, written-length}
 use Rattle.model.proofs.Walk.{blocks-next, blocks-none}
 use Rattle.model.proofs.Limits.{Moves, read-from}
 use Rattle.service_headers.specs.declared.Head.{Head}
@@ -81,7 +81,7 @@ module _ (d : List ℕ) (n st sz : ℕ) (h : Headed d n st sz) where
 -- every move goes forward
 move-least : (tidy : Bool) (d : List ℕ) → 1 ≤ moveBy tidy d
 unfolding tidyMove plainMove
-move-least true d = omega (arith, header-least (getD d 0 0))
+move-least true d = omega (arith, header-bytes (getD d 0 0))
 move-least false d =
     by-cond (λ k. 1 ≤ k) (eqb (length (blockIn d .payload)) 0) (λ _. omega arith)
     (λ e. let some : 1 ≤ length (blockIn d .payload) = omega (arith, eqb-false (length (blockIn d .payload)) 0 e) in
@@ -137,7 +137,7 @@ module _ (tidy : Bool) (d : List ℕ) (here : ℕ) (left : here < length d) wher
 
 -- what a header that was read leaves room for
 pub head-room : (d : List ℕ) (head : Head) (n st sz : ℕ) → head ≡ blockHead d → head ≡ Whole n st sz → (st ≤ 2) × (sz ≤ 31)
-head-room d head n st sz e q = let h = headed d n st sz (sym e ∙ q) in (omega (arith, h .start, header-most (getD d 0 0)), h .small)
+head-room d head n st sz e q = let h = headed d n st sz (sym e ∙ q) in (omega (arith, h .start, header-bytes (getD d 0 0)), h .small)
 
 -- whether blocks read
 pub given-mapped : {A B : Type 0} (f : A → B) (o : Outcome A) → isGiven (mapped f o) ≡ isGiven o

@@ -123,7 +123,7 @@ module _ (s : Slot) where
     pub read-none : (why : Refusal) → r .answer ≡ answer.Refused why → record { good = false; packet = r .packet } ≡ readOf s
     unfolding readOf reads
     read-none why t =
-        let f = refused-reads r why t _ read in
+        let f = refused-reads _ r why t read in
         rw (← slot-within s false h (sym f), read .places, unread-blank (readPacket (slotRun s)) f)
 
 -- the numbers without the packet at the head

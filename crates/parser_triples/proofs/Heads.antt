@@ -7,7 +7,7 @@ use borrow.Author.Tests.{eq-eqb, ne-eqb, lt-ltb, le-ltb}
 use Rattle.model.specs.Frame.{flagged}
 use Rattle.model.specs.Demux.{unread}
 use Rattle.parser_triples.specs.Plan.{headOf}
-use Rattle.parser_triples.specs.declared.Head.the-variants.{Unread, Mismatch, Walk}
+use Rattle.parser_triples.specs.declared.Head.the-variants.{Unread, LengthWrong, Walk}
 
 module _ (d : List ℕ) where
   -- under 5 bytes
@@ -34,7 +34,7 @@ module _ (d : List ℕ) where
         head-walk h = simp (le-ltb _ _ l, eq-eqb _ _ on, ne-eqb _ _ some, eq-eqb _ _ h)
 
         -- any other length
-        pub head-wrong : (length d ≡ 3 * (getD d 0 0 % 32) + 2 → ⊥) → Mismatch (3 * (getD d 0 0 % 32) + 2) (length d) ≡ headOf d
+        pub head-wrong : (length d ≡ 3 * (getD d 0 0 % 32) + 2 → ⊥) → LengthWrong (3 * (getD d 0 0 % 32) + 2) (length d) ≡ headOf d
         unfolding headOf unread flagged
         head-wrong h = simp (le-ltb _ _ l, eq-eqb _ _ on, ne-eqb _ _ some, ne-eqb _ _ h)
 

@@ -45,7 +45,7 @@ module _ (f : List ℕ) (s : Scan) (found : s ≡ scanned f) where
 -- the plan by the header
 abbrev planHeaded : Head → List ℕ → Plan
 planHeaded head.Unread f = plan Accepted false false
-planHeaded (head.Mismatch expected actual) f = plan (Refused (FrameLengthWrong expected actual)) false false
+planHeaded (head.LengthWrong expected actual) f = plan (Refused (FrameLengthWrong expected actual)) false false
 planHeaded head.Walk f = planWalked f
 
 -- the header decides as the model does
@@ -65,7 +65,7 @@ module _ (f : List ℕ) (h : Head) (found : h ≡ headOf f) where
   plan-unread e = rw e at header-plan
 
   -- a wrong length
-  pub plan-wrong : (x y : ℕ) → h ≡ head.Mismatch x y → plan (Refused (FrameLengthWrong x y)) false false ≡ planOf f
+  pub plan-wrong : (x y : ℕ) → h ≡ head.LengthWrong x y → plan (Refused (FrameLengthWrong x y)) false false ≡ planOf f
   plan-wrong x y e = rw e at header-plan
 
   -- triples

@@ -12,14 +12,14 @@ use Rattle.model.specs.Frame.{countIn}
 use Rattle.model.specs.Demux.{unread, lateFrom, carries708}
 use Rattle.parser_triples.specs.Walk.{seenFrom}
 use Rattle.parser_triples.specs.declared.Head.{Head}
-use Rattle.parser_triples.specs.declared.Head.the-variants.{Unread, Mismatch, Walk}
+use Rattle.parser_triples.specs.declared.Head.the-variants.{Unread, LengthWrong, Walk}
 use Rattle.parser_triples.specs.declared.Plan.{Plan}
 
 -- what the first byte and the length say: nothing is read [F2], or the length is refused [F3], or there are triples
 unfoldable pub headOf : List ℕ → Head
 headOf f =
     let n = countIn (getD f 0 0) in
-    cond (unread f) Unread (cond (eqb (length f) (3 * n + 2)) Walk (Mismatch (3 * n + 2) (length f)))
+    cond (unread f) Unread (cond (eqb (length f) (3 * n + 2)) Walk (LengthWrong (3 * n + 2) (length f)))
 
 -- an answer, whether pairs are listed, and whether bytes are gathered
 abbrev pub plan : Answer → Bool → Bool → Plan

@@ -14,7 +14,7 @@ pub enum Head {
     // There is nothing to read.
     Unread,
     // The length is not what the count asks: expected, actual.
-    Mismatch(usize, usize),
+    LengthWrong(usize, usize),
     // There are triples.
     Walk,
 }
@@ -57,7 +57,7 @@ fn header(frame: &[u8]) -> Head
     if n == 3 * k + 2 {
         return Head::Walk;
     }
-    Head::Mismatch(3 * k + 2, n)
+    Head::LengthWrong(3 * k + 2, n)
 }
 
 // The search after the 608 part, from the triple at `from` on.
@@ -137,7 +137,7 @@ pub fn plan_of(frame: &[u8]) -> Plan
             lists: false,
             gathers: false,
         },
-        Head::Mismatch(expected, actual) => Plan {
+        Head::LengthWrong(expected, actual) => Plan {
             answer: Answer::Refused(Refusal::FrameLengthWrong { expected, actual }),
             lists: false,
             gathers: false,

@@ -1,5 +1,5 @@
 -- What reading gives and pushing leaves is a valid block, and means what the model says; a block written is read back. Assumes nothing.
-use mathlib.Core.Path.{_≡_, refl, sym}
+use mathlib.Core.Path.{_≡_, refl, sym, subst}
 use mathlib.Core.Bool.{true}
 use mathlib.Core.List.{List, _++_}
 use Prim.Native.Nat.{ℕ, _+_, _≤_}
@@ -7,13 +7,19 @@ use native.Mathlib.Omega.{arith}
 use lib.Dec.{eqb}
 use lib.ListN.{length, take}
 use borrow.Author.Tests.{le-leb, eqb-true, eqb-false}
+use Rattle.caption.specs.declared.Answer.the-variants.{Refused}
+use Rattle.caption.specs.declared.Refusal.{Refusal}
+use Rattle.caption.specs.Answers.{saidRefusal}
+use Rattle.caption.proofs.Answers.{refused-as}
 use Rattle.model.specs.Said.{gave}
 use Rattle.model.specs.Block.{Block, validBlock, readBlock, writtenBlock, withRun}
-use Rattle.model.proofs.Cases.{by-test}
+use Rattle.model.proofs.Cases.{by-test, Refuses}
+use Rattle.model.proofs.Lengths.{ShortAt, block-refusals}
 use Rattle.model.proofs.Limits.{read-valid}
 use Rattle.model.proofs.BlockTrip.{read-written}
 use Rattle.service.specs.declared.Service.{Service}
-use Rattle.service.specs.Service.{blockOf, over, blank, validService}
+use Rattle.service.specs.declared.ServiceAnswer.{ServiceAnswer}
+use Rattle.service.specs.Service.{Answers, blockOf, over, blank, validService}
 use Rattle.service.proofs.Services.{over-means, blank-places, block-facts, valid-number, valid-len, valid-null, named-valid, payload-length, push-small}
 
 -- a block in its places holds the block
@@ -42,3 +48,7 @@ written-back s rest v places some =
     let n : length (take (s .len) (s .payload)) ≡ s .len = payload-length s _ refl places v in
     let named : 1 ≤ s .number = by-test (eqb (s .number) 0) (λ e. absurd (omega (arith, valid-null s places v (eqb-true (s .number) 0 e)))) (λ e. omega (arith, eqb-false (s .number) 0 e)) in
     read-written (blockOf s) rest (record { named = named; known = valid-number s v; filled = omega arith; small = omega (arith, valid-len s v) }) 0
+
+-- What reading a block is refused with is what `ShortAt` says at 0, whatever answer the contract allows.
+pub block-lengths : (d : List ℕ) (r : ServiceAnswer) (why : Refusal) → r .answer ≡ Refused why → Answers (readBlock d) blank r → ShortAt 0 d (saidRefusal why)
+block-lengths d r why is read = subst (Refuses (ShortAt 0 d)) (refused-as why (readBlock d) (rw is at (read .answer))) (block-refusals d)

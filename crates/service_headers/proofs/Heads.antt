@@ -14,8 +14,8 @@ use denote.Enum.Declared.{tagOf}
 use borrow.Author.Tests.{eq-eqb, ne-eqb, lt-ltb, le-ltb, ltb-false}
 use Rattle.model.specs.Said.{refused}
 use Rattle.model.specs.Block.{Block, blockSize, headerLength, numberIn, isHeaderShort, needed, isShort, shortAt, readBlockAt, writtenHeader, writtenBlock, blockLength}
-use Rattle.model.proofs.Cases.{by-test, by-cond}
-use Rattle.model.proofs.Blocks.{header-one, header-two, header-bare, header-least, header-written, written-length}
+use Rattle.model.proofs.Cases.{by-test}
+use Rattle.model.proofs.Blocks.{header-one, header-two, header-bare, header-bytes, header-written, written-header-most, written-length}
 use Rattle.model.proofs.Limits.{all-there}
 use Rattle.service_headers.specs.declared.Head.{Head}
 use Rattle.service_headers.specs.declared.Head.the-variants.{Whole, HeaderShort, BodyShort}
@@ -37,7 +37,7 @@ bare-byte h s = sym (header-bare h s)
 
 -- a header is written in one byte or in two
 pub written-most : (n start : ℕ) → start ≡ cond (ltb n 7) 1 2 → start ≤ 2
-written-most n start e = rw e (by-cond (λ k. k ≤ 2) (ltb n 7) (λ _. omega arith) (λ _. omega arith))
+written-most n start e = rw e (written-header-most n)
 
 -- bytes of this many that begin so
 module _ (d : List ℕ) (n h second start : ℕ) (is : length d ≡ n) (first : h ≡ getD d 0 0) (e : start ≡ headerLength h) where
@@ -164,7 +164,7 @@ module _ (d : List ℕ) where
   headed n st sz e =
       let w = whole-parts (isShort d) (isHeaderShort d) _ _ _ _ n st sz e in
       let m = all-there d (not-short d (w .0)) in
-      record { whole = w .0; number = w .1; start = w .2; size = w .3; fits = omega (arith, m, w .2, w .3); some = omega (arith, header-least (getD d 0 0), w .2); small = omega (arith, w .3) }
+      record { whole = w .0; number = w .1; start = w .2; size = w .3; fits = omega (arith, m, w .2, w .3); some = omega (arith, header-bytes (getD d 0 0), w .2); small = omega (arith, w .3) }
 
   -- one that is not whole
   module _ (head : Head) (is : head ≡ blockHead d) (none : NotWhole head) where

@@ -11,7 +11,7 @@ ghost use Rattle.service_headers.specs.Head.{blockHead, HeadBy, lengthFo
 use basics::lesser;
 use caption::Refusal;
 
-// What the header of a block says: its number, where its payload starts and how long it is; or what is cut short, the header itself or the payload,
+// What the header of a block says: its number, where its payload starts and how long it is; or what is cut short, the header itself or the body,
 // and how many bytes are needed.
 pub enum Head {
     Whole {

@@ -1,6 +1,6 @@
 -- One law of `Heads` for each way out, in the order of the tests: header cut, body cut, a number in the second byte, in the first. Assumes nothing.
 use native.Mathlib.Omega.{arith}
-use Rattle.model.proofs.Blocks.{header-most}
+use Rattle.model.proofs.Blocks.{header-bytes}
 use Rattle.service_headers.proofs.Heads.{head-cut, body-cut, head-two, head-one}
 use borrow.Author.Needs.{needs}
 use Rattle.service_headers.proofs.head_by.Statement.{statement}
@@ -16,10 +16,10 @@ returns : tie.Need-returns
 returns c = λ d is first next. head-cut d _ _ 0 _ is first (c .before .header-length .ensures) (c .if1 .taken)
 
 add-if2 : tie.Need-add-if2
-add-if2 c = omega (arith, header-most (c .before .before .args .h))
+add-if2 c = omega (arith, header-bytes (c .before .before .args .h))
 
 add-t9 : tie.Need-add-t9
-add-t9 c = omega (arith, header-most (c .before .before .before .args .h))
+add-t9 c = omega (arith, header-bytes (c .before .before .before .args .h))
 
 returns-2 : tie.Need-returns-2
 returns-2 c = λ d is first next. body-cut d _ _ 0 _ is first (c .before .before .header-length .ensures) (c .before .if1 .left) (c .if2 .taken)
