@@ -1,6 +1,6 @@
 -- What an answer says tells which answer it is: each map into `Said` has a left inverse, so no two answers say the same.
 -- Assumes nothing.
-use mathlib.Core.Path.{_≡_, refl, sym, ap, _∙_}
+use mathlib.Core.Path.{_≡_, refl, sym, ap, subst, _∙_}
 use mathlib.Core.Bool.{Bool, true, false, cond, true≢false}
 use mathlib.Core.List.{List, [], _∷_}
 use mathlib.Mathlib.Logic.Function.Defs.{id, Injective, LeftInverse, LeftInverse·injective}
@@ -10,6 +10,7 @@ use lib.ListN.{getD}
 use borrow.Author.Tests.{eq-eqb}
 use Rattle.model.specs.Said.{Said, accepted, badValue, measured}
 use Rattle.model.specs.Said as model
+use Rattle.model.proofs.Cases.{Refuses}
 use Rattle.caption.specs.Answers.{saidRefusal, saidAnswer, saidCounted, saidTruth}
 use Rattle.caption.specs.declared.Refusal.{Refusal}
 use Rattle.caption.specs.declared.Refusal.the-variants.{Cea608AfterCea708, WouldOverflow, ReadOnly, EmptyService, BadNumber, BadRun, BadRate, OutShort, Full, BadValue, FrameLengthWrong, PacketLengthWrong, BlockHeaderShort, BlockBodyShort}
@@ -72,6 +73,10 @@ refusal-numbered why z =
 pub refused-as : {A : Type 0} (why : Refusal) (o : model.Outcome A) → saidRefusal why ≡ model.says o → o ≡ model.refused (saidRefusal why)
 refused-as why (model.gave x) h = absurd (refusal-numbered why (ap (λ (s : Said). s .number) h))
 refused-as why (model.refused y) h = ap model.refused (sym h)
+
+-- so what holds of every refusal of that outcome holds of it
+pub refused-so : {A : Type 0} (P : Said → Type 0) (why : Refusal) (o : model.Outcome A) → Refuses P o → saidRefusal why ≡ model.says o → P (saidRefusal why)
+refused-so P why o q h = subst (Refuses P) (refused-as why o h) q
 
 -- no two refusals say the same
 pub saidRefusal-injective : Injective saidRefusal

@@ -1,13 +1,13 @@
 -- What the readers of blocks and packets refuse with: 13, 14 and 15 alone, and what their values are. Assumes nothing.
 use mathlib.Core.Path.{_≡_, refl, sym, ap, subst, _∙_}
-use mathlib.Core.Bool.{Bool, false, true≢false}
+use mathlib.Core.Bool.{Bool, true}
 use mathlib.Core.List.{List, [], _∷_}
 use Prim.Native.Nat.{ℕ, zero, suc, _+_, _-_, _≤_, _<_}
 use native.Mathlib.Omega.{arith}
 use lib.Dec.{eqb, ltb}
 use lib.ListN.{length, getD, drop, length-drop}
 use lib.Seq.{drop-drop}
-use borrow.Author.Tests.{ltb-true, ltb-false, eqb-true}
+use borrow.Author.Tests.{ltb-true, ltb-false, eqb-true, eqb-false}
 use Rattle.model.specs.Said.{Said, packetLengthWrong, blockHeaderShort, blockBodyShort}
 use Rattle.model.specs.Block.{headerLength, blockSize, readBlockAt, readBlock}
 use Rattle.model.specs.Packet.{packetSize, kept, blocksFrom, readBy}
@@ -65,19 +65,20 @@ blocks-short move p offset zero (x ∷ d) is =
     (refuses-weaker (earlier p offset) (blocksFrom move (suc offset) (move (x ∷ d) - 1) d)
     (blocks-short move p (suc offset) (move (x ∷ d) - 1) d (behind-first p offset x d is))))
 
--- What a packet is refused with: there are no bytes, others than its header says, or a block in it is short.
-pub data OfLength (p : List ℕ) (why : Said) : Type 0 where
-  none : length p ≡ 0 → why ≡ packetLengthWrong 1 0 0 → OfLength p why
-  own : (packetSize (getD p 0 0) ≡ length p → ⊥) → why ≡ packetLengthWrong (packetSize (getD p 0 0)) (length p) 0 → OfLength p why
-  inside : Inside 1 p why → OfLength p why
+-- What a packet is refused with: there are no bytes, a wrong number of them beside what its header says, or a block in it is short.
+pub data OfLength (Wrong : ℕ → ℕ → Type 0) (p : List ℕ) (why : Said) : Type 0 where
+  none : length p ≡ 0 → why ≡ packetLengthWrong 1 0 0 → OfLength Wrong p why
+  own : 1 ≤ length p → Wrong (packetSize (getD p 0 0)) (length p) → why ≡ packetLengthWrong (packetSize (getD p 0 0)) (length p) 0 → OfLength Wrong p why
+  inside : Inside 1 p why → OfLength Wrong p why
 
--- either reader: neither takes the length that the header says for wrong
-pub packet-refusals : (move : List ℕ → ℕ) (wrong : ℕ → ℕ → Bool) → ((n : ℕ) → wrong n n ≡ false) → (p : List ℕ) → Refuses (OfLength p) (readBy move wrong p)
+-- either reader, by what its test of the length finds
+pub packet-refusals : (move : List ℕ → ℕ) (wrong : ℕ → ℕ → Bool) (Wrong : ℕ → ℕ → Type 0) → ((size n : ℕ) → wrong size n ≡ true → Wrong size n) → (p : List ℕ)
+    → Refuses (OfLength Wrong p) (readBy move wrong p)
 unfolding readBy
-packet-refusals move wrong fits p =
-    by-cond (Refuses (OfLength p)) (eqb (length p) 0)
+packet-refusals move wrong Wrong finds p =
+    by-cond (Refuses (OfLength Wrong p)) (eqb (length p) 0)
     (λ e. none (eqb-true (length p) 0 e) refl)
-    (λ e. by-cond (Refuses (OfLength p)) (wrong (packetSize (getD p 0 0)) (length p))
-    (λ w. own (λ o. true≢false (sym w ∙ rw o (fits (length p)))) refl)
-    (λ _. refuses-mapped (OfLength p) _ (blocksFrom move 1 0 (drop 1 p))
+    (λ e. by-cond (Refuses (OfLength Wrong p)) (wrong (packetSize (getD p 0 0)) (length p))
+    (λ w. own (omega (arith, eqb-false (length p) 0 e)) (finds (packetSize (getD p 0 0)) (length p) w) refl)
+    (λ _. refuses-mapped (OfLength Wrong p) _ (blocksFrom move 1 0 (drop 1 p))
     (refuses-weaker (λ why c. inside c) (blocksFrom move 1 0 (drop 1 p)) (blocks-short move p 1 0 (drop 1 p) refl))))

@@ -1,5 +1,6 @@
--- What reading gives and pushing leaves is a valid block, and means what the model says; a block written is read back. Assumes nothing.
-use mathlib.Core.Path.{_≡_, refl, sym, subst}
+-- What reading gives and pushing leaves is a valid block, and means what the model says; a block written is read back; what a block is refused with.
+-- Assumes nothing.
+use mathlib.Core.Path.{_≡_, refl, sym}
 use mathlib.Core.Bool.{true}
 use mathlib.Core.List.{List, _++_}
 use Prim.Native.Nat.{ℕ, _+_, _≤_}
@@ -10,10 +11,10 @@ use borrow.Author.Tests.{le-leb, eqb-true, eqb-false}
 use Rattle.caption.specs.declared.Answer.the-variants.{Refused}
 use Rattle.caption.specs.declared.Refusal.{Refusal}
 use Rattle.caption.specs.Answers.{saidRefusal}
-use Rattle.caption.proofs.Answers.{refused-as}
+use Rattle.caption.proofs.Answers.{refused-so}
 use Rattle.model.specs.Said.{gave}
 use Rattle.model.specs.Block.{Block, validBlock, readBlock, writtenBlock, withRun}
-use Rattle.model.proofs.Cases.{by-test, Refuses}
+use Rattle.model.proofs.Cases.{by-test}
 use Rattle.model.proofs.Lengths.{ShortAt, block-refusals}
 use Rattle.model.proofs.Limits.{read-valid}
 use Rattle.model.proofs.BlockTrip.{read-written}
@@ -51,4 +52,4 @@ written-back s rest v places some =
 
 -- What reading a block is refused with is what `ShortAt` says at 0, whatever answer the contract allows.
 pub block-lengths : (d : List ℕ) (r : ServiceAnswer) (why : Refusal) → r .answer ≡ Refused why → Answers (readBlock d) blank r → ShortAt 0 d (saidRefusal why)
-block-lengths d r why is read = subst (Refuses (ShortAt 0 d)) (refused-as why (readBlock d) (rw is at (read .answer))) (block-refusals d)
+block-lengths d r why is read = refused-so (ShortAt 0 d) why (readBlock d) (block-refusals d) (rw is at (read .answer))
