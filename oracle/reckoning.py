@@ -90,13 +90,19 @@ def packet_room(packet):
     return 128 - packet_length(packet)
 
 
+def null_at(data, at):
+    """Whether a header of number 0 stands there, in one byte or in two [T2]."""
+    first, *rest = data[at:]
+    return first < 0x20 or first > 0xE0 and rest != [] and rest[0] in (0x00, 0x40, 0x80, 0xC0)
+
+
 def read_packet(data, tidily):
-    """[P2] to [P6], [T1] and [T2]"""
+    """[P2] to [P6], and [T1] to [T3]"""
     refuse_if(not data, 13, 1, 0, 0)
     size = 2 * (data[0] % 64) or 128
     refuse_if(len(data) > size or tidily and len(data) < size, 13, size, len(data), 0)
     blocks, at = [], 1
-    while at < len(data):
+    while at < len(data) and not (tidily and null_at(data, at)):
         block, announced = read_block(data[at:], at)
         blocks += [block] if block.payload else []
         at += announced if tidily else block_length(block) or 1

@@ -94,6 +94,35 @@ def cut_everywhere(count):
             s += [("p", d[:k]), ("p", fitting), ("t", fitting)]
         yield s
 
+def whole_blocks(n):
+    """Blocks that take exactly so many bytes, none of number 0."""
+    d = []
+    while n:
+        two = n > 2 and R.random() < .4
+        size = R.randrange(two, min(32, n - two))
+        d += [0xE0 | size, R.randrange(1, 64) | R.choice([0, 64, 128, 192])] if two else [R.randrange(1, 8 if size == 0 else 7) << 5 | size]
+        d += some(size)
+        n -= 1 + two + size
+    return d
+
+def null_headers(rounds):
+    """Null headers of both forms behind whole blocks, at every place of a packet, with fill of every kind behind them up to what the header
+    says; and a header of two bytes that the packet's end cuts."""
+    forms = [[h] for h in range(32)] + [[h, z] for h in range(0xE1, 0x100) for z in (0, 64, 128, 192)]
+    kinds = [lambda n: [0] * n, some, whole_blocks, lambda n: [R.choice([0xE1, 0xFF, 0x3F, 0x21, 0x1F])] * n, lambda n: R.choices(range(256), k=n)]
+    for at in range(1, 128):
+        s = []
+        for null in R.sample(forms, rounds) + [[R.randrange(0xE1, 0x100)]]:
+            d = whole_blocks(at - 1) + null
+            most = 127 - len(d)
+            if most < 0: continue
+            left = R.choice([0, 1, 2, 3, most, R.randrange(most + 1)]) if null[0] < 0x20 or null[1:] else 0
+            d += R.choice(kinds)(min(left, most))
+            if len(d) % 2 == 0: d.append(byte())
+            h = R.randrange(4) << 6 | (len(d) + 1) // 2 % 64
+            s += [("p", [h] + d), ("t", [h] + d), ("t", [h] + d[:-1])]
+        yield s
+
 def a_run(room=None):
     n = R.choice([0, 1, 1, 2, 3, 5, 10, 15, 20, 29, 30, 31, 32, 33, 60, 100, 127, 128, 200, R.randrange(40)])
     return some(n)
@@ -558,6 +587,7 @@ def generate(seed, written, scale=1.0):
     yield "packets read", packet_reading(c(1500), "p")
     yield "packets read tidily", packet_reading(c(1500), "t")
     yield "blocks and packets cut at every byte", cut_everywhere(c(150))
+    yield "null headers of both forms at every place", null_headers(c(60))
     yield "blocks pushed to and written", block_pushes(c(300))
     yield "packets pushed to and written", packet_pushes(c(600))
     yield "frames, whole and damaged", frames(c(1000))
@@ -583,6 +613,7 @@ def generate_reading(seed, scale=1.0):
     yield "packets read tidily, every first two bytes, by the reckoning", packet_headers("t")
     yield "packets read tidily, by the reckoning", packet_reading(c(1500), "t")
     yield "blocks and packets cut at every byte, by the reckoning", cut_everywhere(c(300))
+    yield "null headers of both forms at every place, by the reckoning", null_headers(c(150))
 
 def generate_counting(seed, written, scale=1.0):
     """The kinds with writes, with the true count."""

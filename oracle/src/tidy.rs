@@ -17,6 +17,15 @@ fn advertised(byte: u8) -> usize {
     header + size
 }
 
+/// Whether a header of number 0 stands at the front, in one byte or in two: from there on all is fill.
+fn is_null(bytes: &[u8]) -> bool {
+    match bytes {
+        [0..=0x1F, ..] => true,
+        [0xE1..=0xFF, second, ..] => second & 0x3F == 0,
+        _ => false,
+    }
+}
+
 pub fn read(bytes: &[u8]) -> Result<DTVCCPacket, Refusal> {
     let Some(&first) = bytes.first() else {
         return Err(Refusal::LengthMismatch(1, 0));
@@ -28,6 +37,9 @@ pub fn read(bytes: &[u8]) -> Result<DTVCCPacket, Refusal> {
     let mut packet = DTVCCPacket::new(sequence);
     let mut rest = &bytes[1..];
     while let Some(&byte) = rest.first() {
+        if is_null(rest) {
+            break;
+        }
         let service = Service::parse(rest)?;
         if !service.is_empty() {
             packet.push_service(service).expect("what was read fits");

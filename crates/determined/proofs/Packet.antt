@@ -11,9 +11,7 @@ use denote.Ref.{now}
 use Rattle.model.specs.Said.{Outcome}
 use Rattle.model.specs.Block.{Block}
 use Rattle.model.specs.Packet.{Packet}
-use Rattle.caption.proofs.Answers.{answerOf, refused-again, saidAnswer-injective, saidCounted-injective, saidTruth-injective}
-use Rattle.caption.specs.declared.Answer.{Answer}
-use Rattle.caption.specs.Answers.{saidAnswer}
+use Rattle.caption.proofs.Answers.{answerOf, refused-again, saidCounted-injective, saidTruth-injective}
 use Rattle.service.specs.declared.Service.{Service}
 use Rattle.packet.specs.Packet.{Answers}
 use Rattle.packet.specs.Place.{saidPlace, Placed}
@@ -40,6 +38,7 @@ use Rattle.packet.proofs.DTVCCPacket.parse.Reads as parse
 use Rattle.packet.proofs.DTVCCPacket.parse_in.Reads as ParseIn
 use Rattle.packet.proofs.DTVCCPacket.parse_tidy.Reads as parse_tidy
 use Rattle.packet.proofs.DTVCCPacket.is_valid.Reads as is_valid
+use Rattle.packet.proofs.Tidy.{one-answer}
 use Rattle.determined.specs.Determines.{Determines, DeterminesLent}
 use Rattle.determined.proofs.Ways.{equal, said, two}
 
@@ -57,14 +56,10 @@ place-again (Refused why) = refused-again placeOf Refused why
 saidPlace-injective : Injective saidPlace
 saidPlace-injective = LeftInverse·injective (answerOf placeOf Refused) saidPlace place-again
 
--- answers that say the same beside the same packet
-answer-same : (r q : PacketAnswer) → saidAnswer (r .answer) ≡ saidAnswer (q .answer) → r .packet ≡ q .packet → r ≡ q
-answer-same r q e f = two (λ (x : Answer) (p : DTVCCPacket). record { answer = x; packet = p }) (saidAnswer-injective (r .answer) (q .answer) e) f
-
 module _ {A E : Type 0} where
   -- an answer and a packet
   answers : {o : A → Outcome Packet} {old : A → DTVCCPacket} → Determines (λ (a : A) (r : PacketAnswer) (e : E). Answers (o a) (old a) r)
-  answers = record { result = λ a r q e f h k. answer-same r q (h .answer ∙ sym (k .answer)) (h .places ∙ sym (k .places)) }
+  answers = record { result = λ a r q e f h k. one-answer r q h k }
 
   -- a place and the block there
   placed : {o : A → Outcome (List Block)} → Determines (λ (a : A) (r : ServiceAt) (e : E). Placed (o a) r)

@@ -3,6 +3,7 @@ use mathlib.Core.Path.{sym, _∙_}
 use contract.Lifetimes.{Lfts}
 use Rattle.packet_moves.proofs.packet_size.Reads as packet_size
 use Rattle.packet_moves.proofs.moved.Reads as Moved
+use Rattle.packet_moves.proofs.through.Reads as Through
 use Rattle.packet_moves.proofs.held.Reads as Held
 use Rattle.packet_moves.proofs.reads_in.Reads as ReadsIn
 use Rattle.determined.specs.Determines.{Determines}
@@ -15,6 +16,10 @@ packet-size = equal
 -- `moved(tidy, number, start, size)`
 pub moved : Determines (Moved.Post (tt {0}))
 moved = equal
+
+-- `through(tidy, bytes, at, end)`
+pub through : (κs : Lfts 1) → Determines (Through.Post κs)
+through κs = equal
 
 -- `held(bytes, len)`
 pub held : (κs : Lfts 1) → Determines (Held.Post κs)

@@ -4,6 +4,7 @@ use denote.Ref.{now}
 use Rattle.caption.proofs.Answers.{saidRefusal-injective}
 use Rattle.service_headers.proofs.read_head.Reads as read_head
 use Rattle.service_headers.proofs.head_in.Reads as HeadIn
+use Rattle.service_headers.proofs.null_in.Reads as NullIn
 use Rattle.service_headers.proofs.short_of.Reads as short_of
 use Rattle.service_headers.proofs.block_length.Reads as block_length
 use Rattle.service_headers.proofs.put_header.Reads as put_header
@@ -18,6 +19,10 @@ read-head κs = equal
 -- `head_in(bytes, at, end)`
 pub head-in : (κs : Lfts 1) → Determines (HeadIn.Post κs)
 head-in κs = equal
+
+-- `null_in(bytes, at, end)`
+pub null-in : (κs : Lfts 1) → Determines (NullIn.Post κs)
+null-in κs = equal
 
 -- `short_of(head, present, offset)`
 pub short-of : Determines (short_of.Post (tt {0}))

@@ -1,4 +1,4 @@
--- A block that is written is read back, whatever follows it, and both readers move on past it. Assumes nothing.
+-- A block that is written is read back, whatever follows it, and the plain reader moves on past it. Assumes nothing.
 use mathlib.Core.Path.{_≡_, refl}
 use mathlib.Core.List.{List, [], _∷_, _++_}
 use Prim.Native.Nat.{ℕ, suc, _+_, _*_, _%_, _≤_, _<_}
@@ -8,15 +8,15 @@ use lib.ListN.{length, getD, length-append}
 use borrow.Author.Tests.{ne-eqb, ltb-true, ltb-false}
 use Rattle.model.specs.Said.{gave}
 use Rattle.model.specs.Block.{Block, topNumber, blockSize, headerLength, numberIn, blockIn, readBlockAt, writtenBlock}
-use Rattle.model.specs.Packet.{plainMove, tidyMove}
+use Rattle.model.specs.Packet.{plainMove}
 use Rattle.model.proofs.Cases.{by-test}
-use Rattle.model.proofs.Blocks.{Carriable, header-one, header-two, written-short, written-long, block-length, block-at, read-at, read-whole}
+use Rattle.model.proofs.Blocks.{Carriable, header-one, header-two, written-short, written-long, block-length, block-at, read-at}
 
 -- what is known of bytes that begin with a written block
 pub record Begins (b : Block) (d : List ℕ) : Type 0 where
   pub read : (offset : ℕ) → readBlockAt offset d ≡ gave b
   pub block : blockIn d ≡ b
-  pub tidy : headerLength (getD d 0 0) + blockSize (getD d 0 0) ≡ length (writtenBlock b)
+  pub long : headerLength (getD d 0 0) + blockSize (getD d 0 0) ≡ length (writtenBlock b)
 
 module _ (b : Block) (rest : List ℕ) (f : Carriable b) where
   -- one of number 1 to 6, behind a header of one byte
@@ -34,7 +34,7 @@ module _ (b : Block) (rest : List ℕ) (f : Carriable b) where
       (record {
         read = read-at (h ∷ (b .payload ++ rest)) (b .payload) rest (b .number) 1 one size number named refl enough;
         block = block-at (h ∷ (b .payload ++ rest)) (b .payload) rest (b .number) 1 one size number named refl enough;
-        tidy = rw (one, size, written-short b small) (omega arith);
+        long = rw (one, size, written-short b small) (omega arith);
       })
 
   -- one of number 7 to 63, behind a header of two
@@ -53,11 +53,11 @@ module _ (b : Block) (rest : List ℕ) (f : Carriable b) where
       (record {
         read = read-at (h ∷ b .number ∷ (b .payload ++ rest)) (b .payload) rest (b .number) 2 two size number named refl enough;
         block = block-at (h ∷ b .number ∷ (b .payload ++ rest)) (b .payload) rest (b .number) 2 two size number named refl enough;
-        tidy = rw (two, size, written-long b large) (omega arith);
+        long = rw (two, size, written-long b large) (omega arith);
       })
 
   -- any block that may stand in a packet
-  begins : Begins b (writtenBlock b ++ rest)
+  pub begins : Begins b (writtenBlock b ++ rest)
   begins = by-test (ltb (b .number) 7) (λ e. begins-short (ltb-true _ _ e)) (λ e. begins-long (ltb-false _ _ e))
 
   -- a block that is written is read back, wherever it stands
@@ -69,26 +69,6 @@ module _ (b : Block) (rest : List ℕ) (f : Carriable b) where
   unfolding plainMove
   plain-passes = rw (begins .block) (simp (ne-eqb (length (b .payload)) 0 (λ e. omega (arith, f .filled))) (block-length b (f .filled)))
 
-  -- and so does the tidy one
-  pub tidy-passes : tidyMove (writtenBlock b ++ rest) ≡ length (writtenBlock b)
-  unfolding tidyMove
-  tidy-passes = begins .tidy
-
   -- it takes at least a header byte and one of payload
   pub written-some : 2 ≤ length (writtenBlock b)
   written-some = by-test (ltb (b .number) 7) (λ e. rw (written-short b (ltb-true _ _ e)) (omega (arith, f .filled))) (λ e. rw (written-long b (ltb-false _ _ e)) (omega arith))
-
--- the byte that fills an odd length is a block without payload, which both readers pass in one byte
-pub fill-read : (offset : ℕ) (rest : List ℕ) → readBlockAt offset (0x00 ∷ rest) ≡ gave (record { number = 0; payload = [] })
-unfolding blockIn numberIn headerLength
-fill-read offset rest = rw (read-whole offset (0x00 ∷ rest) (omega arith))
-
--- the plain reader passes it
-pub plain-fill : (rest : List ℕ) → plainMove (0x00 ∷ rest) ≡ 1
-unfolding plainMove blockIn numberIn headerLength
-plain-fill rest = refl
-
--- and so does the tidy one
-pub tidy-fill : (rest : List ℕ) → tidyMove (0x00 ∷ rest) ≡ 1
-unfolding tidyMove headerLength
-tidy-fill rest = refl

@@ -7,10 +7,10 @@ use native.Mathlib.Omega.{arith}
 use lib.Dec.{eqb, leb, ltb}
 use lib.ListN.{length, getD, drop, length-append}
 use lib.Seq.{take-at}
-use borrow.Author.Tests.{eq-eqb, ne-eqb, le-leb, lt-ltb, le-ltb, leb-true}
+use borrow.Author.Tests.{eq-eqb, ne-eqb, le-leb, lt-ltb, le-ltb, leb-true, eqb-true, ltb-false, not-true}
 use Rattle.model.specs.Said.{gave, refused, blockHeaderShort, blockBodyShort}
 use Rattle.model.specs.Block.{Block, validBlock, topNumber, blockSize, headerLength, numberIn, isHeaderShort, needed, isShort, blockIn, shortAt, readBlockAt, writtenHeader, writtenBlock, blockLength}
-use Rattle.model.specs.Packet.{carriable}
+use Rattle.model.specs.Packet.{isNullHeader, carriable}
 use Rattle.model.proofs.Cases.{by-test, by-cond, both}
 
 -- what a block has to be to stand in a packet, as facts on numbers
@@ -62,6 +62,22 @@ header-bare h s = by-test (eqb (topNumber h) 7) (λ e. simp (e, eq-eqb _ _ s)) (
 pub header-bytes : (h : ℕ) → (1 ≤ headerLength h) × (headerLength h ≤ 2)
 unfolding headerLength
 header-bytes h = by-cond (λ n. (1 ≤ n) × (n ≤ 2)) (eqb (topNumber h) 7 && not (eqb (blockSize h) 0)) (λ _. omega arith) (λ _. omega arith)
+
+-- a header of number 0 is null once its bytes are there,
+pub null-header : (d : List ℕ) → headerLength (getD d 0 0) ≤ length d → numberIn d ≡ 0 → isNullHeader d ≡ true
+unfolding isNullHeader isHeaderShort
+null-header d there z = simp (le-ltb _ _ there, eq-eqb _ _ z)
+
+-- and only then
+pub null-facts : (d : List ℕ) → isNullHeader d ≡ true → (headerLength (getD d 0 0) ≤ length d) × (numberIn d ≡ 0)
+unfolding isNullHeader isHeaderShort
+null-facts d e =
+    let f = both (not (ltb (length d) (headerLength (getD d 0 0)))) (eqb (numberIn d) 0) e in
+    (ltb-false _ _ (not-true _ (f .0)), eqb-true _ _ (f .1))
+
+-- so one of another number is not
+pub header-named : (d : List ℕ) → (numberIn d ≡ 0 → ⊥) → isNullHeader d ≡ false
+header-named d n = by-test (isNullHeader d) (λ e. absurd (n (null-facts d e .1))) (λ e. e)
 
 -- bytes that are read as a block, at any offset
 module _ (offset : ℕ) (d : List ℕ) where

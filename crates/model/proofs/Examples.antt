@@ -6,7 +6,7 @@ use mathlib.Core.List.{List, [], _∷_, map}
 use Prim.Native.Nat.{ℕ}
 use Rattle.model.specs.Said.{Said, Outcome, gave, refused, mapped}
 use Rattle.model.specs.Block.{Block, headerLength, numberIn, isHeaderShort, needed, isShort, blockIn, shortAt, readBlockAt, readBlock, writtenHeader, writtenBlock, blockLength}
-use Rattle.model.specs.Packet.{Packet, sequenceIn, packetSize, plainMove, tidyMove, blocksFrom, readBy, readPacket, reads, readTidy, blocksLength, packetLength, writtenBlocks, packetHeader, fill, writtenPacket}
+use Rattle.model.specs.Packet.{Packet, sequenceIn, packetSize, plainMove, tidyMove, isNullHeader, blocksFrom, readBy, readPacket, reads, readTidy, blocksLength, packetLength, writtenBlocks, packetHeader, fill, writtenPacket}
 use Rattle.model.specs.Frame.{pair, Cea608, field1, field2, seen, seenAll, flat, triplesIn, flagged, frameBytes}
 use Rattle.model.specs.Demux.{turn608On, freshDemux, pairsIn, lateAfter, lateFrom, carries708, closed, packetsOf, kept, wants, gather, ended, gathered, takeGathered, takeTriples, unread, takeFrame}
 use Rattle.model.specs.Rate.{rounded, budgets, goingOn, carriedBudget, leftOver, carriedOn, carriedShare, shareBy}
@@ -86,7 +86,12 @@ table =
     ∷ row (plain (0x02 ∷ 0xE1 ∷ 0x07 ∷ 0x41 ∷ [])) (packet (one 0 7 (0x41 ∷ [])))
     ∷ row (plain (0x02 ∷ 0xE1 ∷ 0x01 ∷ 0x41 ∷ [])) (refusal (says 15 (2 ∷ 1 ∷ 3 ∷ [])))
     ∷ row (plain (0x02 ∷ 0x01 ∷ 0x21 ∷ 0x41 ∷ [])) (packet (one 0 1 (0x41 ∷ [])))
-    ∷ row (tidy (0x02 ∷ 0x01 ∷ 0x21 ∷ 0x41 ∷ [])) (refusal (says 15 (2 ∷ 1 ∷ 3 ∷ [])))
+    ∷ row (tidy (0x02 ∷ 0x01 ∷ 0x21 ∷ 0x41 ∷ [])) (packet (record { sequence = 0; blocks = [] }))
+    ∷ row (plain (0x03 ∷ 0x21 ∷ 0x41 ∷ 0x1F ∷ 0x21 ∷ 0x42 ∷ [])) (refusal (says 15 (32 ∷ 3 ∷ 3 ∷ [])))
+    ∷ row (tidy (0x03 ∷ 0x21 ∷ 0x41 ∷ 0x1F ∷ 0x21 ∷ 0x42 ∷ [])) (packet (one 0 1 (0x41 ∷ [])))
+    ∷ row (plain (0x03 ∷ 0x21 ∷ 0x41 ∷ 0xE1 ∷ 0x00 ∷ 0x42 ∷ [])) (refusal (says 15 (3 ∷ 1 ∷ 5 ∷ [])))
+    ∷ row (tidy (0x03 ∷ 0x21 ∷ 0x41 ∷ 0xE1 ∷ 0x00 ∷ 0x42 ∷ [])) (packet (one 0 1 (0x41 ∷ [])))
+    ∷ row (tidy (0x02 ∷ 0x21 ∷ 0x41 ∷ 0xE1 ∷ [])) (refusal (says 14 (2 ∷ 1 ∷ 3 ∷ [])))
     ∷ row (plain (0x01 ∷ 0x21 ∷ 0x41 ∷ 0x00 ∷ [])) (refusal (says 13 (2 ∷ 4 ∷ 0 ∷ [])))
     ∷ row (plain (0x08 ∷ 0x21 ∷ 0x41 ∷ [])) (packet (one 0 1 (0x41 ∷ [])))
     ∷ row (tidy (0x08 ∷ 0x21 ∷ 0x41 ∷ [])) (refusal (says 13 (16 ∷ 3 ∷ 0 ∷ [])))
@@ -121,7 +126,7 @@ table =
 pub examples : map (λ (r : Row). answer (r .input)) table ≡ map (λ (r : Row). r .result) table
 unfolding table
     headerLength numberIn isHeaderShort needed isShort blockIn shortAt readBlockAt writtenHeader writtenBlock blockLength
-    packetSize plainMove tidyMove blocksFrom readBy readPacket reads readTidy blocksLength packetLength writtenBlocks packetHeader fill writtenPacket
+    packetSize plainMove tidyMove isNullHeader blocksFrom readBy readPacket reads readTidy blocksLength packetLength writtenBlocks packetHeader fill writtenPacket
     seen seenAll flat triplesIn flagged frameBytes
     pairsIn lateAfter lateFrom carries708 closed packetsOf kept wants gather ended gathered takeGathered takeTriples unread takeFrame
     rounded budgets goingOn carriedBudget leftOver carriedOn carriedShare shareBy

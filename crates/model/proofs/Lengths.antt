@@ -1,6 +1,6 @@
 -- What the readers of blocks and packets refuse with: 13, 14 and 15 alone, and what their values are. Assumes nothing.
 use mathlib.Core.Path.{_≡_, refl, sym, ap, subst, _∙_}
-use mathlib.Core.Bool.{Bool, true}
+use mathlib.Core.Bool.{true, false}
 use mathlib.Core.List.{List, [], _∷_}
 use Prim.Native.Nat.{ℕ, zero, suc, _+_, _-_, _≤_, _<_}
 use native.Mathlib.Omega.{arith}
@@ -10,7 +10,7 @@ use lib.Seq.{drop-drop}
 use borrow.Author.Tests.{ltb-true, ltb-false, eqb-true, eqb-false}
 use Rattle.model.specs.Said.{Said, packetLengthWrong, blockHeaderShort, blockBodyShort}
 use Rattle.model.specs.Block.{headerLength, blockSize, readBlockAt, readBlock}
-use Rattle.model.specs.Packet.{packetSize, kept, blocksFrom, readBy}
+use Rattle.model.specs.Packet.{packetSize, Way, kept, blocksFrom, readBy}
 use Rattle.model.proofs.Cases.{by-test, by-cond, Refuses, refuses-weaker, refuses-then, refuses-mapped}
 use Rattle.model.proofs.Blocks.{header-missing, body-missing, read-whole}
 
@@ -35,50 +35,63 @@ block-short offset d =
 pub block-refusals : (d : List ℕ) → Refuses (ShortAt 0 d) (readBlock d)
 block-refusals d = block-short 0 d
 
--- A block of the packet p is short that begins at a place within it, `from` or further on: its offset is that place.
-pub record Inside (from : ℕ) (p : List ℕ) (why : Said) : Type 0 where
+-- A block of the packet p is short that begins at a place within it, `from` or further on, where the reader does not stop: its offset is that place.
+pub record Inside (way : Way) (from : ℕ) (p : List ℕ) (why : Said) : Type 0 where
   pub at : ℕ
   pub behind : from ≤ at
   pub within : at < length p
+  pub met : way .stops (drop at p) ≡ false
   pub short : ShortAt at (drop at p) why
-
--- from a place before it is the same
-earlier : (p : List ℕ) (from : ℕ) (why : Said) → Inside (suc from) p why → Inside from p why
-earlier p from why i = record { at = i .at; behind = omega (arith, i .behind); within = i .within; short = i .short }
 
 -- the bytes behind the first
 behind-first : (p : List ℕ) (offset x : ℕ) (d : List ℕ) → drop offset p ≡ x ∷ d → drop (suc offset) p ≡ d
 behind-first p offset x d is = let s : offset + 1 ≡ suc offset = omega arith in rw (← s) (sym (drop-drop 1 offset p) ∙ ap (drop 1) is)
 
--- blocks one after the other, however the reader moves on
-blocks-short : (move : List ℕ → ℕ) (p : List ℕ) (offset passed : ℕ) (d : List ℕ) → drop offset p ≡ d → Refuses (Inside offset p) (blocksFrom move offset passed d)
-unfolding blocksFrom
-blocks-short move p offset passed [] is = tt
-blocks-short move p offset (suc passed) (x ∷ d) is =
-    refuses-weaker (earlier p offset) (blocksFrom move (suc offset) passed d) (blocks-short move p (suc offset) passed d (behind-first p offset x d is))
-blocks-short move p offset zero (x ∷ d) is =
-    let long : suc (length d) ≡ length p - offset = sym (ap length is) ∙ length-drop offset p in
-    refuses-then (Inside offset p) (readBlockAt offset (x ∷ d)) _
-    (refuses-weaker (λ why s. record { at = offset; behind = omega arith; within = omega arith; short = subst (λ (e : List ℕ). ShortAt offset e why) (sym is) s })
-    (readBlockAt offset (x ∷ d)) (block-short offset (x ∷ d)))
-    (λ b. refuses-mapped (Inside offset p) (kept b) (blocksFrom move (suc offset) (move (x ∷ d) - 1) d)
-    (refuses-weaker (earlier p offset) (blocksFrom move (suc offset) (move (x ∷ d) - 1) d)
-    (blocks-short move p (suc offset) (move (x ∷ d) - 1) d (behind-first p offset x d is))))
+module _ (way : Way) (p : List ℕ) where
+  -- from a place before it is the same
+  earlier : (from : ℕ) (why : Said) → Inside way (suc from) p why → Inside way from p why
+  earlier from why i = record { at = i .at; behind = omega (arith, i .behind); within = i .within; met = i .met; short = i .short }
+
+  -- the block at a place
+  short-here : (offset x : ℕ) (d : List ℕ) → drop offset p ≡ x ∷ d → way .stops (x ∷ d) ≡ false → Refuses (Inside way offset p) (readBlockAt offset (x ∷ d))
+  short-here offset x d is on =
+      let long : suc (length d) ≡ length p - offset = sym (ap length is) ∙ length-drop offset p in
+      let here : (why : Said) → ShortAt offset (x ∷ d) why → Inside way offset p why = λ why s. record {
+        at = offset;
+        behind = omega arith;
+        within = omega arith;
+        met = rw is on;
+        short = subst (λ (e : List ℕ). ShortAt offset e why) (sym is) s;
+      } in
+      refuses-weaker here (readBlockAt offset (x ∷ d)) (block-short offset (x ∷ d))
+
+  -- blocks one after the other
+  blocks-short : (offset passed : ℕ) (d : List ℕ) → drop offset p ≡ d → Refuses (Inside way offset p) (blocksFrom way offset passed d)
+  unfolding blocksFrom
+  blocks-short offset passed [] is = tt
+  blocks-short offset (suc passed) (x ∷ d) is =
+      refuses-weaker (earlier offset) (blocksFrom way (suc offset) passed d) (blocks-short (suc offset) passed d (behind-first p offset x d is))
+  blocks-short offset zero (x ∷ d) is =
+      let rest = blocksFrom way (suc offset) (way .move (x ∷ d) - 1) d in
+      by-cond (Refuses (Inside way offset p)) (way .stops (x ∷ d)) (λ _. tt)
+      (λ on. refuses-then (Inside way offset p) (readBlockAt offset (x ∷ d)) _ (short-here offset x d is on)
+      (λ b. refuses-mapped (Inside way offset p) (kept b) rest
+      (refuses-weaker (earlier offset) rest (blocks-short (suc offset) (way .move (x ∷ d) - 1) d (behind-first p offset x d is)))))
 
 -- What a packet is refused with: there are no bytes, a wrong number of them beside what its header says, or a block in it is short.
-pub data OfLength (Wrong : ℕ → ℕ → Type 0) (p : List ℕ) (why : Said) : Type 0 where
-  none : length p ≡ 0 → why ≡ packetLengthWrong 1 0 0 → OfLength Wrong p why
-  own : 1 ≤ length p → Wrong (packetSize (getD p 0 0)) (length p) → why ≡ packetLengthWrong (packetSize (getD p 0 0)) (length p) 0 → OfLength Wrong p why
-  inside : Inside 1 p why → OfLength Wrong p why
+pub data OfLength (way : Way) (Wrong : ℕ → ℕ → Type 0) (p : List ℕ) (why : Said) : Type 0 where
+  none : length p ≡ 0 → why ≡ packetLengthWrong 1 0 0 → OfLength way Wrong p why
+  own : 1 ≤ length p → Wrong (packetSize (getD p 0 0)) (length p) → why ≡ packetLengthWrong (packetSize (getD p 0 0)) (length p) 0 → OfLength way Wrong p why
+  inside : Inside way 1 p why → OfLength way Wrong p why
 
 -- either reader, by what its test of the length finds
-pub packet-refusals : (move : List ℕ → ℕ) (wrong : ℕ → ℕ → Bool) (Wrong : ℕ → ℕ → Type 0) → ((size n : ℕ) → wrong size n ≡ true → Wrong size n) → (p : List ℕ)
-    → Refuses (OfLength Wrong p) (readBy move wrong p)
+pub packet-refusals : (way : Way) (Wrong : ℕ → ℕ → Type 0) → ((size n : ℕ) → way .wrong size n ≡ true → Wrong size n) → (p : List ℕ)
+    → Refuses (OfLength way Wrong p) (readBy way p)
 unfolding readBy
-packet-refusals move wrong Wrong finds p =
-    by-cond (Refuses (OfLength Wrong p)) (eqb (length p) 0)
+packet-refusals way Wrong finds p =
+    by-cond (Refuses (OfLength way Wrong p)) (eqb (length p) 0)
     (λ e. none (eqb-true (length p) 0 e) refl)
-    (λ e. by-cond (Refuses (OfLength Wrong p)) (wrong (packetSize (getD p 0 0)) (length p))
+    (λ e. by-cond (Refuses (OfLength way Wrong p)) (way .wrong (packetSize (getD p 0 0)) (length p))
     (λ w. own (omega (arith, eqb-false (length p) 0 e)) (finds (packetSize (getD p 0 0)) (length p) w) refl)
-    (λ _. refuses-mapped (OfLength Wrong p) _ (blocksFrom move 1 0 (drop 1 p))
-    (refuses-weaker (λ why c. inside c) (blocksFrom move 1 0 (drop 1 p)) (blocks-short move p 1 0 (drop 1 p) refl))))
+    (λ _. refuses-mapped (OfLength way Wrong p) _ (blocksFrom way 1 0 (drop 1 p))
+    (refuses-weaker (λ why c. inside c) (blocksFrom way 1 0 (drop 1 p)) (blocks-short way p 1 0 (drop 1 p) refl))))

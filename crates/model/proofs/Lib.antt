@@ -4,6 +4,7 @@ pub mod Blocks
 pub mod BlockTrip
 pub mod Walk
 pub mod Lengths
+pub mod Fill
 pub mod Packets
 pub mod Limits
 pub mod Rates

@@ -11,7 +11,7 @@ use borrow.Author.Tests.{eq-eqb, ne-eqb, le-leb, eqb-true, eqb-false, ltb-true, 
 use Rattle.model.specs.Lists.{every}
 use Rattle.model.specs.Said.{gave}
 use Rattle.model.specs.Block.{Block, validBlock, topNumber, blockSize, headerLength, numberIn, isHeaderShort, needed, isShort, blockIn, readBlockAt, readBlock, blockLength}
-use Rattle.model.specs.Packet.{Packet, packetSize, plainMove, tidyMove, kept, blocksFrom, readBy, readPacket, readTidy, blocksLength, packetLength, carriable}
+use Rattle.model.specs.Packet.{Packet, packetSize, plainMove, tidyMove, Way, plainly, tidily, kept, blocksFrom, readBy, readPacket, readTidy, blocksLength, packetLength, carriable}
 use Rattle.model.proofs.Cases.{by-test, by-cond, and-both, Gives, gives-then, gives-mapped, gives-at}
 use Rattle.model.proofs.Blocks.{Carriable, facts-carriable, header-one, header-two, header-bare, block-length, block-length-none, length-short, length-long}
 use Rattle.model.proofs.BlockTrip.{written-some}
@@ -30,21 +30,21 @@ pub record ReadFrom (d : List ℕ) (b : Block) : Type 0 where
   pub tidy : Moves (tidyMove d) (length d) (blockLength b)
 
 -- a header has one byte or two, and two only for number 7 with a size
-header-cases : {P : Type 0} (h : ℕ) → (headerLength h ≡ 1 → (topNumber h ≡ 7 → blockSize h ≡ 0) → P) → (headerLength h ≡ 2 → (blockSize h ≡ 0 → ⊥) → P) → P
+pub header-cases : {P : Type 0} (h : ℕ) → (headerLength h ≡ 1 → (topNumber h ≡ 7 → blockSize h ≡ 0) → P) → (headerLength h ≡ 2 → (topNumber h ≡ 7) × (blockSize h ≡ 0 → ⊥) → P) → P
 header-cases h one two =
     by-test (eqb (topNumber h) 7)
     (λ e. by-test (eqb (blockSize h) 0)
     (λ z. one (header-bare h (eqb-true _ _ z)) (λ _. eqb-true _ _ z))
-    (λ z. two (header-two h (eqb-true _ _ e) (eqb-false _ _ z)) (eqb-false _ _ z)))
+    (λ z. two (header-two h (eqb-true _ _ e) (eqb-false _ _ z)) (eqb-true _ _ e, eqb-false _ _ z)))
     (λ e. one (header-one h (eqb-false _ _ e)) (λ t. absurd (eqb-false _ _ e t)))
 
 -- the number that a header of one byte gives
-number-one : (d : List ℕ) → headerLength (getD d 0 0) ≡ 1 → numberIn d ≡ topNumber (getD d 0 0)
+pub number-one : (d : List ℕ) → headerLength (getD d 0 0) ≡ 1 → numberIn d ≡ topNumber (getD d 0 0)
 unfolding numberIn
 number-one d e = simp (ne-eqb (headerLength (getD d 0 0)) 2 (λ z. omega arith))
 
 -- and one of two
-number-two : (d : List ℕ) → headerLength (getD d 0 0) ≡ 2 → numberIn d ≡ getD d 1 0 % 64
+pub number-two : (d : List ℕ) → headerLength (getD d 0 0) ≡ 2 → numberIn d ≡ getD d 1 0 % 64
 unfolding numberIn
 number-two d e = simp (eq-eqb (headerLength (getD d 0 0)) 2 e)
 
@@ -196,41 +196,44 @@ pub size-most : (h : ℕ) → packetSize h ≤ 128
 unfolding packetSize
 size-most h = by-cond (λ n. n ≤ 128) (eqb (h % 64) 0) (λ _. omega arith) (λ _. omega arith)
 
--- a way of moving on that stays within the bytes and behind no written block
-module _ (move : List ℕ → ℕ) (moves : (d : List ℕ) (b : Block) → ReadFrom d b → Moves (move d) (length d) (blockLength b)) where
+-- a reader that stays within the bytes and goes on from no block by less than it is written in
+module _ (way : Way) (moves : (d : List ℕ) (b : Block) → ReadFrom d b → Moves (way .move d) (length d) (blockLength b)) where
   -- the blocks read from some bytes are written in no more of them
-  pub blocks-within : (offset k : ℕ) (d : List ℕ) → k ≤ length d → Gives (Within (length d - k)) (blocksFrom move offset k d)
+  pub blocks-within : (offset k : ℕ) (d : List ℕ) → k ≤ length d → Gives (Within (length d - k)) (blocksFrom way offset k d)
   unfolding blocksFrom every blocksLength
   blocks-within offset k [] h = record { carriable = refl; short = omega arith }
   blocks-within offset (suc k) (x ∷ d) h = let e : suc (length d) - suc k ≡ length d - k = omega arith in rw e (blocks-within (suc offset) k d (omega arith))
   blocks-within offset zero (x ∷ d) h =
-      gives-then (Within (suc (length d) - 0)) (ReadFrom (x ∷ d)) (readBlockAt offset (x ∷ d)) _ (read-gives offset (x ∷ d))
+      let next : ℕ = way .move (x ∷ d) - 1 in
+      by-cond (Gives (Within (suc (length d) - 0))) (way .stops (x ∷ d))
+      (λ _. record { carriable = refl; short = omega arith })
+      (λ _. gives-then (Within (suc (length d) - 0)) (ReadFrom (x ∷ d)) (readBlockAt offset (x ∷ d)) _ (read-gives offset (x ∷ d))
       (λ b f. let m = moves (x ∷ d) b f in
-      gives-mapped (Within (suc (length d) - 0)) (Within (length d - (move (x ∷ d) - 1))) (blocksFrom move (suc offset) (move (x ∷ d) - 1) d) (kept b)
-      (blocks-within (suc offset) (move (x ∷ d) - 1) d (omega (arith, m .least, m .most)))
-      (λ bs w. let v = within-kept b bs (length d - (move (x ∷ d) - 1)) (f .carried) w in
-      record { carriable = v .carriable; short = omega (arith, v .short, m .least, m .most, m .covers) }))
+      gives-mapped (Within (suc (length d) - 0)) (Within (length d - next)) (blocksFrom way (suc offset) next d) (kept b)
+      (blocks-within (suc offset) next d (omega (arith, m .least, m .most)))
+      (λ bs w. let v = within-kept b bs (length d - next) (f .carried) w in
+      record { carriable = v .carriable; short = omega (arith, v .short, m .least, m .most, m .covers) })))
 
   -- what a packet reader gives of data that is not longer than 128 bytes
-  pub packet-within : (wrong : ℕ → ℕ → Bool) (d : List ℕ) → (wrong (packetSize (getD d 0 0)) (length d) ≡ false → length d ≤ 128) → Gives Valid (readBy move wrong d)
+  pub packet-within : (d : List ℕ) → (way .wrong (packetSize (getD d 0 0)) (length d) ≡ false → length d ≤ 128) → Gives Valid (readBy way d)
   unfolding readBy
-  packet-within wrong d short =
+  packet-within d short =
       by-cond (Gives Valid) (eqb (length d) 0) (λ _. tt)
-      (λ e. by-cond (Gives Valid) (wrong (packetSize (getD d 0 0)) (length d)) (λ _. tt)
+      (λ e. by-cond (Gives Valid) (way .wrong (packetSize (getD d 0 0)) (length d)) (λ _. tt)
       (λ r. let l = short r in
-      gives-mapped Valid (Within (length (drop 1 d) - 0)) (blocksFrom move 1 0 (drop 1 d)) _ (blocks-within 1 0 (drop 1 d) (omega arith))
+      gives-mapped Valid (Within (length (drop 1 d) - 0)) (blocksFrom way 1 0 (drop 1 d)) _ (blocks-within 1 0 (drop 1 d) (omega arith))
       (λ bs w. record { sequence = omega arith; blocks = w .carriable; length = packet-short _ bs (omega (arith, w .short, length-drop 1 d)) })))
 
 -- the plain reader
 pub plain-within : (d : List ℕ) → Gives Valid (readPacket d)
 unfolding readPacket
-plain-within d = packet-within plainMove (λ _ _ f. f .plain) ltb d (λ e. omega (arith, size-most (getD d 0 0), ltb-false (packetSize (getD d 0 0)) (length d) e))
+plain-within d = packet-within plainly (λ _ _ f. f .plain) d (λ e. omega (arith, size-most (getD d 0 0), ltb-false (packetSize (getD d 0 0)) (length d) e))
 
 -- the tidy reader
 pub tidy-within : (d : List ℕ) → Gives Valid (readTidy d)
 unfolding readTidy
 tidy-within d =
-    packet-within tidyMove (λ _ _ f. f .tidy) (λ size actual. not (eqb size actual)) d
+    packet-within tidily (λ _ _ f. f .tidy) d
     (λ e. omega (arith, size-most (getD d 0 0), eqb-true (packetSize (getD d 0 0)) (length d) (not-false _ e)))
 
 -- a packet within the limits has at most 63 blocks

@@ -1,20 +1,20 @@
--- Packets as they are written: how long they are, what their header says, and that both readers give them back. Assumes nothing.
-use mathlib.Core.Path.{_≡_, refl, ap, _∙_}
+-- Packets as they are written: how long they are, what their header says, and that the plain reader gives them back. Assumes nothing.
+use mathlib.Core.Path.{_≡_, refl, sym, ap, _∙_}
 use mathlib.Core.Bool.{Bool, true, false, not, _&&_}
 use mathlib.Core.List.{List, [], _∷_, _++_, append-nil}
 use Prim.Native.Nat.{ℕ, suc, _+_, _*_, _/_, _%_, _≤_}
 use native.Mathlib.Omega.{arith}
 use lib.Dec.{eqb, leb, ltb}
 use lib.ListN.{length, length-append}
-use borrow.Author.Tests.{eq-eqb, ne-eqb, le-leb, le-ltb, leb-true, eqb-true, eqb-false}
+use borrow.Author.Tests.{eq-eqb, ne-eqb, le-leb, le-ltb, ltb-true, ltb-false, leb-true, eqb-true, eqb-false}
 use Rattle.model.specs.Lists.{every}
 use Rattle.model.specs.Said.{gave}
-use Rattle.model.specs.Block.{Block, writtenBlock}
-use Rattle.model.specs.Packet.{Packet, sequenceIn, packetSize, blocksFrom, readBy, readPacket, readTidy, blocksLength, packetLength, writtenBlocks, packetHeader, fill, writtenPacket, carriable, validPacket}
+use Rattle.model.specs.Block.{Block, headerLength, numberIn, isHeaderShort, needed, isShort, blockIn, readBlockAt, writtenBlock}
+use Rattle.model.specs.Packet.{Packet, sequenceIn, packetSize, plainMove, plainly, blocksFrom, readBy, readPacket, blocksLength, packetLength, writtenBlocks, packetHeader, fill, writtenPacket, carriable, validPacket}
 use Rattle.model.proofs.Cases.{by-test, both}
 use Rattle.model.proofs.Blocks.{carriable-facts, block-length}
 use Rattle.model.proofs.BlockTrip.{written-some}
-use Rattle.model.proofs.Walk.{Passes, plain-passing, tidy-passing, blocks-none, blocks-fill, blocks-written}
+use Rattle.model.proofs.Walk.{blocks-written}
 
 -- a packet within the limits, as facts
 pub record Valid (p : Packet) : Type 0 where
@@ -76,6 +76,21 @@ pub record Shape (p : Packet) : Type 0 where
   pub header : packetSize (packetHeader p) ≡ length (writtenPacket p)
   pub sequence : sequenceIn (packetHeader p) ≡ p .sequence
 
+-- a header that says a sequence number,
+says-sequence : (q n : ℕ) → q ≤ 3 → sequenceIn (q * 64 + n % 64) ≡ q
+says-sequence q n few = omega (arith, few)
+
+-- and 2n bytes in all
+pub header-says : (q n : ℕ) → q ≤ 3 → 1 ≤ n → n ≤ 64 → (sequenceIn (q * 64 + n % 64) ≡ q) × (packetSize (q * 64 + n % 64) ≡ 2 * n)
+unfolding packetSize
+header-says q n few least most =
+    let low : (q * 64 + n % 64) % 64 ≡ n % 64 = omega arith in
+    let size : packetSize (q * 64 + n % 64) ≡ 2 * n =
+    by-test (ltb n 64)
+    (λ e. let same : n % 64 ≡ n = omega (arith, ltb-true n 64 e) in rw (low, same, ne-eqb n 0 (λ z. omega arith)))
+    (λ e. let is : n ≡ 64 = omega (arith, ltb-false n 64 e) in rw (low, is)) in
+    (says-sequence q n few, size)
+
 module _ (p : Packet) (v : Valid p) (some : 1 ≤ length (p .blocks)) where
   -- a packet with a block has at least three bytes
   least-length : 3 ≤ packetLength p
@@ -87,69 +102,45 @@ module _ (p : Packet) (v : Valid p) (some : 1 ≤ length (p .blocks)) where
   written-even =
       omega (arith, length-append (writtenBlocks (p .blocks)) (fill (packetLength p)), blocks-length (p .blocks) (v .blocks), fill-length (packetLength p), length-some p some)
 
-  -- its header says that number
-  header-size : packetSize (packetHeader p) ≡ length (writtenPacket p)
-  unfolding packetSize packetHeader
-  header-size =
-      let n : ℕ = (packetLength p + 1) / 2 in
-      let low : (p .sequence * 64 + n % 64) % 64 ≡ n % 64 = omega arith in
-      let small = least-length in
-      by-test (eqb (n % 64) 0)
-      (λ e. simp (low, e) (omega (arith, eqb-true (n % 64) 0 e, written-even, v .length)))
-      (λ e. simp (low, e) (omega (arith, eqb-false (n % 64) 0 e, written-even, v .length)))
-
-  -- both, and the bounds of that number
+  -- it has the bounds of that number, which its header says
   pub shape : Shape p
   unfolding packetHeader
   shape =
+      let says = header-says (p .sequence) ((packetLength p + 1) / 2) (v .sequence) (omega (arith, least-length)) (omega (arith, v .length)) in
       record {
         even = written-even;
         least = omega (arith, written-even, least-length);
         most = omega (arith, written-even, v .length);
-        header = header-size;
-        sequence = omega (arith, v .sequence);
+        header = says .1 ∙ sym written-even;
+        sequence = says .0;
       }
 
+-- the filling alone is no block
+filled-none : (offset n : ℕ) → blocksFrom plainly offset 0 (fill n) ≡ gave []
+unfolding fill blocksFrom readBlockAt isShort needed isHeaderShort headerLength numberIn blockIn plainMove
+filled-none offset n = by-test (eqb (n % 2) 1) (λ e. simp e) (λ e. simp e)
+
 -- written blocks and the byte that may fill them are read as the blocks
-module _ (move : List ℕ → ℕ) (passes : Passes move) where
-  -- the filling alone is no block
-  filled-none : (offset n : ℕ) → blocksFrom move offset 0 (fill n) ≡ gave []
-  unfolding fill
-  filled-none offset n =
-      by-test (eqb (n % 2) 1) (λ e. simp e (blocks-fill move passes offset [] ∙ blocks-none move (offset + 1))) (λ e. simp e (blocks-none move offset))
+blocks-back : (offset : ℕ) (bs : List Block) (n : ℕ) → every carriable bs ≡ true → blocksFrom plainly offset 0 (writtenBlocks bs ++ fill n) ≡ gave bs
+blocks-back offset bs n ok = blocks-written offset bs (fill n) ok ∙ rw (filled-none (offset + length (writtenBlocks bs)) n) (ap gave (append-nil bs))
 
-  -- the blocks are read back
-  pub blocks-back : (offset : ℕ) (bs : List Block) (n : ℕ) → every carriable bs ≡ true → blocksFrom move offset 0 (writtenBlocks bs ++ fill n) ≡ gave bs
-  blocks-back offset bs n ok =
-      blocks-written move passes offset bs (fill n) ok ∙ rw (filled-none (offset + length (writtenBlocks bs)) n) (ap gave (append-nil bs))
-
-  -- a reader whose length rule the written packet meets
-  pub back-by : (wrong : ℕ → ℕ → Bool) (p : Packet) → Valid p → wrong (packetSize (packetHeader p)) (length (writtenPacket p)) ≡ false
-      → readBy move wrong (writtenPacket p) ≡ gave p
-  unfolding readBy writtenPacket packetHeader
-  back-by wrong p v fits =
-      let top : sequenceIn (p .sequence * 64 + (packetLength p + 1) / 2 % 64) ≡ p .sequence = omega (arith, v .sequence) in
-      let n : eqb (suc (length (writtenBlocks (p .blocks) ++ fill (packetLength p)))) 0 ≡ false =
-      ne-eqb (suc (length (writtenBlocks (p .blocks) ++ fill (packetLength p)))) 0 (λ e. omega arith) in
-      rw (n, fits, blocks-back 1 (p .blocks) (packetLength p) (v .blocks)) (ap (λ (q : ℕ). gave (record { sequence = q; blocks = p .blocks })) top)
-
--- a written packet is not longer than its header says
-empty-size : (q : ℕ) → packetSize (packetHeader (record { sequence = q; blocks = [] })) ≡ 128
+-- a packet without blocks has a header that says 128
+pub bare-size : (q : ℕ) → packetSize (packetHeader (record { sequence = q; blocks = [] })) ≡ 128
 unfolding packetSize packetHeader packetLength
-empty-size q = let e : (q * 64 + 0) % 64 ≡ 0 = omega arith in rw e
+bare-size q = let e : (q * 64 + 0) % 64 ≡ 0 = omega arith in rw e
 
--- a packet with blocks, and one without
+-- a written packet is not longer than its header says: one without blocks, and one with
 not-longer : (q : ℕ) (bs : List Block) → (let p : Packet = record { sequence = q; blocks = bs } in Valid p → length (writtenPacket p) ≤ packetSize (packetHeader p))
 unfolding writtenPacket writtenBlocks packetLength fill
-not-longer q [] v = rw (empty-size q) (omega arith)
+not-longer q [] v = rw (bare-size q) (omega arith)
 not-longer q (b ∷ bs) v = omega (arith, shape (record { sequence = q; blocks = b ∷ bs }) v (omega arith) .header)
 
--- a packet that is written is read back, with its sequence number, block numbers and payloads: plain, the empty packet too,
+-- a packet that is written is read back plainly, with its sequence number, block numbers and payloads, the empty packet too
 pub plain-back : (p : Packet) → Valid p → readPacket (writtenPacket p) ≡ gave p
-unfolding readPacket
-plain-back p v = back-by _ plain-passing ltb p v (le-ltb _ _ (not-longer (p .sequence) (p .blocks) v))
-
--- and tidy
-pub tidy-back : (p : Packet) → Valid p → 1 ≤ length (p .blocks) → readTidy (writtenPacket p) ≡ gave p
-unfolding readTidy
-tidy-back p v some = back-by _ tidy-passing (λ size actual. not (eqb size actual)) p v (ap not (eq-eqb _ _ (shape p v some .header)))
+unfolding readPacket readBy writtenPacket packetHeader
+plain-back p v =
+    let rest : List ℕ = writtenBlocks (p .blocks) ++ fill (packetLength p) in
+    let top : sequenceIn (packetHeader p) ≡ p .sequence = says-sequence (p .sequence) ((packetLength p + 1) / 2) (v .sequence) in
+    let some : eqb (suc (length rest)) 0 ≡ false = ne-eqb (suc (length rest)) 0 (λ e. omega arith) in
+    let fits : ltb (packetSize (packetHeader p)) (length (writtenPacket p)) ≡ false = le-ltb _ _ (not-longer (p .sequence) (p .blocks) v) in
+    rw (some, fits, blocks-back 1 (p .blocks) (packetLength p) (v .blocks)) (ap (λ (q : ℕ). gave (record { sequence = q; blocks = p .blocks })) top)

@@ -7,7 +7,7 @@ use lib.Dec.{eqb, leb, ltb}
 use lib.ListN.{length, getD, set, drop}
 use Rattle.model.specs.Lists.{every}
 use Rattle.model.specs.Said.{Outcome, gave, refused, isGiven, andThen, mapped, wouldOverflow, readOnly, emptyService, badNumber, badRun, packetLengthWrong}
-use Rattle.model.specs.Block.{Block, mostPayload, headerLength, blockSize, blockIn, readBlockAt, writtenBlock, blockLength, blockRoom, withRun}
+use Rattle.model.specs.Block.{Block, mostPayload, headerLength, blockSize, numberIn, isHeaderShort, blockIn, readBlockAt, writtenBlock, blockLength, blockRoom, withRun}
 
 -- a packet: its sequence number and its blocks [P1]
 pub record Packet : Type 0 where
@@ -34,37 +34,57 @@ packetSize h = cond (eqb (h % 64) 0) 128 (2 * (h % 64))
 unfoldable pub plainMove : List ℕ → ℕ
 plainMove d = cond (eqb (length (blockIn d .payload)) 0) 1 (blockLength (blockIn d))
 
--- how far the tidy reader goes on: the header and all that it announces [T2]
+-- how far the tidy reader goes on: the header and all that it announces [T3]
 unfoldable pub tidyMove : List ℕ → ℕ
 tidyMove d = headerLength (getD d 0 0) + blockSize (getD d 0 0)
+
+-- whether bytes begin with a header of number 0, in one byte or in two: its own bytes have to be there, and its size is not asked for [T2]
+unfoldable pub isNullHeader : List ℕ → Bool
+isNullHeader d = not (isHeaderShort d) && eqb (numberIn d) 0
+
+-- How a reader goes over the bytes of a packet: where it stops, since all bytes that are left are fill; how far the block at the head of the bytes
+-- goes on; and which length is wrong where the header says `size`.
+pub record Way : Type 0 where
+  pub stops : List ℕ → Bool
+  pub move : List ℕ → ℕ
+  pub wrong : ℕ → ℕ → Bool
+
+-- the plain reader's: it stops nowhere [P4], and only more bytes than the header says are wrong [P3]
+abbrev pub plainly : Way
+plainly = record { stops = λ _. false; move = plainMove; wrong = ltb }
+
+-- the tidy reader's: from a null header on all is fill [T2], and the bytes are exactly as many as the header says [T1]
+abbrev pub tidily : Way
+tidily = record { stops = isNullHeader; move = tidyMove; wrong = λ size actual. not (eqb size actual) }
 
 -- a block without payload is no block of the packet [P6]
 abbrev pub kept : Block → List Block → List Block
 kept b bs = cond (eqb (length (b .payload)) 0) bs (b ∷ bs)
 
--- Blocks are read until no byte is left, and the refusal of one is the refusal of all [P4]. The bytes stand at `offset` in the packet, and the first
--- `passed` of them are before the place that the block before went on to; `move` says how far the block at the head of the bytes goes on.
-unfoldable pub blocksFrom : (List ℕ → ℕ) → ℕ → ℕ → List ℕ → Outcome (List Block)
-blocksFrom move offset passed [] = gave []
-blocksFrom move offset (suc passed) (x ∷ d) = blocksFrom move (suc offset) passed d
-blocksFrom move offset zero (x ∷ d) = andThen (readBlockAt offset (x ∷ d)) (λ b. mapped (kept b) (blocksFrom move (suc offset) (move (x ∷ d) - 1) d))
+-- Blocks are read until no byte is left or the reader stops, and the refusal of one is the refusal of all [P4] [T2]. The bytes stand at `offset` in the
+-- packet, and the first `passed` of them are before the place that the block before went on to.
+unfoldable pub blocksFrom : Way → ℕ → ℕ → List ℕ → Outcome (List Block)
+blocksFrom way offset passed [] = gave []
+blocksFrom way offset (suc passed) (x ∷ d) = blocksFrom way (suc offset) passed d
+blocksFrom way offset zero (x ∷ d) =
+    cond (way .stops (x ∷ d)) (gave [])
+    (andThen (readBlockAt offset (x ∷ d)) (λ b. mapped (kept b) (blocksFrom way (suc offset) (way .move (x ∷ d) - 1) d)))
 
--- A packet reader, by how far a block goes on and by which length is wrong where the header says `size`; no bytes are 13 (1, 0, 0) [P3]. The first
--- block's offset is 1.
-unfoldable pub readBy : (List ℕ → ℕ) → (ℕ → ℕ → Bool) → List ℕ → Outcome Packet
-readBy move wrong d =
+-- A packet reader, by its way; no bytes are 13 (1, 0, 0) [P3]. The first block's offset is 1.
+unfoldable pub readBy : Way → List ℕ → Outcome Packet
+readBy way d =
     let size = packetSize (getD d 0 0) in
     cond (eqb (length d) 0) (refused (packetLengthWrong 1 0 0))
-    (cond (wrong size (length d)) (refused (packetLengthWrong size (length d) 0))
-    (mapped (λ bs. record { sequence = sequenceIn (getD d 0 0); blocks = bs }) (blocksFrom move 1 0 (drop 1 d))))
+    (cond (way .wrong size (length d)) (refused (packetLengthWrong size (length d) 0))
+    (mapped (λ bs. record { sequence = sequenceIn (getD d 0 0); blocks = bs }) (blocksFrom way 1 0 (drop 1 d))))
 
 -- The plain reader: more bytes than the header says are refused, fewer are read [P3].
 unfoldable pub readPacket : List ℕ → Outcome Packet
-readPacket d = readBy plainMove ltb d
+readPacket d = readBy plainly d
 
 -- The tidy reader: exactly as many bytes as the header says [T1].
 unfoldable pub readTidy : List ℕ → Outcome Packet
-readTidy d = readBy tidyMove (λ size actual. not (eqb size actual)) d
+readTidy d = readBy tidily d
 
 -- whether bytes become a packet [F10]
 unfoldable pub reads : List ℕ → Bool

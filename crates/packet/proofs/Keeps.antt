@@ -7,7 +7,8 @@ use lib.ListN.{length}
 use Rattle.model.specs.Lists.{every}
 use Rattle.model.specs.Said.{gave}
 use Rattle.model.specs.Packet.{Packet, readPacket, readTidy, writtenPacket, pushBlock, pushRunBy, packetLength, validPacket}
-use Rattle.model.proofs.Packets.{Valid, plain-back, tidy-back}
+use Rattle.model.proofs.Packets.{Valid, plain-back}
+use Rattle.model.proofs.Fill.{tidy-back}
 use Rattle.model.specs.Block.{Block, validBlock}
 use Rattle.model.proofs.Cases.{gives-at}
 use Rattle.model.proofs.Limits.{plain-valid, tidy-valid}

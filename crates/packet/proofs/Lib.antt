@@ -4,3 +4,4 @@ pub mod Measures
 pub mod Placed
 pub mod Keeps
 pub mod Refusals
+pub mod Tidy

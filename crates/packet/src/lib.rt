@@ -185,7 +185,7 @@ impl DTVCCPacket {
         packet_of(packet_reading::read_in(bytes, len, false))
     }
 
-    // Reads a packet whose length is what its header says, and passes each block whole [T1] [T2].
+    // Reads a packet whose length is what its header says, block by whole block up to a null header [T1] to [T3].
     pub fn parse_tidy(data: &[u8]) -> PacketAnswer
         ensures { λ r. ⌜ Answers (readTidy (now («data» .entry))) blank r ⌝ }
     {

@@ -1,6 +1,6 @@
 -- How the blocks of a packet are read into their places, step by step. Assumes nothing.
 use mathlib.Core.Path.{_≡_, refl, sym, ap, _∙_}
-use mathlib.Core.Bool.{Bool, false}
+use mathlib.Core.Bool.{Bool, true, false}
 use mathlib.Core.List.{List, [], _∷_, _++_, map, flatMap, append-assoc, append-nil}
 use Prim.Native.Nat.{ℕ, zero, suc, _+_, _-_, _*_, _≤_, _<_}
 use native.Mathlib.Nat.{add-zero}
@@ -23,8 +23,8 @@ use Rattle.service_headers.proofs.Heads.{NotWhole, headed}
 use Rattle.basics.proofs.Runs.{sets-append, sets-more}
 use Rattle.packet_blocks.specs.declared.Kept.{Kept}
 use Rattle.packet_entries.specs.Fields.{Arrays, numbersOf, sizesOf, payloadsOf, blockFrom}
-use Rattle.packet_moves.specs.Moves.{moveFor, keptFor, blocksIn}
-use Rattle.packet_moves.proofs.Moves.{refused-at, next-is, body-length, move-covers, long, from-none, in-front, reach}
+use Rattle.packet_moves.specs.Moves.{wayOf, moveFor, keptFor, blocksIn, throughAt}
+use Rattle.packet_moves.proofs.Moves.{refused-at, next-is, body-length, move-covers, long, from-through, not-through, in-front, reach}
 use Rattle.packet_blocks.specs.Reading.{LaidIn, keptAfter, Keeps, Stored, Room, KeepRoom}
 
 -- what is laid behind other blocks
@@ -95,22 +95,29 @@ module _ (b : List ℕ) (end : ℕ) (fits : end ≤ length b) where
 
   -- the blocks from `here` on
   module _ (tidy : Bool) (here : ℕ) where
-    -- where no bytes are left nothing more is stored
-    pub stored-none : (at : Kept) (x : Arrays) → end ≤ here → Stored (blocksIn b end tidy here) at (Count (at .count)) x x
+    -- where the reader is through with them nothing more is stored
+    pub stored-none : (at : Kept) (x : Arrays) (r : Bool) → r ≡ throughAt b end tidy here → r ≡ true → Stored (blocksIn b end tidy here) at (Count (at .count)) x x
     unfolding Stored flatMap
-    stored-none at x h =
-        rw (from-none b end fits tidy here h) (ap Count (sym (add-zero (at .count))), record { numbers = refl; sizes = refl; payload = refl })
+    stored-none at x r e h =
+        rw (from-through b end fits tidy here (sym e ∙ h)) (ap Count (sym (add-zero (at .count))), record { numbers = refl; sizes = refl; payload = refl })
 
     -- some are left
-    module _ (left : here < end) (head : Head) (is : head ≡ blockHead (drop here front)) where
+    module _ (r : Bool) (e : r ≡ throughAt b end tidy here) (going : r ≡ false) where
+      goes : (here < end) × (wayOf tidy .stops (drop here front) ≡ false)
+      goes = not-through b end fits tidy here (sym e ∙ going)
+
+      pub left : here < end
+      left = goes .0
+
+    module _ (r : Bool) (e : r ≡ throughAt b end tidy here) (going : r ≡ false) (head : Head) (is : head ≡ blockHead (drop here front)) where
       within : here < length front
-      within = in-front b end fits tidy here left head is
+      within = in-front b end fits tidy here (left r e going) head is
 
       -- of a header that is not whole the refusal is told, with the place where it is met
       pub stored-short : (why : Refusal) (at : Kept) (x y : Arrays) → NotWhole head → saidRefusal why ≡ saidShort head (end - here) here
           → Stored (blocksIn b end tidy here) at (Refused why) x y
       unfolding Stored
-      stored-short why at x y none w = rw (refused-at tidy front here within head is none) (why, refl, w ∙ rw (long b end fits))
+      stored-short why at x y none w = rw (refused-at tidy front here within (goes r e going .1) head is none) (why, refl, w ∙ rw (long b end fits))
 
       -- one that is whole
       module _ (n st sz : ℕ) (q : head ≡ Whole n st sz) where
@@ -118,7 +125,7 @@ module _ (b : List ℕ) (end : ℕ) (fits : end ≤ length b) where
         is-whole = sym is ∙ q
 
         fits-here : here + st + sz ≤ end
-        fits-here = reach b end fits tidy here left head is n st sz q
+        fits-here = reach b end fits tidy here (left r e going) head is n st sz q
 
         -- its block has room in the arrays
         pub keep-room : (at : Kept) → Room at here end → KeepRoom at (here + st) sz (length b)
@@ -145,13 +152,13 @@ module _ (b : List ℕ) (end : ℕ) (fits : end ≤ length b) where
               rw (em, next-kept) (rw (long b end fits) at (room-behind tidy front here within n st sz is-whole at k))
 
           -- what is stored here and what is stored from there on join
-          pub stored-next : (r : Counted) (x y z : Arrays) → LaidIn (keptFor n (take sz (drop (here + st) b))) at x y
-              → Stored (blocksIn b end tidy (here + m)) next r y z → Stored (blocksIn b end tidy here) at r x z
-          stored-next r x y z l k =
-              let k′ : Stored (blocksIn b end tidy (here + moveFor tidy n st sz)) (keptAfter kept-here at) r y z = rw (← em, ← next-kept) k in
+          pub stored-next : (s : Counted) (x y z : Arrays) → LaidIn (keptFor n (take sz (drop (here + st) b))) at x y
+              → Stored (blocksIn b end tidy (here + m)) next s y z → Stored (blocksIn b end tidy here) at s x z
+          stored-next s x y z l k =
+              let k′ : Stored (blocksIn b end tidy (here + moveFor tidy n st sz)) (keptAfter kept-here at) s y z = rw (← em, ← next-kept) k in
               let l′ : LaidIn kept-here at x y = rw (part-front b end (here + st) sz fits-here) l in
-              rw (next-is tidy front here within n st sz is-whole)
-              (stored-append kept-here at x y l′ z (blocksIn b end tidy (here + moveFor tidy n st sz)) r k′)
+              rw (next-is tidy front here within n st sz is-whole (goes r e going .1))
+              (stored-append kept-here at x y l′ z (blocksIn b end tidy (here + moveFor tidy n st sz)) s k′)
 
 -- a block laid in its place
 pub entry-laid : (number k : ℕ) (run : List ℕ) (at : Kept) (x : Arrays) (p : List ℕ) → k ≡ length run → p ≡ sets (x .payload) (at .used) run

@@ -140,7 +140,7 @@ fn keep_block(
     }
 }
 
-// Reads the blocks of the first `end` bytes, from `at` on, into the arrays; answers how many blocks there then are.
+// Reads the blocks of the first `end` bytes, from `at` on, into the arrays, until the reader is through with them; answers how many blocks there then are.
 fn read_blocks(
     bytes: &[u8; 128],
     at: usize,
@@ -155,7 +155,7 @@ fn read_blocks(
     requires { ⌜ Room (soFar count used) at end × (end ≤ length (now bytes)) ⌝ }
     ensures { λ r. ⌜ Stored (blocksIn (now (bytes .entry)) end tidy at) (soFar count used) r (arraysBefore numbers sizes payload) (arraysAfter numbers sizes payload) ⌝ }
 {
-    if end <= at {
+    if packet_moves::through(tidy, bytes, at, end) {
         return Counted::Count(count);
     }
     let head = service_headers::head_in(bytes, at, end);

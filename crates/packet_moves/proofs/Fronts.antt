@@ -9,13 +9,13 @@ use lib.ListN.{length, getD, take, drop, length-take}
 use lib.Seq.{take-all, getD-take}
 use borrow.Author.Tests.{eq-eqb, ne-eqb, lt-ltb, le-ltb, leb-true, leb-false}
 use Rattle.model.specs.Said.{refused, isGiven, mapped, packetLengthWrong}
-use Rattle.model.specs.Packet.{packetSize, plainMove, blocksFrom, readBy, readPacket, readTidy, reads}
+use Rattle.model.specs.Packet.{packetSize, plainly, blocksFrom, readBy, readPacket, readTidy, reads}
 use Rattle.model.proofs.Cases.{by-test}
-use Rattle.packet_moves.specs.Moves.{moveBy, wrongLength, readAs, packetWith}
+use Rattle.packet_moves.specs.Moves.{wayOf, wrongLength, readAs, packetWith}
 use Rattle.packet_moves.proofs.Moves.{given-mapped}
 
--- both readers are one, by how they move on and which length is wrong
-read-by : (tidy : Bool) (d : List ℕ) → readAs tidy d ≡ readBy (moveBy tidy) (wrongLength tidy) d
+-- both readers are one, by their ways
+read-by : (tidy : Bool) (d : List ℕ) → readAs tidy d ≡ readBy (wayOf tidy) d
 unfolding readAs readTidy readPacket
 read-by true d = refl
 read-by false d = refl
@@ -31,7 +31,7 @@ module _ (tidy : Bool) (d : List ℕ) where
     unfolding readBy
     wrong-as w = read-by tidy d ∙ simp (ne-eqb (length d) 0 some, ← is, w)
 
-    pub blocks-as : wrongLength tidy size (length d) ≡ false → readAs tidy d ≡ mapped (packetWith d) (blocksFrom (moveBy tidy) 1 0 (drop 1 d))
+    pub blocks-as : wrongLength tidy size (length d) ≡ false → readAs tidy d ≡ mapped (packetWith d) (blocksFrom (wayOf tidy) 1 0 (drop 1 d))
     unfolding readBy
     blocks-as w = read-by tidy d ∙ simp (ne-eqb (length d) 0 some, ← is, w)
 
@@ -76,11 +76,11 @@ module _ (b : List ℕ) (len n : ℕ) (is : n ≡ length (take len b)) where
           sym (reads-as d ∙ ap isGiven (wrong-as false d some-long size size-is w))
 
       -- others read where their blocks do
-      pub blocks-reads : n ≤ size → (r : Bool) → r ≡ isGiven (blocksFrom plainMove 1 0 (drop 1 (take n b))) → r ≡ reads d
+      pub blocks-reads : n ≤ size → (r : Bool) → r ≡ isGiven (blocksFrom plainly 1 0 (drop 1 (take n b))) → r ≡ reads d
       blocks-reads h r k =
           let w : wrongLength false size (length d) ≡ false = le-ltb size (length d) (omega (arith, is)) in
           rw front-is at k
-          ∙ sym (reads-as d ∙ ap isGiven (blocks-as false d some-long size size-is w) ∙ given-mapped (packetWith d) (blocksFrom plainMove 1 0 (drop 1 d)))
+          ∙ sym (reads-as d ∙ ap isGiven (blocks-as false d some-long size size-is w) ∙ given-mapped (packetWith d) (blocksFrom plainly 1 0 (drop 1 d)))
 
   -- no bytes do not read
   pub none-reads : n ≡ 0 → false ≡ reads d

@@ -1,25 +1,25 @@
 -- How the readers move from block to block. Assumes nothing.
 use mathlib.Core.Path.{_≡_, refl, sym, ap, _∙_}
-use mathlib.Core.Bool.{Bool, true, false, cond}
+use mathlib.Core.Bool.{Bool, true, false, cond, true≢false, _&&_}
 use mathlib.Core.List.{List, [], _++_}
 use Prim.Native.Nat.{ℕ, _+_, _-_, _≤_, _<_}
 use native.Mathlib.Omega.{arith}
-use lib.Dec.{eqb, ltb}
+use lib.Dec.{eqb, leb, ltb}
 use lib.ListN.{length, take, drop, getD, length-drop, drop-of-length-le}
 use lib.Seq.{drop-drop, length-take-le}
-use borrow.Author.Tests.{eq-eqb, ne-eqb, eqb-true, eqb-false, ltb-false}
+use borrow.Author.Tests.{eq-eqb, ne-eqb, eqb-true, eqb-false, leb-true, leb-false, ltb-false}
 use Rattle.model.specs.Said.{Outcome, gave, refused, isGiven, mapped}
 use Rattle.model.specs.Block.{Block, needed, isShort, blockIn, readBlockAt, blockLength}
-use Rattle.model.specs.Packet.{plainMove, tidyMove, kept, blocksFrom}
+use Rattle.model.specs.Packet.{plainMove, tidyMove, isNullHeader, kept, blocksFrom}
 use Rattle.model.proofs.Cases.{by-test, by-cond, mapped-by}
 use Rattle.model.proofs.Blocks.{header-bytes, block-length, written-length}
-use Rattle.model.proofs.Walk.{blocks-next, blocks-none}
+use Rattle.model.proofs.Walk.{blocks-none, blocks-stop, blocks-next}
 use Rattle.model.proofs.Limits.{Moves, read-from}
 use Rattle.service_headers.specs.declared.Head.{Head}
 use Rattle.service_headers.specs.declared.Head.the-variants.{Whole}
 use Rattle.service_headers.specs.Head.{blockHead, saidShort}
 use Rattle.service_headers.proofs.Heads.{Headed, NotWhole, headed, read-short}
-use Rattle.packet_moves.specs.Moves.{moveBy, moveFor, keptFor, blocksIn}
+use Rattle.packet_moves.specs.Moves.{wayOf, moveFor, keptFor, blocksIn, throughAt}
 
 -- bytes whose header was read
 module _ (d : List ℕ) (n st sz : ℕ) (h : Headed d n st sz) where
@@ -70,16 +70,16 @@ module _ (d : List ℕ) (n st sz : ℕ) (h : Headed d n st sz) where
       let l : 1 ≤ length part = omega (arith, part-length, eqb-false sz 0 z) in
       rw (z, q) (sym (block-length (record { number = n; payload = part }) l ∙ written-length (record { number = n; payload = part }) ∙ ap (λ k. cond (ltb n 7) 1 2 + k) part-length)))))
 
-  pub move-is : (tidy : Bool) → moveFor tidy n st sz ≡ moveBy tidy d
+  pub move-is : (tidy : Bool) → moveFor tidy n st sz ≡ wayOf tidy .move d
   move-is true = move-tidy
   move-is false = move-plain
 
-  moves : (tidy : Bool) → Moves (moveBy tidy d) (length d) (blockLength (blockIn d))
+  moves : (tidy : Bool) → Moves (wayOf tidy .move d) (length d) (blockLength (blockIn d))
   moves true = read-from d there .tidy
   moves false = read-from d there .plain
 
 -- every move goes forward
-move-least : (tidy : Bool) (d : List ℕ) → 1 ≤ moveBy tidy d
+move-least : (tidy : Bool) (d : List ℕ) → 1 ≤ wayOf tidy .move d
 unfolding tidyMove plainMove
 move-least true d = omega (arith, header-bytes (getD d 0 0))
 move-least false d =
@@ -92,11 +92,11 @@ module _ (tidy : Bool) (d : List ℕ) (here : ℕ) (left : here < length d) wher
   pub some-left : 1 ≤ length (drop here d)
   some-left = rw length-drop (omega arith)
 
-  -- a header that is not whole
-  pub refused-at : (head : Head) → head ≡ blockHead (drop here d) → NotWhole head
-      → blocksFrom (moveBy tidy) here 0 (drop here d) ≡ refused (saidShort head (length d - here) here)
-  refused-at head is none =
-      blocks-next (moveBy tidy) here (drop here d) some-left (move-least tidy (drop here d)) ∙ rw (read-short (drop here d) head is none here, length-drop here d)
+  -- a header that is not whole, where the reader does not stop
+  pub refused-at : wayOf tidy .stops (drop here d) ≡ false → (head : Head) → head ≡ blockHead (drop here d) → NotWhole head
+      → blocksFrom (wayOf tidy) here 0 (drop here d) ≡ refused (saidShort head (length d - here) here)
+  refused-at on head is none =
+      blocks-next (wayOf tidy) here (drop here d) some-left on (move-least tidy (drop here d)) ∙ rw (read-short (drop here d) head is none here, length-drop here d)
 
   -- a header that is whole
   module _ (n st sz : ℕ) (e : blockHead (drop here d) ≡ Whole n st sz) where
@@ -112,11 +112,12 @@ module _ (tidy : Bool) (d : List ℕ) (here : ℕ) (left : here < length d) wher
     abbrev next : ℕ
     next = here + moveFor tidy n st sz
 
-    pub next-is : blocksFrom (moveBy tidy) here 0 (drop here d) ≡ mapped (λ cs. keptFor n body ++ cs) (blocksFrom (moveBy tidy) next 0 (drop next d))
-    next-is =
-        blocks-next (moveBy tidy) here (drop here d) some-left (move-least tidy (drop here d))
+    pub next-is : wayOf tidy .stops (drop here d) ≡ false
+        → blocksFrom (wayOf tidy) here 0 (drop here d) ≡ mapped (λ cs. keptFor n body ++ cs) (blocksFrom (wayOf tidy) next 0 (drop next d))
+    next-is on =
+        blocks-next (wayOf tidy) here (drop here d) some-left on (move-least tidy (drop here d))
         ∙ rw (read-is (drop here d) n st sz header here, ← move-is (drop here d) n st sz header tidy, drop-drop (moveFor tidy n st sz) here d)
-        (mapped-by (λ cs. kept-is (drop here d) n st sz header cs ∙ rw body-is) (blocksFrom (moveBy tidy) next 0 (drop next d)))
+        (mapped-by (λ cs. kept-is (drop here d) n st sz header cs ∙ rw body-is) (blocksFrom (wayOf tidy) next 0 (drop next d)))
 
     -- the room that is there
     pub move-bounds : Moves (moveFor tidy n st sz) (length d - here) (blockLength (blockIn (drop here d)))
@@ -144,6 +145,11 @@ pub given-mapped : {A B : Type 0} (f : A → B) (o : Outcome A) → isGiven (map
 given-mapped f (gave x) = refl
 given-mapped f (refused why) = refl
 
+-- where the reader stops
+stops-is : (tidy : Bool) (d : List ℕ) → (tidy && isNullHeader d) ≡ wayOf tidy .stops d
+stops-is true d = refl
+stops-is false d = refl
+
 -- the first `end` of some bytes
 module _ (b : List ℕ) (end : ℕ) (fits : end ≤ length b) where
   -- there are so many
@@ -154,9 +160,21 @@ module _ (b : List ℕ) (end : ℕ) (fits : end ≤ length b) where
   module _ (tidy : Bool) (here : ℕ) where
     -- no bytes are left
     pub from-none : end ≤ here → blocksIn b end tidy here ≡ gave []
-    from-none h = let e : length (take end b) ≤ here = omega (arith, long) in rw (drop-of-length-le (take end b) e, blocks-none (moveBy tidy) here)
+    from-none h = let e : length (take end b) ≤ here = omega (arith, long) in rw (drop-of-length-le (take end b) e, blocks-none (wayOf tidy) here)
 
-    -- which read
+    -- or the reader is through with them
+    pub from-through : throughAt b end tidy here ≡ true → blocksIn b end tidy here ≡ gave []
+    from-through e =
+        by-test (leb end here) (λ h. from-none (leb-true end here h))
+        (λ h. blocks-stop (wayOf tidy) here (drop here (take end b)) (sym (stops-is tidy (drop here (take end b))) ∙ (simp h at e)))
+
+    -- else some are left, and it does not stop there
+    pub not-through : throughAt b end tidy here ≡ false → (here < end) × (wayOf tidy .stops (drop here (take end b)) ≡ false)
+    not-through e =
+        by-test (leb end here) (λ h. absurd (true≢false (simp h at e)))
+        (λ h. (leb-false end here h, sym (stops-is tidy (drop here (take end b))) ∙ (simp h at e)))
+
+    -- no bytes read
     pub given-none : end ≤ here → true ≡ isGiven (blocksIn b end tidy here)
     given-none h = rw (from-none h)
 
@@ -166,8 +184,8 @@ module _ (b : List ℕ) (end : ℕ) (fits : end ≤ length b) where
       in-front = omega (arith, long)
 
       -- a header that is not whole does not read
-      pub given-short : NotWhole head → false ≡ isGiven (blocksIn b end tidy here)
-      given-short none = rw (refused-at tidy (take end b) here in-front head is none)
+      pub given-short : wayOf tidy .stops (drop here (take end b)) ≡ false → NotWhole head → false ≡ isGiven (blocksIn b end tidy here)
+      given-short on none = rw (refused-at tidy (take end b) here in-front on head is none)
 
       -- one that is whole
       module _ (n st sz : ℕ) (q : head ≡ Whole n st sz) where
@@ -186,7 +204,7 @@ module _ (b : List ℕ) (end : ℕ) (fits : end ≤ length b) where
               (omega (arith, w .most, long, em), omega (arith, w .least, em))
 
           -- whether the blocks read is whether those from there on do
-          pub given-next : (r : Bool) → r ≡ isGiven (blocksIn b end tidy (here + m)) → r ≡ isGiven (blocksIn b end tidy here)
-          given-next r k =
+          pub given-next : wayOf tidy .stops (drop here (take end b)) ≡ false → (r : Bool) → r ≡ isGiven (blocksIn b end tidy (here + m)) → r ≡ isGiven (blocksIn b end tidy here)
+          given-next on r k =
               let kept : List Block → List Block = λ cs. keptFor n (take sz (drop (here + st) (take end b))) ++ cs in
-              rw (next-is tidy (take end b) here in-front n st sz whole, given-mapped kept (blocksIn b end tidy (here + moveFor tidy n st sz)), ← em) k
+              rw (next-is tidy (take end b) here in-front n st sz whole on, given-mapped kept (blocksIn b end tidy (here + moveFor tidy n st sz)), ← em) k

@@ -6,7 +6,7 @@ ghost use lib.ListN.{length, take};
 ghost use Rattle.model.specs.Said.{isGiven};
 ghost use Rattle.model.specs.Packet.{packetSize};
 ghost use Rattle.model.specs.Packet as model;
-ghost use Rattle.packet_moves.specs.Moves.{moveFor, blocksIn};
+ghost use Rattle.packet_moves.specs.Moves.{moveFor, blocksIn, throughAt};
 use basics::lesser;
 use service_headers::Head;
 
@@ -42,6 +42,19 @@ pub fn moved(tidy: bool, number: u8, start: u8, size: u8) -> usize
         return 1 + payload;
     }
     2 + payload
+}
+
+// Whether a reader of the first `end` bytes is through with them at `at`: none is left or, tidily, a null header stands there and the rest is fill.
+pub fn through(tidy: bool, bytes: &[u8; 128], at: usize, end: usize) -> bool
+    ensures { λ r. ⌜ r ≡ throughAt (now (bytes .entry)) end tidy at ⌝ }
+{
+    if end <= at {
+        return true;
+    }
+    if !tidy {
+        return false;
+    }
+    service_headers::null_in(bytes, at, end)
 }
 
 // How many of the first `len` bytes there are.

@@ -14,7 +14,7 @@ use Rattle.model.specs.Packet.{Packet, packetSize, sequenceIn, blocksFrom}
 use Rattle.model.proofs.Cases.{by-test}
 use Rattle.model.proofs.Limits.{size-most}
 use Rattle.basics.proofs.Runs.{sets-front}
-use Rattle.packet_moves.specs.Moves.{moveBy, wrongLength, readAs, packetWith, blocksIn}
+use Rattle.packet_moves.specs.Moves.{wayOf, wrongLength, readAs, packetWith, blocksIn}
 use Rattle.packet_moves.proofs.Fronts.{none-as, wrong-as, blocks-as, front-is, some-long, first-is, size-is}
 use Rattle.packet_blocks.specs.declared.Filled.{Filled}
 use Rattle.packet_blocks.specs.Reading.{ReadsInto}
@@ -55,7 +55,7 @@ module _ (b : List ℕ) (len n : ℕ) (is : n ≡ length (take len b)) (size : �
       let some : n ≡ 0 → ⊥ = λ z. true≢false (sym (t ∙ rw (eq-eqb n 0 z)) ∙ y) in
       let made : ℕ → List Block → Packet = λ h bs. record { sequence = sequenceIn h; blocks = bs } in
       rw (blocks-as tidy d (some-long b len n is some) size (sized some) (test-is some ∙ y))
-      (subst (λ (h : ℕ). ReadsInto (mapped (made h) (blocksFrom (moveBy tidy) 1 0 (drop 1 d))) r) (first-is b len n is some) (rw (front-is b len n is) at k))
+      (subst (λ (h : ℕ). ReadsInto (mapped (made h) (blocksFrom (wayOf tidy) 1 0 (drop 1 d))) r) (first-is b len n is some) (rw (front-is b len n is) at k))
 
 -- bytes of which there are more than a packet has
 module _ (d : List ℕ) (many : 128 < length d) where

@@ -14,12 +14,13 @@ use denote.Enum.Declared.{tagOf}
 use borrow.Author.Tests.{eq-eqb, ne-eqb, lt-ltb, le-ltb, ltb-false}
 use Rattle.model.specs.Said.{refused}
 use Rattle.model.specs.Block.{Block, blockSize, headerLength, numberIn, isHeaderShort, needed, isShort, shortAt, readBlockAt, writtenHeader, writtenBlock, blockLength}
+use Rattle.model.specs.Packet.{isNullHeader}
 use Rattle.model.proofs.Cases.{by-test}
 use Rattle.model.proofs.Blocks.{header-one, header-two, header-bare, header-bytes, header-written, written-header-most, written-length}
 use Rattle.model.proofs.Limits.{all-there}
 use Rattle.service_headers.specs.declared.Head.{Head}
 use Rattle.service_headers.specs.declared.Head.the-variants.{Whole, HeaderShort, BodyShort}
-use Rattle.service_headers.specs.Head.{blockHead, HeadBy, lengthFor, saidShort}
+use Rattle.service_headers.specs.Head.{blockHead, ToldBy, lengthFor, saidShort}
 use Rattle.basics.proofs.Runs.{sets-append}
 use Rattle.service_headers.proofs.Head.{the-type}
 
@@ -63,34 +64,51 @@ module _ (d : List ℕ) (n h second start : ℕ) (is : length d ≡ n) (first : 
       unfolding blockHead isShort needed isHeaderShort numberIn
       head-one t = rw (← first, ← e, is) (simp (le-ltb _ _ k, le-ltb _ _ m, ne-eqb _ _ t))
 
--- bytes from a place on, of which the header is told by the first two
-module _ (d : List ℕ) (at : ℕ) (r : Head) where
+-- whether the header of such bytes is null
+module _ (d : List ℕ) (n h second start : ℕ) (is : length d ≡ n) (first : h ≡ getD d 0 0) (e : start ≡ headerLength h) where
+  -- it is cut
+  pub null-cut : n < start → false ≡ isNullHeader d
+  unfolding isNullHeader isHeaderShort
+  null-cut k = rw (← first, ← e, is) (simp (lt-ltb _ _ k))
+
+  -- two bytes: the second says
+  pub null-two : start ≤ n → (2 ≤ n → second ≡ getD d 1 0) → start ≡ 2 → eqb (second % 64) 0 ≡ isNullHeader d
+  unfolding isNullHeader isHeaderShort numberIn
+  null-two k next t = rw (← first, ← e, is, ← next (omega arith)) (simp (le-ltb _ _ k, eq-eqb _ _ t))
+
+  -- one byte: its top bits do
+  pub null-one : start ≤ n → (start ≡ 2 → ⊥) → eqb (h / 32 % 8) 0 ≡ isNullHeader d
+  unfolding isNullHeader isHeaderShort numberIn
+  null-one k t = rw (← first, ← e, is) (simp (le-ltb _ _ k, ne-eqb _ _ t))
+
+-- bytes from a place on, of which f says what the first two tell
+module _ {A : Type 0} (f : List ℕ → A) (d : List ℕ) (at : ℕ) (r : A) where
   -- nothing there
-  pub none-at : length d ≤ at → HeadBy 0 0 0 r → r ≡ blockHead (drop at d)
+  pub none-at : length d ≤ at → ToldBy f 0 0 0 r → r ≡ f (drop at d)
   none-at h by = rw (drop-of-length-le d h) (by [] refl refl (λ _. refl))
 
   -- some
-  pub some-at : (h second n : ℕ) → length d - at ≡ n → h ≡ getD d at 0 → (2 ≤ n → second ≡ getD d (at + 1) 0) → HeadBy h second n r → r ≡ blockHead (drop at d)
+  pub some-at : (h second n : ℕ) → length d - at ≡ n → h ≡ getD d at 0 → (2 ≤ n → second ≡ getD d (at + 1) 0) → ToldBy f h second n r → r ≡ f (drop at d)
   some-at h second n is first next by =
       by (drop at d) (length-drop at d ∙ is) (first ∙ sym (getD-drop at d 0 0 ∙ rw add-zero)) (λ k. next k ∙ sym (getD-drop at d 1 0))
 
   -- one
-  pub one-at : (h second n : ℕ) → length d - at ≡ n → n ≡ 1 → h ≡ getD d at 0 → HeadBy h second 1 r → r ≡ blockHead (drop at d)
+  pub one-at : (h second n : ℕ) → length d - at ≡ n → n ≡ 1 → h ≡ getD d at 0 → ToldBy f h second 1 r → r ≡ f (drop at d)
   one-at h second n is one first by = some-at h second 1 (is ∙ one) first (λ k. absurd (omega arith)) by
 
 -- the first `end` bytes, from a place on
-module _ (b : List ℕ) (at end n : ℕ) (r : Head) (most : n ≡ min end (length b)) where
+module _ {A : Type 0} (f : List ℕ → A) (b : List ℕ) (at end n : ℕ) (r : A) (most : n ≡ min end (length b)) where
   so-many : length (take end b) ≡ n
   so-many = length-take end b ∙ sym most
 
   -- nothing there
-  pub none-in : n ≤ at → HeadBy 0 0 0 r → r ≡ blockHead (drop at (take end b))
-  none-in h by = none-at (take end b) at r (omega (arith, so-many)) by
+  pub none-in : n ≤ at → ToldBy f 0 0 0 r → r ≡ f (drop at (take end b))
+  none-in h by = none-at f (take end b) at r (omega (arith, so-many)) by
 
   -- some: where there is a second, it stands behind the first
-  pub some-in : length b ≡ 128 → at < n → HeadBy (getD b at 0) (getD b ((at + 1) % 128) 0) (n - at) r → r ≡ blockHead (drop at (take end b))
+  pub some-in : length b ≡ 128 → at < n → ToldBy f (getD b at 0) (getD b ((at + 1) % 128) 0) (n - at) r → r ≡ f (drop at (take end b))
   some-in is h by =
-      some-at (take end b) at r (getD b at 0) (getD b ((at + 1) % 128) 0) (n - at) (rw so-many) (sym (getD-take end b at 0 (omega arith)))
+      some-at f (take end b) at r (getD b at 0) (getD b ((at + 1) % 128) 0) (n - at) (rw so-many) (sym (getD-take end b at 0 (omega arith)))
       (λ k. let e : (at + 1) % 128 ≡ at + 1 = omega arith in rw e (sym (getD-take end b (at + 1) 0 (omega arith)))) by
 
 -- a header laid into a list: of one byte, of two, and of two where there is room for one

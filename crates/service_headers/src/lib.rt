@@ -7,7 +7,8 @@ ghost use mathlib.Core.Bool.{cond};
 ghost use lib.Dec.{ltb};
 ghost use Rattle.caption.specs.Answers.{saidRefusal};
 ghost use Rattle.model.specs.Block.{headerLength, writtenHeader};
-ghost use Rattle.service_headers.specs.Head.{blockHead, HeadBy, lengthFor, saidShort};
+ghost use Rattle.model.specs.Packet.{isNullHeader};
+ghost use Rattle.service_headers.specs.Head.{blockHead, ToldBy, lengthFor, saidShort};
 use basics::lesser;
 use caption::Refusal;
 
@@ -41,7 +42,7 @@ fn header_length(h: u8) -> usize
 
 // The header of `n` bytes, of which these are the first two; the first is 0 where there is none.
 fn head_by(h: u8, second: u8, n: usize) -> Head
-    ensures { λ r. ⌜ HeadBy h second n r ⌝ }
+    ensures { λ r. ⌜ ToldBy blockHead h second n r ⌝ }
 {
     let start = header_length(h);
     let size = (h % 32) as usize;
@@ -93,6 +94,33 @@ pub fn head_in(bytes: &[u8; 128], at: usize, end: usize) -> Head
     }
     // Behind the last byte any other may stand: a header of one byte has no second.
     head_by(bytes[at], bytes[(at + 1) % 128], n - at)
+}
+
+// Whether the header of `n` bytes, of which these are the first two, is null: its own bytes have to be there, but none of those that it announces.
+fn null_by(h: u8, second: u8, n: usize) -> bool
+    ensures { λ r. ⌜ ToldBy isNullHeader h second n r ⌝ }
+{
+    let own = header_length(h);
+    if n < own {
+        return false;
+    }
+    if own == 2 {
+        return second % 64 == 0;
+    }
+    h / 32 % 8 == 0
+}
+
+// Whether a null header begins at `at`, of the first `end` bytes.
+pub fn null_in(bytes: &[u8; 128], at: usize, end: usize) -> bool
+    ensures { λ r. ⌜ r ≡ isNullHeader (drop at (take end (now (bytes .entry)))) ⌝ }
+{
+    let all = &bytes[..];
+    let n = lesser(end, all.len());
+    if n <= at {
+        return null_by(0, 0, 0);
+    }
+    // Behind the last byte any other may stand, as in `head_in`.
+    null_by(bytes[at], bytes[(at + 1) % 128], n - at)
 }
 
 // Why a block is refused that is cut short, `present` bytes being there from `offset` on.

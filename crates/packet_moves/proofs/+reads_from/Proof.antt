@@ -1,4 +1,5 @@
 -- The bytes that are left fall with each block; each way out is one law about whether the blocks from there on read. Assumes nothing.
+use mathlib.Core.Path.{refl}
 use mathlib.Core.Bool.{false}
 use Prim.Native.Nat.{_+_, _-_, _≤_, ℕ, _<_}
 use native.Mathlib.Omega.{arith}
@@ -59,7 +60,7 @@ reads-from-enum-known-number : (t : ℕ) → reads-from-lts.Need-enum-known-numb
 reads-from-enum-known-number t c = search needs
 
 reads-from-returns-2 : (t : ℕ) → reads-from-lts.Need-returns-2 (reads-from-claims t) (reads-from-at t) reads-from.Post
-reads-from-returns-2 t c = let h = c .before in given-short _ _ (h .before .before .pre .1) false _ (h .before .if1 .left) _ (h .head-in .ensures) (c .match .keys2)
+reads-from-returns-2 t c = let h = c .before in given-short _ _ (h .before .before .pre .1) false _ (h .before .if1 .left) _ (h .head-in .ensures) refl (c .match .keys2)
 
 reads-from-cast-moved : (t : ℕ) → reads-from-lts.Need-cast-moved (reads-from-claims t) (reads-from-at t) reads-from.Post
 reads-from-cast-moved t c = let w = head-room _ _ _ _ _ (c .before .before .before .head-in .ensures) (c .before .number .given .1) in omega (arith, w .0)
@@ -80,7 +81,7 @@ reads-from-returns-3 : (t : ℕ) → reads-from-lts.Need-returns-3 (reads-from-c
 reads-from-returns-3 t c = let b = c .before .before .before in
     let s = b .before .before .before .before in
     let i = b .before .before .before in
-    given-next _ _ (s .pre .1) false _ (i .if1 .left) _ (b .before .before .head-in .ensures) _ _ _ (b .number .given .1) _ (c .before .moved .ensures) _
+    given-next _ _ (s .pre .1) false _ (i .if1 .left) _ (b .before .before .head-in .ensures) _ _ _ (b .number .given .1) _ (c .before .moved .ensures) refl _
     (c .reads-from .ensures)
 
 pub +reads-from-spec : {M : Type 1} → statement M

@@ -1,4 +1,5 @@
 -- `service_headers::head_in` meets its contract: no bytes are left, or the first and the one behind it tell the header. Assumes nothing.
+use Rattle.service_headers.specs.Head.{blockHead}
 use Rattle.service_headers.proofs.Heads.{none-in, some-in}
 use borrow.Author.Needs.{needs}
 use Rattle.service_headers.proofs.head_in.Statement.{statement}
@@ -11,7 +12,7 @@ head-by-requires : tie.Need-head-by-requires
 head-by-requires c κs = search needs
 
 returns : tie.Need-returns
-returns c = search (needs, none-in)
+returns c = search (needs, none-in blockHead)
 
 element-copy-out-head-by : tie.Need-element-copy-out-head-by
 element-copy-out-head-by c = search needs
@@ -29,7 +30,7 @@ head-by-requires-2 : tie.Need-head-by-requires-2
 head-by-requires-2 c κs = search needs
 
 returns-2 : tie.Need-returns-2
-returns-2 c = search (needs, some-in)
+returns-2 c = search (needs, some-in blockHead)
 
 pub head-in-spec : {M : Type 1} → statement M
 head-in-spec =

@@ -1,0 +1,88 @@
+-- What the tidy reader promises, of any answers that the contracts of `parse_tidy`, `parse` and `write` allow. Assumes nothing.
+use mathlib.Core.Path.{_≡_, sym, ap, _∙_}
+use mathlib.Core.Bool.{true}
+use mathlib.Core.List.{List, _∷_, _++_}
+use Prim.Native.Nat.{ℕ, _+_, _≤_}
+use native.Mathlib.Omega.{arith}
+use lib.Dec.{ltb}
+use lib.ListN.{length, getD, take, drop}
+use lib.Seq.{take-append-seam}
+use Rattle.caption.specs.declared.Answer.{Answer}
+use Rattle.caption.specs.declared.Answer.the-variants.{Accepted}
+use Rattle.caption.specs.declared.Counted.the-variants.{Count}
+use Rattle.caption.specs.Answers.{saidAnswer}
+use Rattle.caption.proofs.Answers.{saidAnswer-injective}
+use Rattle.model.specs.Said.{Said, Outcome, gave, putInto}
+use Rattle.model.specs.Block.{Block}
+use Rattle.model.specs.Packet.{Packet, sequenceIn, packetSize, isNullHeader, readPacket, readTidy, writtenPacket}
+use Rattle.model.proofs.Cases.{by-test}
+use Rattle.model.proofs.Packets.{Valid}
+use Rattle.model.proofs.Fill.{Whole, Fills, behind-null, tidy-appended, tidy-back, readers-agree}
+use Rattle.service.specs.Service.{Writes}
+use Rattle.packet.specs.Packet.{Answers, packetOf, blank, validDTVCC}
+use Rattle.packet.specs.declared.DTVCCPacket.{DTVCCPacket}
+use Rattle.packet.specs.declared.PacketAnswer.{PacketAnswer}
+use Rattle.packet.proofs.Holds.{within-facts, held-valid}
+
+-- answers that say the same beside the same packet are one
+answer-same : (r q : PacketAnswer) → saidAnswer (r .answer) ≡ saidAnswer (q .answer) → r .packet ≡ q .packet → r ≡ q
+answer-same r q e f = parts (saidAnswer-injective (r .answer) (q .answer) e) f
+  where
+    parts : {x y : Answer} {a b : DTVCCPacket} → x ≡ y → a ≡ b → _≡_ {A = PacketAnswer} (record { answer = x; packet = a }) (record { answer = y; packet = b })
+    parts e f = rw (e, f)
+
+-- so that one outcome has one answer
+pub one-answer : {o : Outcome Packet} {old : DTVCCPacket} (r q : PacketAnswer) → Answers o old r → Answers o old q → r ≡ q
+one-answer r q a b = answer-same r q (a .answer ∙ sym (b .answer)) (a .places ∙ sym (b .places))
+
+-- What the tidy reader answers depends on no byte behind the first null header, nor on that header's own size [T2].
+pub tidy-behind-null : (h : ℕ) {front : List ℕ} {bs : List Block} → Whole front bs → (d e : List ℕ) → isNullHeader d ≡ true → isNullHeader e ≡ true → length d ≡ length e
+    → (r q : PacketAnswer) → Answers (readTidy (h ∷ (front ++ d))) blank r → Answers (readTidy (h ∷ (front ++ e))) blank q → r ≡ q
+tidy-behind-null h w d e nd ne same r q a b = one-answer r q (rw (behind-null h w d e nd ne same) at a) b
+
+-- the answer gives this packet
+pub record Gives (p : Packet) (r : PacketAnswer) : Type 0 where
+  pub accepted : r .answer ≡ Accepted
+  pub means : packetOf (r .packet) ≡ p
+
+gives : (o : Outcome Packet) (p : Packet) (r : PacketAnswer) → o ≡ gave p → Answers o blank r → Gives p r
+gives o p r e a =
+    let b : Answers (gave p) blank r = rw e at a in
+    record { accepted = saidAnswer-injective (r .answer) Accepted (b .answer); means = b .means }
+
+-- what `write` has written to some bytes that were lent to it
+module _ (p : DTVCCPacket) (out end : List ℕ) (n : ℕ) (wrote : Writes (validDTVCC p) (writtenPacket (packetOf p)) out (Count n) end) where
+  abbrev bytes : List ℕ
+  bytes = writtenPacket (packetOf p)
+
+  -- it was accepted: the packet breaks no limit, and its bytes are there
+  record Written : Type 0 where
+    valid : Valid (packetOf p)
+    long : n ≡ length bytes
+    front : take n end ≡ bytes
+
+  written : Written
+  unfolding putInto
+  written =
+      by-test (validDTVCC p)
+      (λ v. by-test (ltb (length out) (length bytes))
+      (λ s. let z : 0 ≡ 9 = ap (λ (a : Said). a .number) (simp (v, s) at (wrote .answer)) in absurd (omega arith))
+      (λ s. let long : n ≡ length bytes = ap (λ (a : Said). getD (a .values) 0 0) (simp (v, s) at (wrote .answer)) in
+      let o : end ≡ bytes ++ drop (length bytes) out = simp (v, s) at (wrote .output) in
+      record { valid = held-valid p (within-facts p v); long = long; front = rw (o, long) (take-append-seam bytes (drop (length bytes) out)) }))
+      (λ v. let z : 0 ≡ 11 = ap (λ (a : Said). a .number) (simp v at (wrote .answer)) in absurd (omega arith))
+
+  -- With any fill behind them, and in front of all a header that says how many bytes there are, they are read tidily as the packet [T2].
+  pub tidy-with-fill : (h : ℕ) (old : List ℕ) → sequenceIn h ≡ packetOf p .sequence → packetSize h ≡ n + length old → Fills old
+      → (r : PacketAnswer) → Answers (readTidy (h ∷ (drop 1 (take n end) ++ old))) blank r → Gives (packetOf p) r
+  tidy-with-fill h old top long fills r a =
+      let w = written in
+      gives _ (packetOf p) r (rw (w .front) (tidy-appended (packetOf p) (w .valid) h old top (long ∙ ap (λ k. k + length old) (w .long)) fills)) a
+
+  -- As they were written, if the packet has a block, both readers give the same answer, which is the packet.
+  pub readers-answer : 1 ≤ length (packetOf p .blocks) → (r q : PacketAnswer) → Answers (readPacket (take n end)) blank r → Answers (readTidy (take n end)) blank q
+      → (r ≡ q) × Gives (packetOf p) q
+  readers-answer some r q a b =
+      let w = written in
+      let same : readPacket (take n end) ≡ readTidy (take n end) = rw (w .front) (readers-agree (packetOf p) (w .valid) some) in
+      (one-answer r q (rw same at a) b, gives _ (packetOf p) q (rw (w .front) (tidy-back (packetOf p) (w .valid) some)) b)
