@@ -1,17 +1,17 @@
 -- What the tidy reader makes of a packet: whole blocks are read up to the first null header, or to the end, and nothing behind that header counts [T2].
 -- Assumes nothing.
 use mathlib.Core.Path.{_≡_, refl, sym, ap, subst, _∙_}
-use mathlib.Core.Bool.{true, false, not, true≢false}
+use mathlib.Core.Bool.{true, false, true≢false}
 use mathlib.Core.List.{List, [], _∷_, _++_, append-assoc, append-nil}
 use Prim.Native.Nat.{ℕ, zero, suc, _+_, _%_, _≤_, _<_}
 use native.Mathlib.Omega.{arith}
-use lib.Dec.{eqb, ltb}
+use lib.Dec.{eqb}
 use lib.ListN.{length, getD, take, drop, length-append, length-drop, take-append-drop, drop-of-length-le, List·getD-append}
 use lib.Seq.{drop-at, getD-take, take-append-le, drop-append-le, length-take-le}
 use borrow.Author.Tests.{eq-eqb, ne-eqb, eqb-true, eqb-false, ltb-false}
 use Rattle.model.specs.Lists.{every}
 use Rattle.model.specs.Said.{gave, refused, mapped, packetLengthWrong}
-use Rattle.model.specs.Block.{Block, topNumber, blockSize, headerLength, numberIn, isHeaderShort, isShort, blockIn, shortAt, readBlockAt, writtenBlock}
+use Rattle.model.specs.Block.{Block, topNumber, blockSize, headerLength, numberIn, isShort, blockIn, shortAt, readBlockAt, writtenBlock}
 use Rattle.model.specs.Packet.{Packet, sequenceIn, packetSize, tidyMove, isNullHeader, tidily, kept, blocksFrom, readBy, readPacket, readTidy, writtenBlocks, packetHeader, packetLength, writtenPacket, fill, carriable}
 use Rattle.model.proofs.Cases.{by-test, by-cond, both, mapped-mapped, mapped-same, mapped-by}
 use Rattle.model.proofs.Blocks.{Carriable, carriable-facts, header-one, header-two, header-bytes, read-whole, null-header, null-facts, header-named}
@@ -263,8 +263,8 @@ pub tidy-back : (p : Packet) → Valid p → 1 ≤ length (p .blocks) → readTi
 unfolding writtenPacket
 tidy-back p v some =
     let s = shape p v some in
-    let fills : Fills (fill (packetLength p)) = rw append-nil at (fill-fills (packetLength p) [] (λ some. absurd (some refl))) in
-    tidy-filled p v (packetHeader p) (fill (packetLength p)) (s .sequence) (s .header) fills
+    let long : packetSize (packetHeader p) ≡ length (writtenPacket p) + 0 = omega (arith, s .header) in
+    rw append-nil at (tidy-appended p v (packetHeader p) [] (s .sequence) long (λ some. absurd (some refl)))
 
 -- so that there both readers agree;
 pub readers-agree : (p : Packet) → Valid p → 1 ≤ length (p .blocks) → readPacket (writtenPacket p) ≡ readTidy (writtenPacket p)

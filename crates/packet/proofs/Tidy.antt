@@ -2,7 +2,7 @@
 use mathlib.Core.Path.{_≡_, sym, ap, _∙_}
 use mathlib.Core.Bool.{true}
 use mathlib.Core.List.{List, _∷_, _++_}
-use Prim.Native.Nat.{ℕ, _+_, _≤_}
+use Prim.Native.Nat.{ℕ, suc, _+_, _≤_}
 use native.Mathlib.Omega.{arith}
 use lib.Dec.{ltb}
 use lib.ListN.{length, getD, take, drop}
@@ -17,7 +17,7 @@ use Rattle.model.specs.Block.{Block}
 use Rattle.model.specs.Packet.{Packet, sequenceIn, packetSize, isNullHeader, readPacket, readTidy, writtenPacket}
 use Rattle.model.proofs.Cases.{by-test}
 use Rattle.model.proofs.Packets.{Valid}
-use Rattle.model.proofs.Fill.{Whole, Fills, behind-null, tidy-appended, tidy-back, readers-agree}
+use Rattle.model.proofs.Fill.{Whole, Fills, behind-null, filled-tidily, tidy-appended, tidy-back, readers-agree}
 use Rattle.service.specs.Service.{Writes}
 use Rattle.packet.specs.Packet.{Answers, packetOf, blank, validDTVCC}
 use Rattle.packet.specs.declared.DTVCCPacket.{DTVCCPacket}
@@ -40,7 +40,7 @@ pub tidy-behind-null : (h : ℕ) {front : List ℕ} {bs : List Block} → Whole 
     → (r q : PacketAnswer) → Answers (readTidy (h ∷ (front ++ d))) blank r → Answers (readTidy (h ∷ (front ++ e))) blank q → r ≡ q
 tidy-behind-null h w d e nd ne same r q a b = one-answer r q (rw (behind-null h w d e nd ne same) at a) b
 
--- the answer gives this packet
+-- an answer that gives this packet
 pub record Gives (p : Packet) (r : PacketAnswer) : Type 0 where
   pub accepted : r .answer ≡ Accepted
   pub means : packetOf (r .packet) ≡ p
@@ -49,6 +49,11 @@ gives : (o : Outcome Packet) (p : Packet) (r : PacketAnswer) → o ≡ gave p �
 gives o p r e a =
     let b : Answers (gave p) blank r = rw e at a in
     record { accepted = saidAnswer-injective (r .answer) Accepted (b .answer); means = b .means }
+
+-- Whole blocks, and then fill up to the number of bytes that the header says, are accepted: with the blocks that have a payload, whatever the fill is [T2].
+pub tidy-whole : (h : ℕ) {front : List ℕ} {bs : List Block} → Whole front bs → (old : List ℕ) → packetSize h ≡ suc (length (front ++ old)) → Fills old
+    → (r : PacketAnswer) → Answers (readTidy (h ∷ (front ++ old))) blank r → Gives (record { sequence = sequenceIn h; blocks = bs }) r
+tidy-whole h w old long fills r a = gives _ _ r (filled-tidily h w old long fills) a
 
 -- what `write` has written to some bytes that were lent to it
 module _ (p : DTVCCPacket) (out end : List ℕ) (n : ℕ) (wrote : Writes (validDTVCC p) (writtenPacket (packetOf p)) out (Count n) end) where

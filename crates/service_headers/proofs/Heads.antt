@@ -96,19 +96,33 @@ module _ {A : Type 0} (f : List ℕ → A) (d : List ℕ) (at : ℕ) (r : A) whe
   pub one-at : (h second n : ℕ) → length d - at ≡ n → n ≡ 1 → h ≡ getD d at 0 → ToldBy f h second 1 r → r ≡ f (drop at d)
   one-at h second n is one first by = some-at h second 1 (is ∙ one) first (λ k. absurd (omega arith)) by
 
--- the first `end` bytes, from a place on
-module _ {A : Type 0} (f : List ℕ → A) (b : List ℕ) (at end n : ℕ) (r : A) (most : n ≡ min end (length b)) where
-  so-many : length (take end b) ≡ n
-  so-many = length-take end b ∙ sym most
+-- the first `end` bytes, from a place on: how many there are
+module _ (b : List ℕ) (at end n : ℕ) where
+  pub left-some : n ≡ min end (length b) → n - at ≡ length (drop at (take end b))
+  left-some most = rw (length-drop at (take end b), length-take end b, most)
 
+  pub left-none : n ≡ min end (length b) → n ≤ at → 0 ≡ length (drop at (take end b))
+  left-none most h = omega (arith, left-some most)
+
+  module _ (is : n ≡ length (drop at (take end b))) where
+    so-many : n ≡ min end (length b) - at
+    so-many = is ∙ rw (length-drop at (take end b), length-take end b)
+
+    -- where there are some, the place is one of the bytes
+    pub place-in : length b ≡ 128 → (n ≡ 0 → ⊥) → at < 128
+    place-in whole h = omega (arith, so-many, h)
+
+-- and what f says of them
+module _ {A : Type 0} (f : List ℕ → A) (b : List ℕ) (at end n : ℕ) (r : A) (is : n ≡ length (drop at (take end b))) where
   -- nothing there
-  pub none-in : n ≤ at → ToldBy f 0 0 0 r → r ≡ f (drop at (take end b))
-  none-in h by = none-at f (take end b) at r (omega (arith, so-many)) by
+  pub none-in : n ≡ 0 → ToldBy f 0 0 0 r → r ≡ f (drop at (take end b))
+  none-in z by = none-at f (take end b) at r (omega (arith, length-take end b, so-many b at end n is)) by
 
   -- some: where there is a second, it stands behind the first
-  pub some-in : length b ≡ 128 → at < n → ToldBy f (getD b at 0) (getD b ((at + 1) % 128) 0) (n - at) r → r ≡ f (drop at (take end b))
-  some-in is h by =
-      some-at f (take end b) at r (getD b at 0) (getD b ((at + 1) % 128) 0) (n - at) (rw so-many) (sym (getD-take end b at 0 (omega arith)))
+  pub some-in : length b ≡ 128 → (n ≡ 0 → ⊥) → ToldBy f (getD b at 0) (getD b ((at + 1) % 128) 0) n r → r ≡ f (drop at (take end b))
+  some-in whole h by =
+      let m = so-many b at end n is in
+      some-at f (take end b) at r (getD b at 0) (getD b ((at + 1) % 128) 0) n (rw length-take (sym m)) (sym (getD-take end b at 0 (omega (arith, h))))
       (λ k. let e : (at + 1) % 128 ≡ at + 1 = omega arith in rw e (sym (getD-take end b (at + 1) 0 (omega arith)))) by
 
 -- a header laid into a list: of one byte, of two, and of two where there is room for one

@@ -1,7 +1,7 @@
 // The header of a block, read and written.
 ghost use mathlib.Core.Path.{_≡_};
 ghost use Prim.Native.Nat.{_%_};
-ghost use lib.ListN.{take, drop};
+ghost use lib.ListN.{length, take, drop};
 ghost use lib.Seq.{sets};
 ghost use mathlib.Core.Bool.{cond};
 ghost use lib.Dec.{ltb};
@@ -83,17 +83,28 @@ pub fn read_head(data: &[u8], at: usize) -> Head
     head_by(data[at], data[at + 1], n)
 }
 
-// The header of the block that begins at `at`, of the first `end` bytes.
-pub fn head_in(bytes: &[u8; 128], at: usize, end: usize) -> Head
-    ensures { λ r. ⌜ r ≡ blockHead (drop at (take end (now (bytes .entry)))) ⌝ }
+// How many of the first `end` bytes there are from `at` on; 128 bytes are lent.
+fn left_in(bytes: &[u8; 128], at: usize, end: usize) -> usize
+    ensures { λ r. ⌜ (r ≡ length (drop at (take end (now (bytes .entry))))) × (length (now (bytes .entry)) ≡ 128) ⌝ }
 {
     let all = &bytes[..];
     let n = lesser(end, all.len());
     if n <= at {
+        return 0;
+    }
+    n - at
+}
+
+// The header of the block that begins at `at`, of the first `end` bytes.
+pub fn head_in(bytes: &[u8; 128], at: usize, end: usize) -> Head
+    ensures { λ r. ⌜ r ≡ blockHead (drop at (take end (now (bytes .entry)))) ⌝ }
+{
+    let n = left_in(bytes, at, end);
+    if n == 0 {
         return head_by(0, 0, 0);
     }
     // Behind the last byte any other may stand: a header of one byte has no second.
-    head_by(bytes[at], bytes[(at + 1) % 128], n - at)
+    head_by(bytes[at], bytes[(at + 1) % 128], n)
 }
 
 // Whether the header of `n` bytes, of which these are the first two, is null: its own bytes have to be there, but none of those that it announces.
@@ -114,13 +125,12 @@ fn null_by(h: u8, second: u8, n: usize) -> bool
 pub fn null_in(bytes: &[u8; 128], at: usize, end: usize) -> bool
     ensures { λ r. ⌜ r ≡ isNullHeader (drop at (take end (now (bytes .entry)))) ⌝ }
 {
-    let all = &bytes[..];
-    let n = lesser(end, all.len());
-    if n <= at {
+    let n = left_in(bytes, at, end);
+    if n == 0 {
         return null_by(0, 0, 0);
     }
     // Behind the last byte any other may stand, as in `head_in`.
-    null_by(bytes[at], bytes[(at + 1) % 128], n - at)
+    null_by(bytes[at], bytes[(at + 1) % 128], n)
 }
 
 // Why a block is refused that is cut short, `present` bytes being there from `offset` on.
