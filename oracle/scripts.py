@@ -112,7 +112,7 @@ def null_headers(rounds):
     kinds = [lambda n: [0] * n, some, whole_blocks, lambda n: [R.choice([0xE1, 0xFF, 0x3F, 0x21, 0x1F])] * n, lambda n: R.choices(range(256), k=n)]
     for at in range(1, 128):
         s = []
-        for null in R.sample(forms, rounds) + [[R.randrange(0xE1, 0x100)]]:
+        for null in R.choices(forms, k=rounds) + [[R.randrange(0xE1, 0x100)]]:
             d = whole_blocks(at - 1) + null
             most = 127 - len(d)
             if most < 0: continue

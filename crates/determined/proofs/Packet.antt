@@ -38,7 +38,7 @@ use Rattle.packet.proofs.DTVCCPacket.parse.Reads as parse
 use Rattle.packet.proofs.DTVCCPacket.parse_in.Reads as ParseIn
 use Rattle.packet.proofs.DTVCCPacket.parse_tidy.Reads as parse_tidy
 use Rattle.packet.proofs.DTVCCPacket.is_valid.Reads as is_valid
-use Rattle.packet.proofs.Tidy.{one-answer}
+use Rattle.packet.proofs.Replies.{one-answer}
 use Rattle.determined.specs.Determines.{Determines, DeterminesLent}
 use Rattle.determined.proofs.Ways.{equal, said, two}
 

@@ -97,6 +97,11 @@ module _ (offset : ℕ) (d : List ℕ) where
   unfolding readBlockAt isShort needed isHeaderShort
   read-whole h = simp (le-ltb (length d) (headerLength (getD d 0 0)) (omega arith), le-ltb _ _ h)
 
+-- no byte is missing
+pub not-short : (d : List ℕ) → isShort d ≡ false → needed d ≤ length d
+unfolding isShort
+not-short d e = ltb-false _ _ e
+
 -- what a block is written in
 pub written-short : (b : Block) → b .number < 7 → writtenBlock b ≡ (b .number * 32 + length (b .payload)) ∷ b .payload
 unfolding writtenBlock writtenHeader

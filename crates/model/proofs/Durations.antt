@@ -4,7 +4,7 @@ use mathlib.Core.List.{List, [], _∷_, _++_}
 use Prim.Native.Nat.{ℕ, _+_, _-_, _*_, _/_, _^_, _≤_, _<_}
 use native.Mathlib.Nat.{lt-div-mul-add, div-mul-le-self}
 use native.Mathlib.Omega.{arith}
-use Rattle.model.specs.Packet.{Packet, packetLength}
+use Rattle.model.specs.Packet.{Packet}
 use Rattle.model.specs.Duration.{ceil, pairsDuration, lengthsOf, bytesDuration}
 
 -- m is the least number not below a / b

@@ -7,18 +7,17 @@ use Prim.Native.Nat.{ℕ, zero, suc, _+_, _%_, _≤_, _<_}
 use native.Mathlib.Omega.{arith}
 use lib.Dec.{eqb}
 use lib.ListN.{length, getD, take, drop, length-append, length-drop, take-append-drop, drop-of-length-le, List·getD-append}
-use lib.Seq.{drop-at, getD-take, take-append-le, drop-append-le, length-take-le}
-use borrow.Author.Tests.{eq-eqb, ne-eqb, eqb-true, eqb-false, ltb-false}
-use Rattle.model.specs.Lists.{every}
+use lib.Seq.{getD-take, take-append-le, drop-append-le, length-take-le}
+use borrow.Author.Tests.{eq-eqb, ne-eqb, eqb-true, eqb-false}
 use Rattle.model.specs.Said.{gave, refused, mapped, packetLengthWrong}
 use Rattle.model.specs.Block.{Block, topNumber, blockSize, headerLength, numberIn, isShort, blockIn, shortAt, readBlockAt, writtenBlock}
-use Rattle.model.specs.Packet.{Packet, sequenceIn, packetSize, tidyMove, isNullHeader, tidily, kept, blocksFrom, readBy, readPacket, readTidy, writtenBlocks, packetHeader, packetLength, writtenPacket, fill, carriable}
-use Rattle.model.proofs.Cases.{by-test, by-cond, both, mapped-mapped, mapped-same, mapped-by}
-use Rattle.model.proofs.Blocks.{Carriable, carriable-facts, header-one, header-two, header-bytes, read-whole, null-header, null-facts, header-named}
+use Rattle.model.specs.Packet.{Packet, sequenceIn, packetSize, tidyMove, isNullHeader, tidily, kept, blocksFrom, readBy, readPacket, readTidy, writtenBlocks, packetHeader, packetLength, writtenPacket, fill}
+use Rattle.model.proofs.Cases.{by-test, by-cond, mapped-mapped}
+use Rattle.model.proofs.Blocks.{header-one, header-two, header-bytes, read-whole, not-short, null-header, null-facts, header-named}
 use Rattle.model.proofs.BlockTrip.{Begins, begins}
+use Rattle.model.proofs.Walk.{blocks-none, blocks-stop, blocks-next, Takes, Row, nothing, more, row-each, row-then, Written, written-row}
 use Rattle.model.proofs.Packets.{Valid, shape, bare-size, plain-back}
-use Rattle.model.proofs.Walk.{blocks-none, blocks-stop, blocks-next}
-use Rattle.model.proofs.Limits.{header-cases, number-one, number-two, all-there}
+use Rattle.model.proofs.Limits.{header-cases, number-one, number-two, all-there, tidy-least}
 
 -- a header of number 0 in one byte, whose lower five bits may be any size; and in two, whose second byte has nothing in its lower six bits
 pub data NullBytes : List ℕ → Type 0 where
@@ -48,15 +47,15 @@ null-bytes x d byte null =
     second [] there e t z y = absurd (omega arith)
     second (s ∷ d) there e t z y = inTwo x s d (omega arith) byte y
 
--- the bytes of one block and no others: a header that is not of number 0, and all that it announces
-pub record Exactly (d : List ℕ) : Type 0 where
+-- the bytes of the block b and no others: a header that is not of number 0, and all that it announces
+pub record Exactly (d : List ℕ) (b : Block) : Type 0 where
   pub named : numberIn d ≡ 0 → ⊥
   pub long : length d ≡ headerLength (getD d 0 0) + blockSize (getD d 0 0)
+  pub is : blockIn d ≡ b
 
 -- bytes that are such blocks one behind the other, and those of the blocks that have a payload
-pub data Whole : List ℕ → List Block → Type 0 where
-  nothing : Whole [] []
-  more : (d rest : List ℕ) (bs : List Block) → Exactly d → Whole rest bs → Whole (d ++ rest) (kept (blockIn d) bs)
+abbrev pub WholeBlocks : List ℕ → List Block → Type 0
+WholeBlocks front bs = Row Exactly front bs
 
 -- as many bytes as the header at their head and its body have, whatever follows them
 module _ (d rest : List ℕ) (long : length d ≡ headerLength (getD d 0 0) + blockSize (getD d 0 0)) where
@@ -79,50 +78,27 @@ module _ (d rest : List ℕ) (long : length d ≡ headerLength (getD d 0 0) + bl
       let all : take n (drop h d ++ rest) ≡ take n (drop h d) = take-append-le n (drop h d) rest (omega (arith, length-drop h d)) in
       rw (number-same, first-same, body, all)
 
-  move-same : tidyMove (d ++ rest) ≡ length d
-  unfolding tidyMove
-  move-same = rw first-same (sym long)
+  all-same : headerLength (getD (d ++ rest) 0 0) + blockSize (getD (d ++ rest) 0 0) ≤ length (d ++ rest)
+  all-same = rw first-same (omega (arith, length-append d rest))
 
-  -- one that is not of number 0 is read, and then what follows it
-  block-then : (numberIn d ≡ 0 → ⊥) → (offset : ℕ) → blocksFrom tidily offset 0 (d ++ rest) ≡ mapped (kept (blockIn d)) (blocksFrom tidily (offset + length d) 0 rest)
-  block-then named offset =
-      let some : 1 ≤ length d = omega (arith, header-bytes (getD d 0 0)) in
-      let there : headerLength (getD (d ++ rest) 0 0) + blockSize (getD (d ++ rest) 0 0) ≤ length (d ++ rest) = rw first-same (omega (arith, length-append d rest)) in
-      let on : isNullHeader (d ++ rest) ≡ false = header-named (d ++ rest) (λ z. named (sym number-same ∙ z)) in
-      blocks-next tidily offset (d ++ rest) (omega (arith, length-append d rest)) on (rw move-same some)
-      ∙ rw (read-whole offset (d ++ rest) there, block-same, move-same, drop-at d rest (length d) refl)
-
--- the tidy reader goes forward
-tidy-forward : (d : List ℕ) → 1 ≤ tidyMove d
+-- the tidy reader takes them for the block
+tidy-takes : (d : List ℕ) (b : Block) → Exactly d b → (rest : List ℕ) → Takes tidily d rest b
 unfolding tidyMove
-tidy-forward d = omega (arith, header-bytes (getD d 0 0))
-
--- bytes that are not short
-whole-there : (d : List ℕ) → isShort d ≡ false → headerLength (getD d 0 0) + blockSize (getD d 0 0) ≤ length d
-unfolding isShort
-whole-there d e = all-there d (ltb-false _ _ e)
-
--- a block kept before others
-kept-before : (b : Block) (bs cs : List Block) → kept b (bs ++ cs) ≡ kept b bs ++ cs
-kept-before b bs cs = by-test (eqb (length (b .payload)) 0) (λ e. rw e) (λ e. rw e)
-
--- whole blocks are read, and then what follows them
-pub whole-then : {front : List ℕ} {bs : List Block} → Whole front bs → (offset : ℕ) (rest : List ℕ)
-    → blocksFrom tidily offset 0 (front ++ rest) ≡ mapped (λ cs. bs ++ cs) (blocksFrom tidily (offset + length front) 0 rest)
-whole-then nothing offset rest = let e : offset + 0 ≡ offset = omega arith in rw e (sym (mapped-same (blocksFrom tidily offset 0 rest)))
-whole-then (more d front bs x w) offset rest =
-    let next : ℕ = offset + length d in
-    let e : offset + length (d ++ front) ≡ next + length front = omega (arith, length-append d front) in
-    rw (append-assoc, e)
-    (block-then d (front ++ rest) (x .long) (x .named) offset ∙ ap (mapped (kept (blockIn d))) (whole-then w next rest) ∙ mapped-mapped _ _ (blocksFrom tidily (next + length front) 0 rest)
-    ∙ mapped-by (kept-before (blockIn d) bs) (blocksFrom tidily (next + length front) 0 rest))
+tidy-takes d b x rest =
+    let long = x .long in
+    record {
+      some = omega (arith, header-bytes (getD d 0 0));
+      met = header-named (d ++ rest) (λ z. x .named (sym (number-same d rest long) ∙ z));
+      read = λ offset. read-whole offset (d ++ rest) (all-same d rest long) ∙ ap gave (block-same d rest long ∙ x .is);
+      moves = rw (first-same d rest long) (sym long);
+    }
 
 -- bytes that are fill: none, or a null header and whatever is behind it
 abbrev pub Fills : List ℕ → Type 0
 Fills d = (length d ≡ 0 → ⊥) → isNullHeader d ≡ true
 
 -- a packet of whole blocks and some bytes behind them
-module _ (h : ℕ) {front : List ℕ} {bs : List Block} (w : Whole front bs) (rest : List ℕ) where
+module _ (h : ℕ) {front : List ℕ} {bs : List Block} (w : WholeBlocks front bs) (rest : List ℕ) where
   -- the packet of those blocks
   abbrev given : Packet
   given = record { sequence = sequenceIn h; blocks = bs }
@@ -133,7 +109,7 @@ module _ (h : ℕ) {front : List ℕ} {bs : List Block} (w : Whole front bs) (re
     unfolding readTidy readBy
     right-length =
         let some : eqb (suc (length (front ++ rest))) 0 ≡ false = ne-eqb (suc (length (front ++ rest))) 0 (λ e. omega arith) in
-        rw (some, eq-eqb _ _ long, whole-then w 1 rest) (mapped-mapped _ _ (blocksFrom tidily (1 + length front) 0 rest))
+        rw (some, eq-eqb _ _ long, row-then tidily Exactly tidy-takes w 1 rest) (mapped-mapped _ _ (blocksFrom tidily (1 + length front) 0 rest))
 
     -- where these are fill, the blocks are all of the packet
     pub filled-tidily : Fills rest → readTidy (h ∷ (front ++ rest)) ≡ gave given
@@ -148,17 +124,18 @@ module _ (h : ℕ) {front : List ℕ} {bs : List Block} (w : Whole front bs) (re
     pub short-tidily : 1 ≤ length rest → isNullHeader rest ≡ false → isShort rest ≡ true → readTidy (h ∷ (front ++ rest)) ≡ refused (shortAt (1 + length front) rest)
     unfolding readBlockAt
     short-tidily some on short =
-        right-length ∙ rw (blocks-next tidily (1 + length front) rest some on (tidy-forward rest)) (simp short)
+        right-length ∙ rw (blocks-next tidily (1 + length front) rest some on (tidy-least rest)) (simp short)
 
 -- What the tidy reader gives depends on no byte behind the first null header, nor on that header's own size: behind whole blocks any bytes may stand for
 -- others, as many of them, if both begin with a null header [T2].
-pub behind-null : (h : ℕ) {front : List ℕ} {bs : List Block} → Whole front bs → (d e : List ℕ) → isNullHeader d ≡ true → isNullHeader e ≡ true → length d ≡ length e
+pub behind-null : (h : ℕ) {front : List ℕ} {bs : List Block} → WholeBlocks front bs → (d e : List ℕ) → isNullHeader d ≡ true → isNullHeader e ≡ true → length d ≡ length e
     → readTidy (h ∷ (front ++ d)) ≡ readTidy (h ∷ (front ++ e))
 unfolding readTidy readBy
 behind-null h {front} {bs} w d e nd ne same =
     let long : length (front ++ d) ≡ length (front ++ e) = omega (arith, length-append front d, length-append front e) in
     let next : ℕ = 1 + length front in
-    rw (long, whole-then w 1 d, whole-then w 1 e, blocks-stop tidily next d nd, blocks-stop tidily next e ne)
+    let then : (rest : List ℕ) → blocksFrom tidily 1 0 (front ++ rest) ≡ mapped (λ cs. bs ++ cs) (blocksFrom tidily next 0 rest) = row-then tidily Exactly tidy-takes w 1 in
+    rw (long, then d, then e, blocks-stop tidily next d nd, blocks-stop tidily next e ne)
 
 -- Any bytes are whole blocks and behind them fill, or a block that is short.
 pub record Split (d : List ℕ) : Type 0 where
@@ -166,7 +143,7 @@ pub record Split (d : List ℕ) : Type 0 where
   pub rest : List ℕ
   pub blocks : List Block
   pub is : front ++ rest ≡ d
-  pub whole : Whole front blocks
+  pub whole : WholeBlocks front blocks
   pub ends : (length rest ≡ 0 → ⊥) → isNullHeader rest ≡ false → isShort rest ≡ true
 
 -- a block that is all there and not null
@@ -175,7 +152,7 @@ module _ (d : List ℕ) (on : isNullHeader d ≡ false) (there : headerLength (g
   first = take (tidyMove d) d
 
   first-byte : getD first 0 0 ≡ getD d 0 0
-  first-byte = getD-take (tidyMove d) d 0 0 (tidy-forward d)
+  first-byte = getD-take (tidyMove d) d 0 0 (tidy-least d)
 
   first-long : length first ≡ headerLength (getD first 0 0) + blockSize (getD first 0 0)
   unfolding tidyMove
@@ -184,16 +161,20 @@ module _ (d : List ℕ) (on : isNullHeader d ≡ false) (there : headerLength (g
   not-null : numberIn d ≡ 0 → ⊥
   not-null z = true≢false (sym (null-header d (omega arith) z) ∙ on)
 
-  pub exactly : Exactly first
+  exactly : Exactly first (blockIn first)
   exactly =
-      record { named = λ z. not-null (ap numberIn (sym (take-append-drop (tidyMove d) d)) ∙ number-same first (drop (tidyMove d) d) first-long ∙ z); long = first-long }
+      record {
+        named = λ z. not-null (ap numberIn (sym (take-append-drop (tidyMove d) d)) ∙ number-same first (drop (tidyMove d) d) first-long ∙ z);
+        long = first-long;
+        is = refl;
+      }
 
 -- where no whole block is at the head
 no-block : (d : List ℕ) → ((length d ≡ 0 → ⊥) → isNullHeader d ≡ false → isShort d ≡ true) → Split d
 no-block d e = record { front = []; rest = d; blocks = []; is = refl; whole = nothing; ends = e }
 
 -- one block more
-one-more : (d : List ℕ) → Exactly (take (tidyMove d) d) → Split (drop (tidyMove d) d) → Split d
+one-more : (d : List ℕ) → (let f : List ℕ = take (tidyMove d) d in Exactly f (blockIn f)) → Split (drop (tidyMove d) d) → Split d
 one-more d x s =
     let k : ℕ = tidyMove d in
     record {
@@ -201,7 +182,7 @@ one-more d x s =
       rest = s .rest;
       blocks = kept (blockIn (take k d)) (s .blocks);
       is = append-assoc (take k d) (s .front) (s .rest) ∙ ap (λ (l : List ℕ). take k d ++ l) (s .is) ∙ take-append-drop k d;
-      whole = more (take k d) (s .front) (s .blocks) x (s .whole);
+      whole = more (take k d) (s .front) (blockIn (take k d)) (s .blocks) x (s .whole);
       ends = s .ends;
     }
 
@@ -211,66 +192,63 @@ split-within zero d few = no-block d (λ some _. absurd (some (omega arith)))
 split-within (suc n) d few =
     by-test (isNullHeader d) (λ e. no-block d (λ _ on. absurd (true≢false (sym e ∙ on))))
     (λ on. by-test (isShort d) (λ e. no-block d (λ _ _. e))
-    (λ e. one-more d (exactly d on (whole-there d e)) (split-within n (drop (tidyMove d) d) (omega (arith, length-drop (tidyMove d) d, tidy-forward d)))))
+    (λ e. one-more d (exactly d on (all-there d (not-short d e))) (split-within n (drop (tidyMove d) d) (omega (arith, length-drop (tidyMove d) d, tidy-least d)))))
 
 pub split : (d : List ℕ) → Split d
 split d = split-within (length d) d (omega arith)
 
 -- a block that may stand in a packet, as it is written: its bytes and no others
-module _ (b : Block) (f : Carriable b) where
-  written : Begins b (writtenBlock b)
-  written = subst (Begins b) (append-nil (writtenBlock b)) (begins b [] f)
-
-  pub written-exactly : Exactly (writtenBlock b)
-  unfolding blockIn
-  written-exactly = record { named = λ z. omega (arith, ap (λ (c : Block). c .number) (written .block), f .named); long = sym (written .long) }
-
-  kept-written : (bs : List Block) → kept (blockIn (writtenBlock b)) bs ≡ b ∷ bs
-  kept-written bs = rw (written .block) (simp (ne-eqb (length (b .payload)) 0 (λ z. omega (arith, f .filled))))
-
--- blocks as they are written are whole
-pub written-whole : (bs : List Block) → every carriable bs ≡ true → Whole (writtenBlocks bs) bs
-unfolding every writtenBlocks
-written-whole [] ok = nothing
-written-whole (b ∷ bs) ok =
-    let f = both _ _ ok in
-    let c = carriable-facts b (f .0) in
-    subst (Whole (writtenBlock b ++ writtenBlocks bs)) (kept-written b c bs) (more (writtenBlock b) (writtenBlocks bs) bs (written-exactly b c) (written-whole bs (f .1)))
+written-exactly : (d : List ℕ) (b : Block) → Written d b → Exactly d b
+unfolding blockIn
+written-exactly d b w =
+    let e : writtenBlock b ++ [] ≡ d = append-nil (writtenBlock b) ∙ sym (w .is) in
+    let g : Begins b d = subst (Begins b) e (begins b [] (w .carriable)) in
+    record {
+      named = λ z. omega (arith, ap (λ (c : Block). c .number) (g .block), w .carriable .named);
+      long = ap length (w .is) ∙ sym (g .long);
+      is = g .block;
+    }
 
 -- Blocks as they are written, behind a header that says how many bytes there are in all, and any fill up to that number, read tidily as their packet [T2].
-pub tidy-filled : (p : Packet) → Valid p → (h : ℕ) (old : List ℕ) → sequenceIn h ≡ p .sequence → packetSize h ≡ suc (length (writtenBlocks (p .blocks) ++ old)) → Fills old
+tidy-filled : (p : Packet) → Valid p → (h : ℕ) (old : List ℕ) → sequenceIn h ≡ p .sequence → packetSize h ≡ suc (length (writtenBlocks (p .blocks) ++ old)) → Fills old
     → readTidy (h ∷ (writtenBlocks (p .blocks) ++ old)) ≡ gave p
 tidy-filled p v h old top long fills =
-    filled-tidily h (written-whole (p .blocks) (v .blocks)) old long fills ∙ ap (λ (q : ℕ). gave (record { sequence = q; blocks = p .blocks })) top
+    filled-tidily h (row-each written-exactly (written-row (p .blocks) (v .blocks))) old long fills ∙ ap (λ (q : ℕ). gave (record { sequence = q; blocks = p .blocks })) top
 
--- the byte behind an odd length is fill, and so is other fill behind it
-fill-fills : (n : ℕ) (old : List ℕ) → Fills old → Fills (fill n ++ old)
-unfolding fill
-fill-fills n old fills = by-cond (λ (f : List ℕ). Fills (f ++ old)) (eqb (n % 2) 1) (λ _ _. bytes-null (inOne 0x00 old (omega arith))) (λ _. fills)
-
--- So does all that is written of a packet behind its header, with any fill up to the number of bytes that the header in front of it says.
-pub tidy-appended : (p : Packet) → Valid p → (h : ℕ) (old : List ℕ) → sequenceIn h ≡ p .sequence → packetSize h ≡ length (writtenPacket p) + length old → Fills old
-    → readTidy (h ∷ (drop 1 (writtenPacket p) ++ old)) ≡ gave p
+-- So does all that is written of a packet behind its header, with the fill up to the number of bytes that the header in front of it says. Where the
+-- written length is odd the byte 0x00 behind it is a null header already, and any bytes may follow it.
+pub tidy-appended : (p : Packet) → Valid p → (h : ℕ) (old : List ℕ) → sequenceIn h ≡ p .sequence → packetSize h ≡ length (writtenPacket p) + length old
+    → Fills (fill (packetLength p) ++ old) → readTidy (h ∷ (drop 1 (writtenPacket p) ++ old)) ≡ gave p
 unfolding writtenPacket
 tidy-appended p v h old top long fills =
     let bs : List ℕ = writtenBlocks (p .blocks) in
     let n : ℕ = packetLength p in
     let all : packetSize h ≡ suc (length (bs ++ (fill n ++ old))) = omega (arith, long, length-append (bs ++ fill n) old, ap length (append-assoc bs (fill n) old)) in
-    rw append-assoc (tidy-filled p v h (fill n ++ old) top all (fill-fills n old fills))
+    rw append-assoc (tidy-filled p v h (fill n ++ old) top all fills)
+
+-- that byte is fill, or there is none
+fill-fills : (n : ℕ) → Fills (fill n)
+unfolding fill
+fill-fills n = by-cond Fills (eqb (n % 2) 1) (λ _ _. bytes-null (inOne 0x00 [] (omega arith))) (λ _ some. absurd (some refl))
 
 -- a packet that is written is read back tidily, if it has a block,
 pub tidy-back : (p : Packet) → Valid p → 1 ≤ length (p .blocks) → readTidy (writtenPacket p) ≡ gave p
 unfolding writtenPacket
 tidy-back p v some =
     let s = shape p v some in
-    let long : packetSize (packetHeader p) ≡ length (writtenPacket p) + 0 = omega (arith, s .header) in
-    rw append-nil at (tidy-appended p v (packetHeader p) [] (s .sequence) long (λ some. absurd (some refl)))
+    let n : ℕ = packetLength p in
+    tidy-filled p v (packetHeader p) (fill n) (s .sequence) (s .header) (fill-fills n)
 
 -- so that there both readers agree;
 pub readers-agree : (p : Packet) → Valid p → 1 ≤ length (p .blocks) → readPacket (writtenPacket p) ≡ readTidy (writtenPacket p)
 readers-agree p v some = plain-back p v ∙ sym (tidy-back p v some)
 
 -- one without blocks is written in one byte, which says 128
-pub tidy-bare : (q : ℕ) → readTidy (writtenPacket (record { sequence = q; blocks = [] })) ≡ refused (packetLengthWrong 128 1 0)
+bare-refused : (q : ℕ) → readTidy (writtenPacket (record { sequence = q; blocks = [] })) ≡ refused (packetLengthWrong 128 1 0)
 unfolding readTidy readBy writtenPacket writtenBlocks packetLength fill
-tidy-bare q = rw (bare-size q)
+bare-refused q = rw (bare-size q)
+
+pub tidy-bare : (p : Packet) → length (p .blocks) ≡ 0 → readTidy (writtenPacket p) ≡ refused (packetLengthWrong 128 1 0)
+tidy-bare p none =
+    let e : p .blocks ≡ [] = drop-of-length-le (p .blocks) {i = 0} (omega arith) in
+    ap (λ (bs : List Block). readTidy (writtenPacket (record { sequence = p .sequence; blocks = bs }))) e ∙ bare-refused (p .sequence)

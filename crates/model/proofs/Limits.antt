@@ -13,7 +13,7 @@ use Rattle.model.specs.Said.{gave}
 use Rattle.model.specs.Block.{Block, validBlock, topNumber, blockSize, headerLength, numberIn, isHeaderShort, needed, isShort, blockIn, readBlockAt, readBlock, blockLength}
 use Rattle.model.specs.Packet.{Packet, packetSize, plainMove, tidyMove, Way, plainly, tidily, kept, blocksFrom, readBy, readPacket, readTidy, blocksLength, packetLength, carriable}
 use Rattle.model.proofs.Cases.{by-test, by-cond, and-both, Gives, gives-then, gives-mapped, gives-at}
-use Rattle.model.proofs.Blocks.{Carriable, facts-carriable, header-one, header-two, header-bare, block-length, block-length-none, length-short, length-long}
+use Rattle.model.proofs.Blocks.{Carriable, facts-carriable, header-one, header-two, header-bare, header-bytes, block-length, block-length-none, length-short, length-long}
 use Rattle.model.proofs.BlockTrip.{written-some}
 use Rattle.model.proofs.Packets.{Valid, blocks-two, length-some}
 
@@ -56,6 +56,11 @@ number-known d = header-cases (getD d 0 0) (λ e _. rw (number-one d e) (omega a
 payload-none : (d : List ℕ) → numberIn d ≡ 0 → length (blockIn d .payload) ≡ 0
 unfolding blockIn
 payload-none d z = simp (eq-eqb _ _ z)
+
+-- the tidy reader moves forward
+pub tidy-least : (d : List ℕ) → 1 ≤ tidyMove d
+unfolding tidyMove
+tidy-least d = omega (arith, header-bytes (getD d 0 0))
 
 -- bytes d that are all there
 module _ (d : List ℕ) (whole : needed d ≤ length d) where
@@ -112,12 +117,7 @@ module _ (d : List ℕ) (whole : needed d ≤ length d) where
     written-from : 1 ≤ blockLength (blockIn d)
     written-from = omega (arith, block-length (blockIn d) some, written-some (blockIn d) [] carried)
 
-  -- the tidy reader moves forward
-  tidy-least : 1 ≤ tidyMove d
-  unfolding tidyMove
-  tidy-least = header-cases (getD d 0 0) (λ q _. omega arith) (λ q _. omega arith)
-
-  -- and stays within the bytes
+  -- the tidy reader stays within the bytes
   tidy-most : tidyMove d ≤ length d
   unfolding tidyMove
   tidy-most = all-there
@@ -139,14 +139,14 @@ module _ (d : List ℕ) (whole : needed d ≤ length d) where
       (λ e. let z : length (blockIn d .payload) ≡ 0 = eqb-true _ _ e in
       record {
         carried = λ s. absurd (omega arith);
-        plain = record { least = omega (arith, plain-none z); most = omega (arith, plain-none z, tidy-least, tidy-most); covers = omega (arith, block-length-none (blockIn d) z) };
-        tidy = record { least = tidy-least; most = tidy-most; covers = omega (arith, block-length-none (blockIn d) z) };
+        plain = record { least = omega (arith, plain-none z); most = omega (arith, plain-none z, tidy-least d, tidy-most); covers = omega (arith, block-length-none (blockIn d) z) };
+        tidy = record { least = tidy-least d; most = tidy-most; covers = omega (arith, block-length-none (blockIn d) z) };
       })
       (λ e. let s : 1 ≤ length (blockIn d .payload) = omega (arith, eqb-false (length (blockIn d .payload)) 0 e) in
       record {
         carried = carried;
         plain = record { least = omega (arith, plain-some s, written-from s); most = omega (arith, plain-some s, fits s, tidy-most); covers = omega (arith, plain-some s) };
-        tidy = record { least = tidy-least; most = tidy-most; covers = fits s };
+        tidy = record { least = tidy-least d; most = tidy-most; covers = fits s };
       })
 
 -- a block that is read breaks no limit

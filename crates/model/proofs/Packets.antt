@@ -14,7 +14,7 @@ use Rattle.model.specs.Packet.{Packet, sequenceIn, packetSize, plainMove
 use Rattle.model.proofs.Cases.{by-test, both}
 use Rattle.model.proofs.Blocks.{carriable-facts, block-length}
 use Rattle.model.proofs.BlockTrip.{written-some}
-use Rattle.model.proofs.Walk.{blocks-written}
+use Rattle.model.proofs.Walk.{Written, plain-takes, written-row, row-then}
 
 -- a packet within the limits, as facts
 pub record Valid (p : Packet) : Type 0 where
@@ -81,7 +81,7 @@ says-sequence : (q n : ℕ) → q ≤ 3 → sequenceIn (q * 64 + n % 64) ≡ q
 says-sequence q n few = omega (arith, few)
 
 -- and 2n bytes in all
-pub header-says : (q n : ℕ) → q ≤ 3 → 1 ≤ n → n ≤ 64 → (sequenceIn (q * 64 + n % 64) ≡ q) × (packetSize (q * 64 + n % 64) ≡ 2 * n)
+header-says : (q n : ℕ) → q ≤ 3 → 1 ≤ n → n ≤ 64 → (sequenceIn (q * 64 + n % 64) ≡ q) × (packetSize (q * 64 + n % 64) ≡ 2 * n)
 unfolding packetSize
 header-says q n few least most =
     let low : (q * 64 + n % 64) % 64 ≡ n % 64 = omega arith in
@@ -122,7 +122,8 @@ filled-none offset n = by-test (eqb (n % 2) 1) (λ e. simp e) (λ e. simp e)
 
 -- written blocks and the byte that may fill them are read as the blocks
 blocks-back : (offset : ℕ) (bs : List Block) (n : ℕ) → every carriable bs ≡ true → blocksFrom plainly offset 0 (writtenBlocks bs ++ fill n) ≡ gave bs
-blocks-back offset bs n ok = blocks-written offset bs (fill n) ok ∙ rw (filled-none (offset + length (writtenBlocks bs)) n) (ap gave (append-nil bs))
+blocks-back offset bs n ok =
+    row-then plainly Written plain-takes (written-row bs ok) offset (fill n) ∙ rw (filled-none (offset + length (writtenBlocks bs)) n) (ap gave (append-nil bs))
 
 -- a packet without blocks has a header that says 128
 pub bare-size : (q : ℕ) → packetSize (packetHeader (record { sequence = q; blocks = [] })) ≡ 128

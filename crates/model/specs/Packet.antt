@@ -42,8 +42,8 @@ tidyMove d = headerLength (getD d 0 0) + blockSize (getD d 0 0)
 unfoldable pub isNullHeader : List ℕ → Bool
 isNullHeader d = not (isHeaderShort d) && eqb (numberIn d) 0
 
--- How a reader goes over the bytes of a packet: where it stops, since all bytes that are left are fill; how far the block at the head of the bytes
--- goes on; and which length is wrong where the header says `size`.
+-- How a reader goes over the bytes of a packet: where it stops, since all bytes that are left are fill; how far it goes on from the block at the head
+-- of the bytes; and which length is wrong where the header says `size`.
 pub record Way : Type 0 where
   pub stops : List ℕ → Bool
   pub move : List ℕ → ℕ
@@ -82,7 +82,7 @@ readBy way d =
 unfoldable pub readPacket : List ℕ → Outcome Packet
 readPacket d = readBy plainly d
 
--- The tidy reader: exactly as many bytes as the header says [T1].
+-- The tidy reader: exactly as many bytes as the header says [T1], read up to a null header [T2].
 unfoldable pub readTidy : List ℕ → Outcome Packet
 readTidy d = readBy tidily d
 

@@ -1,14 +1,12 @@
--- What a reader gives and a push leaves breaks no limit and holds what the model says; a packet written is read back. Assumes nothing.
+-- What a reader gives and a push leaves breaks no limit and holds what the model says. Assumes nothing.
 use mathlib.Core.Path.{_≡_, refl}
 use mathlib.Core.Bool.{Bool, true}
 use mathlib.Core.List.{List}
-use Prim.Native.Nat.{ℕ, _≤_}
-use lib.ListN.{length}
+use Prim.Native.Nat.{ℕ}
 use Rattle.model.specs.Lists.{every}
 use Rattle.model.specs.Said.{gave}
-use Rattle.model.specs.Packet.{Packet, readPacket, readTidy, writtenPacket, pushBlock, pushRunBy, packetLength, validPacket}
-use Rattle.model.proofs.Packets.{Valid, plain-back}
-use Rattle.model.proofs.Fill.{tidy-back}
+use Rattle.model.specs.Packet.{Packet, readPacket, readTidy, pushBlock, pushRunBy, packetLength, validPacket}
+use Rattle.model.proofs.Packets.{Valid}
 use Rattle.model.specs.Block.{Block, validBlock}
 use Rattle.model.proofs.Cases.{gives-at}
 use Rattle.model.proofs.Limits.{plain-valid, tidy-valid}
@@ -38,14 +36,6 @@ parsed-held d {p} e = laid-over blank blank-places p (plain-valid d e)
 
 pub tidily-held : (d : List ℕ) {p : Packet} → readTidy d ≡ gave p → Laid blank p
 tidily-held d {p} e = laid-over blank blank-places p (tidy-valid d e)
-
--- what a valid packet is written in is read back as what it holds, by both readers
-module _ (p : DTVCCPacket) (v : validDTVCC p ≡ true) (places : Places p) where
-  pub written-back : readPacket (writtenPacket (packetOf p)) ≡ gave (packetOf p)
-  written-back = plain-back (packetOf p) (held-valid p (within-facts p v))
-
-  pub written-tidily : 1 ≤ length (packetOf p .blocks) → readTidy (writtenPacket (packetOf p)) ≡ gave (packetOf p)
-  written-tidily some = tidy-back (packetOf p) (held-valid p (within-facts p v)) some
 
 -- what a push leaves: the packet that the model gives, within the limits
 module _ (p : DTVCCPacket) (v : validDTVCC p ≡ true) (places : Places p) where

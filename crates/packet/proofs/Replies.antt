@@ -4,7 +4,9 @@ use mathlib.Core.Bool.{Bool, true, _&&_}
 use mathlib.Core.List.{List, []}
 use Prim.Native.Nat.{ℕ}
 use Rattle.caption.specs.declared.Counted.{Counted}
+use Rattle.caption.specs.declared.Answer.{Answer}
 use Rattle.caption.specs.Answers.{saidAnswer}
+use Rattle.caption.proofs.Answers.{saidAnswer-injective}
 use Rattle.model.specs.Said.{Said, Outcome, gave, refused, mapped, checked, accepted}
 use Rattle.model.specs.Packet.{Packet, pushBlock, pushRunBy}
 use Rattle.model.proofs.Cases.{by-cond, both, Gives}
@@ -36,6 +38,17 @@ refuses o old why r e a k = rw e (record { answer = a; means = ap packetOf k; pl
 pub gives : (o : Outcome Packet) (old : DTVCCPacket) (p : Packet) (r : PacketAnswer) → Places old → Valid p → o ≡ gave p → saidAnswer (r .answer) ≡ accepted []
     → r .packet ≡ over old p → Answers o old r
 gives o old p r full v e a k = rw e (record { answer = a; means = ap packetOf k ∙ over-holds old full p v; places = k })
+
+-- answers that say the same beside the same packet are one
+answer-same : (r q : PacketAnswer) → saidAnswer (r .answer) ≡ saidAnswer (q .answer) → r .packet ≡ q .packet → r ≡ q
+answer-same r q e f = parts (saidAnswer-injective (r .answer) (q .answer) e) f
+  where
+    parts : {x y : Answer} {a b : DTVCCPacket} → x ≡ y → a ≡ b → _≡_ {A = PacketAnswer} (record { answer = x; packet = a }) (record { answer = y; packet = b })
+    parts e f = rw (e, f)
+
+-- so that one outcome has one answer
+pub one-answer : {o : Outcome Packet} {old : DTVCCPacket} (r q : PacketAnswer) → Answers o old r → Answers o old q → r ≡ q
+one-answer r q a b = answer-same r q (a .answer ∙ sym (b .answer)) (a .places ∙ sym (b .places))
 
 -- what either reader gives is within the limits
 pub read-within : (tidy : Bool) (d : List ℕ) → Gives Valid (readAs tidy d)

@@ -1,20 +1,20 @@
 -- How the readers move from block to block. Assumes nothing.
 use mathlib.Core.Path.{_≡_, refl, sym, ap, _∙_}
-use mathlib.Core.Bool.{Bool, true, false, cond, true≢false, _&&_}
+use mathlib.Core.Bool.{Bool, true, false, cond, true≢false}
 use mathlib.Core.List.{List, [], _++_}
 use Prim.Native.Nat.{ℕ, _+_, _-_, _≤_, _<_}
 use native.Mathlib.Omega.{arith}
 use lib.Dec.{eqb, leb, ltb}
 use lib.ListN.{length, take, drop, getD, length-drop, drop-of-length-le}
 use lib.Seq.{drop-drop, length-take-le}
-use borrow.Author.Tests.{eq-eqb, ne-eqb, eqb-true, eqb-false, leb-true, leb-false, ltb-false}
+use borrow.Author.Tests.{eq-eqb, ne-eqb, eqb-true, eqb-false, leb-true, leb-false}
 use Rattle.model.specs.Said.{Outcome, gave, refused, isGiven, mapped}
-use Rattle.model.specs.Block.{Block, needed, isShort, blockIn, readBlockAt, blockLength}
-use Rattle.model.specs.Packet.{plainMove, tidyMove, isNullHeader, kept, blocksFrom}
+use Rattle.model.specs.Block.{Block, blockIn, readBlockAt, blockLength}
+use Rattle.model.specs.Packet.{plainMove, tidyMove, kept, blocksFrom}
 use Rattle.model.proofs.Cases.{by-test, by-cond, mapped-by}
-use Rattle.model.proofs.Blocks.{header-bytes, block-length, written-length}
+use Rattle.model.proofs.Blocks.{header-bytes, not-short, block-length, written-length}
 use Rattle.model.proofs.Walk.{blocks-none, blocks-stop, blocks-next}
-use Rattle.model.proofs.Limits.{Moves, read-from}
+use Rattle.model.proofs.Limits.{Moves, tidy-least, read-from}
 use Rattle.service_headers.specs.declared.Head.{Head}
 use Rattle.service_headers.specs.declared.Head.the-variants.{Whole}
 use Rattle.service_headers.specs.Head.{blockHead, saidShort}
@@ -28,10 +28,6 @@ module _ (d : List ℕ) (n st sz : ℕ) (h : Headed d n st sz) where
 
   part-length : length part ≡ sz
   part-length = length-take-le sz (drop st d) (rw length-drop (omega (arith, h .fits)))
-
-  there : needed d ≤ length d
-  unfolding isShort
-  there = ltb-false _ _ (h .whole)
 
   read-is : (offset : ℕ) → readBlockAt offset d ≡ gave (blockIn d)
   unfolding readBlockAt
@@ -75,13 +71,13 @@ module _ (d : List ℕ) (n st sz : ℕ) (h : Headed d n st sz) where
   move-is false = move-plain
 
   moves : (tidy : Bool) → Moves (wayOf tidy .move d) (length d) (blockLength (blockIn d))
-  moves true = read-from d there .tidy
-  moves false = read-from d there .plain
+  moves true = read-from d (not-short d (h .whole)) .tidy
+  moves false = read-from d (not-short d (h .whole)) .plain
 
 -- every move goes forward
 move-least : (tidy : Bool) (d : List ℕ) → 1 ≤ wayOf tidy .move d
-unfolding tidyMove plainMove
-move-least true d = omega (arith, header-bytes (getD d 0 0))
+unfolding plainMove
+move-least true d = tidy-least d
 move-least false d =
     by-cond (λ k. 1 ≤ k) (eqb (length (blockIn d .payload)) 0) (λ _. omega arith)
     (λ e. let some : 1 ≤ length (blockIn d .payload) = omega (arith, eqb-false (length (blockIn d .payload)) 0 e) in
@@ -145,11 +141,6 @@ pub given-mapped : {A B : Type 0} (f : A → B) (o : Outcome A) → isGiven (map
 given-mapped f (gave x) = refl
 given-mapped f (refused why) = refl
 
--- where the reader stops
-stops-is : (tidy : Bool) (d : List ℕ) → (tidy && isNullHeader d) ≡ wayOf tidy .stops d
-stops-is true d = refl
-stops-is false d = refl
-
 -- the first `end` of some bytes
 module _ (b : List ℕ) (end : ℕ) (fits : end ≤ length b) where
   -- there are so many
@@ -166,13 +157,13 @@ module _ (b : List ℕ) (end : ℕ) (fits : end ≤ length b) where
     pub from-through : throughAt b end tidy here ≡ true → blocksIn b end tidy here ≡ gave []
     from-through e =
         by-test (leb end here) (λ h. from-none (leb-true end here h))
-        (λ h. blocks-stop (wayOf tidy) here (drop here (take end b)) (sym (stops-is tidy (drop here (take end b))) ∙ (simp h at e)))
+        (λ h. blocks-stop (wayOf tidy) here (drop here (take end b)) (simp h at e))
 
     -- else some are left, and it does not stop there
     pub not-through : throughAt b end tidy here ≡ false → (here < end) × (wayOf tidy .stops (drop here (take end b)) ≡ false)
     not-through e =
         by-test (leb end here) (λ h. absurd (true≢false (simp h at e)))
-        (λ h. (leb-false end here h, sym (stops-is tidy (drop here (take end b))) ∙ (simp h at e)))
+        (λ h. (leb-false end here h, simp h at e))
 
     -- no bytes read
     pub given-none : end ≤ here → true ≡ isGiven (blocksIn b end tidy here)

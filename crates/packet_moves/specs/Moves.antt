@@ -1,12 +1,12 @@
 -- How the two readers go over the bytes of a packet. No public contract of `packet` reaches this file. Assumes nothing.
-use mathlib.Core.Bool.{Bool, cond, _&&_, _||_}
+use mathlib.Core.Bool.{Bool, cond, _||_}
 use mathlib.Core.List.{List, [], _∷_}
 use Prim.Native.Nat.{ℕ, _+_}
 use lib.Dec.{eqb, leb, ltb}
 use lib.ListN.{length, getD, take, drop}
 use Rattle.model.specs.Said.{Outcome}
 use Rattle.model.specs.Block.{Block}
-use Rattle.model.specs.Packet.{Packet, sequenceIn, isNullHeader, Way, plainly, tidily, blocksFrom, readPacket, readTidy}
+use Rattle.model.specs.Packet.{Packet, sequenceIn, Way, plainly, tidily, blocksFrom, readPacket, readTidy}
 
 -- the ways of the two readers
 abbrev pub wayOf : Bool → Way
@@ -32,9 +32,9 @@ keptFor number part = cond (eqb number 0) [] (cond (eqb (length part) 0) [] (rec
 abbrev pub blocksIn : List ℕ → ℕ → Bool → ℕ → Outcome (List Block)
 blocksIn d end tidy place = blocksFrom (wayOf tidy) place 0 (drop place (take end d))
 
--- whether a reader of the first `end` bytes is through with them at a place: none is left, or it is the tidy reader and a null header begins there [T2]
+-- whether a reader of the first `end` bytes is through with them at a place: none is left, or it stops there [T2]
 abbrev pub throughAt : List ℕ → ℕ → Bool → ℕ → Bool
-throughAt d end tidy place = leb end place || (tidy && isNullHeader (drop place (take end d)))
+throughAt d end tidy place = leb end place || wayOf tidy .stops (drop place (take end d))
 
 -- the packet of these blocks, by its first byte
 abbrev pub packetWith : List ℕ → List Block → Packet

@@ -1,4 +1,5 @@
-// How the readers go over the bytes of a packet: the size that its header says, how far they move on, and the test whether bytes read.
+// How the readers go over the bytes of a packet: the size that its header says, how far they move on, where they are through, and the test whether bytes
+// read.
 ghost use mathlib.Core.Path.{_≡_};
 ghost use mathlib.Core.Bool.{false};
 ghost use Prim.Native.Nat.{_≤_};

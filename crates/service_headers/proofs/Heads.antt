@@ -11,12 +11,12 @@ use lib.ListN.{length, take, drop, getD, set, replicate, length-replicate, lengt
 use lib.Seq.{sets, getD-take, getD-drop, set-out}
 use types.Run.{OneOf, miss}
 use denote.Enum.Declared.{tagOf}
-use borrow.Author.Tests.{eq-eqb, ne-eqb, lt-ltb, le-ltb, ltb-false}
+use borrow.Author.Tests.{eq-eqb, ne-eqb, lt-ltb, le-ltb}
 use Rattle.model.specs.Said.{refused}
 use Rattle.model.specs.Block.{Block, blockSize, headerLength, numberIn, isHeaderShort, needed, isShort, shortAt, readBlockAt, writtenHeader, writtenBlock, blockLength}
 use Rattle.model.specs.Packet.{isNullHeader}
 use Rattle.model.proofs.Cases.{by-test}
-use Rattle.model.proofs.Blocks.{header-one, header-two, header-bare, header-bytes, header-written, written-header-most, written-length}
+use Rattle.model.proofs.Blocks.{header-one, header-two, header-bare, header-bytes, not-short, header-written, written-header-most, written-length}
 use Rattle.model.proofs.Limits.{all-there}
 use Rattle.service_headers.specs.declared.Head.{Head}
 use Rattle.service_headers.specs.declared.Head.the-variants.{Whole, HeaderShort, BodyShort}
@@ -176,11 +176,6 @@ pub record Headed (d : List ℕ) (n st sz : ℕ) : Type 0 where
 -- what is said of a header is not that it is whole: it is one of the two other cases of `Head`
 abbrev pub NotWhole : Head → Type 0
 NotWhole h = OneOf (1 ∷ 2 ∷ []) (tagOf the-type h)
-
--- no byte is missing
-not-short : (d : List ℕ) → isShort d ≡ false → needed d ≤ length d
-unfolding isShort
-not-short d e = ltb-false _ _ e
 
 -- an answer that is whole came by the last way, with these values
 whole-parts : (b c : Bool) (k n st sz n′ st′ sz′ : ℕ) → cond b (cond c (HeaderShort k) (BodyShort k)) (Whole n st sz) ≡ Whole n′ st′ sz′

@@ -88,13 +88,13 @@ keeps t c =
     keep-room _ _ (s .pre .1 .1) (Tidy t c) _ _ (r .through .ensures) (c .before .before .before .if1 .left) _ (c .before .before .head-in .ensures) _ _ _ (c .head .given .1) _ (s .pre .1 .0)
 
 -- some bytes are left
-some-left : (t : ℕ) (c : Headed-at t) → Here t c < End t c
-some-left t c = let r = c .before .before .before .before in left _ _ (r .before .pre .1 .1) (Tidy t c) _ _ (r .through .ensures) (c .before .before .before .if1 .left)
+before-end : (t : ℕ) (c : Headed-at t) → Here t c < End t c
+before-end t c = let r = c .before .before .before .before in left _ _ (r .before .pre .1 .1) (Tidy t c) _ _ (r .through .ensures) (c .before .before .before .if1 .left)
 
 reaches : (t : ℕ) (c : Headed-at t) → Here t c + St t c + Sz t c ≤ End t c
 reaches t c =
     let s = c .before .before .before .before .before in
-    reach _ _ (s .pre .1 .1) (Tidy t c) _ (some-left t c) _ (c .before .before .head-in .ensures) _ _ _ (c .head .given .1)
+    reach _ _ (s .pre .1 .1) (Tidy t c) _ (before-end t c) _ (c .before .before .head-in .ensures) _ _ _ (c .head .given .1)
 
 small : (t : ℕ) (c : Headed-at t) → (St t c ≤ 2) × (Sz t c ≤ 31)
 small t c = head-room _ _ _ _ _ (c .before .before .head-in .ensures) (c .head .given .1)
@@ -103,7 +103,7 @@ small t c = head-room _ _ _ _ _ (c .before .before .head-in .ensures) (c .head .
 within : (t : ℕ) (c : Headed-at t) (m : ℕ) → m ≡ moveFor (Tidy t c) (N t c) (St t c) (Sz t c) → (Here t c + m ≤ End t c) × (1 ≤ m)
 within t c m e =
     let s = c .before .before .before .before .before in
-    move-within _ _ (s .pre .1 .1) (Tidy t c) _ (some-left t c) _ (c .before .before .head-in .ensures) _ _ _ (c .head .given .1) m e
+    move-within _ _ (s .pre .1 .1) (Tidy t c) _ (before-end t c) _ (c .before .before .head-in .ensures) _ _ _ (c .head .given .1) m e
 
 read-blocks-returns : (t : ℕ) → read-blocks-lts.Need-returns (read-blocks-claims t) (read-blocks-at t) read-blocks.Post
 read-blocks-returns t c = search (needs, stored-none)
