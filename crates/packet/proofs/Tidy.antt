@@ -1,7 +1,7 @@
 -- What the tidy reader promises, of any answers that the contracts of `parse_tidy`, `parse` and `write` allow. Assumes nothing.
-use mathlib.Core.Path.{_≡_, ap, _∙_}
+use mathlib.Core.Path.{_≡_, refl, ap, _∙_}
 use mathlib.Core.Bool.{true}
-use mathlib.Core.List.{List, _∷_, _++_}
+use mathlib.Core.List.{List, [], _∷_, _++_}
 use Prim.Native.Nat.{ℕ, suc, _+_, _≤_}
 use native.Mathlib.Omega.{arith}
 use lib.Dec.{ltb}
@@ -12,11 +12,12 @@ use Rattle.caption.specs.declared.Counted.the-variants.{Count}
 use Rattle.caption.specs.Answers.{saidAnswer}
 use Rattle.caption.proofs.Answers.{saidAnswer-injective}
 use Rattle.model.specs.Said.{Said, Outcome, gave, says, putInto, packetLengthWrong}
-use Rattle.model.specs.Block.{Block}
+use Rattle.model.specs.Block.{Block, headerLength, numberIn, blockIn}
 use Rattle.model.specs.Packet.{Packet, sequenceIn, packetSize, isNullHeader, readPacket, readTidy, packetLength, fill, writtenPacket}
 use Rattle.model.proofs.Cases.{by-test}
+use Rattle.model.proofs.Walk.{nothing, more}
 use Rattle.model.proofs.Packets.{Valid, plain-back}
-use Rattle.model.proofs.Fill.{WholeBlocks, Fills, behind-null, filled-tidily, tidy-appended, readers-agree, tidy-bare}
+use Rattle.model.proofs.Fill.{inOne, inTwo, bytes-null, Exactly, WholeBlocks, Fills, behind-null, filled-tidily, tidy-appended, readers-agree, tidy-bare}
 use Rattle.service.specs.Service.{Writes}
 use Rattle.packet.specs.Packet.{Answers, packetOf, blank, validDTVCC}
 use Rattle.packet.specs.declared.DTVCCPacket.{DTVCCPacket}
@@ -28,6 +29,15 @@ use Rattle.packet.proofs.Replies.{one-answer}
 pub tidy-behind-null : (h : ℕ) {front : List ℕ} {bs : List Block} → WholeBlocks front bs → (d e : List ℕ) → isNullHeader d ≡ true → isNullHeader e ≡ true → length d ≡ length e
     → (r q : PacketAnswer) → Answers (readTidy (h ∷ (front ++ d))) blank r → Answers (readTidy (h ∷ (front ++ e))) blank q → r ≡ q
 tidy-behind-null h w d e nd ne same r q a b = one-answer r q (rw (behind-null h w d e nd ne same) at a) b
+
+-- so, for one, 03 21 41 00 21 42 and 03 21 41 FF C0 E1 have one answer
+pub old-bytes : (r q : PacketAnswer) → Answers (readTidy (0x03 ∷ 0x21 ∷ 0x41 ∷ 0x00 ∷ 0x21 ∷ 0x42 ∷ [])) blank r
+    → Answers (readTidy (0x03 ∷ 0x21 ∷ 0x41 ∷ 0xFF ∷ 0xC0 ∷ 0xE1 ∷ [])) blank q → r ≡ q
+unfolding headerLength numberIn blockIn
+old-bytes r q a b =
+    let block : Exactly (0x21 ∷ 0x41 ∷ []) (record { number = 1; payload = 0x41 ∷ [] }) = record { named = λ z. omega (arith, z); long = refl; is = refl } in
+    tidy-behind-null 0x03 (more (0x21 ∷ 0x41 ∷ []) [] _ [] block nothing) (0x00 ∷ 0x21 ∷ 0x42 ∷ []) (0xFF ∷ 0xC0 ∷ 0xE1 ∷ [])
+    (bytes-null (inOne 0x00 _ (omega arith))) (bytes-null (inTwo 0xFF 0xC0 _ (omega arith) (omega arith) refl)) refl r q a b
 
 -- the bytes were read as this packet
 pub record IsRead (p : Packet) (r : PacketAnswer) : Type 0 where
@@ -50,12 +60,12 @@ module _ (p : DTVCCPacket) (out end : List ℕ) (n : ℕ) (wrote : Writes (valid
   bytes = writtenPacket (packetOf p)
 
   -- it was accepted: the packet breaks no limit, and its bytes are there
-  record Written : Type 0 where
+  record AsWritten : Type 0 where
     valid : Valid (packetOf p)
     long : n ≡ length bytes
     front : take n end ≡ bytes
 
-  written : Written
+  written : AsWritten
   unfolding putInto
   written =
       by-test (validDTVCC p)
