@@ -20,7 +20,7 @@ use Rattle.model.proofs.Blocks.{header-one, header-two, header-bare, header-byt
 use Rattle.model.proofs.Limits.{all-there}
 use Rattle.service_headers.specs.declared.Head.{Head}
 use Rattle.service_headers.specs.declared.Head.the-variants.{Whole, HeaderShort, BodyShort}
-use Rattle.service_headers.specs.Head.{blockHead, ToldBy, lengthFor, saidShort}
+use Rattle.service_headers.specs.Head.{blockHead, ByFirstTwo, lengthFor, saidShort}
 use Rattle.basics.proofs.Runs.{sets-append}
 use Rattle.service_headers.proofs.Head.{the-type}
 
@@ -84,16 +84,16 @@ module _ (d : List ℕ) (n h second start : ℕ) (is : length d ≡ n) (first : 
 -- bytes from a place on, of which f says what the first two tell
 module _ {A : Type 0} (f : List ℕ → A) (d : List ℕ) (at : ℕ) (r : A) where
   -- nothing there
-  pub none-at : length d ≤ at → ToldBy f 0 0 0 r → r ≡ f (drop at d)
+  pub none-at : length d ≤ at → ByFirstTwo f 0 0 0 r → r ≡ f (drop at d)
   none-at h by = rw (drop-of-length-le d h) (by [] refl refl (λ _. refl))
 
   -- some
-  pub some-at : (h second n : ℕ) → length d - at ≡ n → h ≡ getD d at 0 → (2 ≤ n → second ≡ getD d (at + 1) 0) → ToldBy f h second n r → r ≡ f (drop at d)
+  pub some-at : (h second n : ℕ) → length d - at ≡ n → h ≡ getD d at 0 → (2 ≤ n → second ≡ getD d (at + 1) 0) → ByFirstTwo f h second n r → r ≡ f (drop at d)
   some-at h second n is first next by =
       by (drop at d) (length-drop at d ∙ is) (first ∙ sym (getD-drop at d 0 0 ∙ rw add-zero)) (λ k. next k ∙ sym (getD-drop at d 1 0))
 
   -- one
-  pub one-at : (h second n : ℕ) → length d - at ≡ n → n ≡ 1 → h ≡ getD d at 0 → ToldBy f h second 1 r → r ≡ f (drop at d)
+  pub one-at : (h second n : ℕ) → length d - at ≡ n → n ≡ 1 → h ≡ getD d at 0 → ByFirstTwo f h second 1 r → r ≡ f (drop at d)
   one-at h second n is one first by = some-at h second 1 (is ∙ one) first (λ k. absurd (omega arith)) by
 
 -- the first `end` bytes, from a place on: how many there are
@@ -115,11 +115,11 @@ module _ (b : List ℕ) (at end n : ℕ) where
 -- and what f says of them
 module _ {A : Type 0} (f : List ℕ → A) (b : List ℕ) (at end n : ℕ) (r : A) (is : n ≡ length (drop at (take end b))) where
   -- nothing there
-  pub none-in : n ≡ 0 → ToldBy f 0 0 0 r → r ≡ f (drop at (take end b))
+  pub none-in : n ≡ 0 → ByFirstTwo f 0 0 0 r → r ≡ f (drop at (take end b))
   none-in z by = none-at f (take end b) at r (omega (arith, length-take end b, so-many b at end n is)) by
 
   -- some: where there is a second, it stands behind the first
-  pub some-in : length b ≡ 128 → (n ≡ 0 → ⊥) → ToldBy f (getD b at 0) (getD b ((at + 1) % 128) 0) n r → r ≡ f (drop at (take end b))
+  pub some-in : length b ≡ 128 → (n ≡ 0 → ⊥) → ByFirstTwo f (getD b at 0) (getD b ((at + 1) % 128) 0) n r → r ≡ f (drop at (take end b))
   some-in whole h by =
       let m = so-many b at end n is in
       some-at f (take end b) at r (getD b at 0) (getD b ((at + 1) % 128) 0) n (rw length-take (sym m)) (sym (getD-take end b at 0 (omega (arith, h))))

@@ -16,8 +16,8 @@ blockHead d =
     (Whole (numberIn d) (headerLength (getD d 0 0)) (blockSize (getD d 0 0)))
 
 -- an answer is what f says of all bytes that are so many and begin so; without a second byte any may stand for it
-abbrev pub ToldBy : {A : Type 0} → (List ℕ → A) → ℕ → ℕ → ℕ → A → Type 0
-ToldBy f first second n r = (d : List ℕ) → length d ≡ n → first ≡ getD d 0 0 → (2 ≤ n → second ≡ getD d 1 0) → r ≡ f d
+abbrev pub ByFirstTwo : {A : Type 0} → (List ℕ → A) → ℕ → ℕ → ℕ → A → Type 0
+ByFirstTwo f first second n r = (d : List ℕ) → length d ≡ n → first ≡ getD d 0 0 → (2 ≤ n → second ≡ getD d 1 0) → r ≡ f d
 
 -- the length of a block by its number and the size of its payload, for which any bytes may stand
 abbrev pub lengthFor : ℕ → ℕ → ℕ

@@ -8,7 +8,7 @@ ghost use lib.Dec.{ltb};
 ghost use Rattle.caption.specs.Answers.{saidRefusal};
 ghost use Rattle.model.specs.Block.{headerLength, writtenHeader};
 ghost use Rattle.model.specs.Packet.{isNullHeader};
-ghost use Rattle.service_headers.specs.Head.{blockHead, ToldBy, lengthFor, saidShort};
+ghost use Rattle.service_headers.specs.Head.{blockHead, ByFirstTwo, lengthFor, saidShort};
 use basics::lesser;
 use caption::Refusal;
 
@@ -42,7 +42,7 @@ fn header_length(h: u8) -> usize
 
 // The header of `n` bytes, of which these are the first two; the first is 0 where there is none.
 fn head_by(h: u8, second: u8, n: usize) -> Head
-    ensures { λ r. ⌜ ToldBy blockHead h second n r ⌝ }
+    ensures { λ r. ⌜ ByFirstTwo blockHead h second n r ⌝ }
 {
     let start = header_length(h);
     let size = (h % 32) as usize;
@@ -109,7 +109,7 @@ pub fn head_in(bytes: &[u8; 128], at: usize, end: usize) -> Head
 
 // Whether the header of `n` bytes, of which these are the first two, is null: its own bytes have to be there, but none of those that it announces.
 fn null_by(h: u8, second: u8, n: usize) -> bool
-    ensures { λ r. ⌜ ToldBy isNullHeader h second n r ⌝ }
+    ensures { λ r. ⌜ ByFirstTwo isNullHeader h second n r ⌝ }
 {
     let own = header_length(h);
     if n < own {
