@@ -127,7 +127,7 @@ module _ (h : ℕ) {front : List ℕ} {bs : List Block} (w : WholeBlocks front b
         right-length ∙ rw (blocks-next tidily (1 + length front) rest some on (tidy-least rest)) (simp short)
 
 -- What the tidy reader gives depends on no byte behind the first null header, nor on that header's own size: behind whole blocks any bytes may stand for
--- others, as many of them, if both begin with a null header [T2].
+-- others, as many of them, if both begin with a null header [T2]. Which the whole blocks of any bytes are is told by `split`.
 pub behind-null : (h : ℕ) {front : List ℕ} {bs : List Block} → WholeBlocks front bs → (d e : List ℕ) → isNullHeader d ≡ true → isNullHeader e ≡ true → length d ≡ length e
     → readTidy (h ∷ (front ++ d)) ≡ readTidy (h ∷ (front ++ e))
 unfolding readTidy readBy
@@ -243,11 +243,12 @@ tidy-back p v some =
 pub readers-agree : (p : Packet) → Valid p → 1 ≤ length (p .blocks) → readPacket (writtenPacket p) ≡ readTidy (writtenPacket p)
 readers-agree p v some = plain-back p v ∙ sym (tidy-back p v some)
 
--- one without blocks is written in one byte, which says 128
+-- a sequence number alone is written in one byte, which says 128
 bare-refused : (q : ℕ) → readTidy (writtenPacket (record { sequence = q; blocks = [] })) ≡ refused (packetLengthWrong 128 1 0)
 unfolding readTidy readBy writtenPacket writtenBlocks packetLength fill
 bare-refused q = rw (bare-size q)
 
+-- so a packet without blocks is refused tidily as it is written [T1]
 pub tidy-bare : (p : Packet) → length (p .blocks) ≡ 0 → readTidy (writtenPacket p) ≡ refused (packetLengthWrong 128 1 0)
 tidy-bare p none =
     let e : p .blocks ≡ [] = drop-of-length-le (p .blocks) {i = 0} (omega arith) in

@@ -63,7 +63,7 @@ pub data Row (One : List ℕ → Block → Type 0) : List ℕ → List Block →
   nothing : Row One [] []
   more : (d rest : List ℕ) (b : Block) (bs : List Block) → One d b → Row One rest bs → Row One (d ++ rest) (kept b bs)
 
--- what holds of each
+-- a row of blocks of one kind is one of any kind that each of them is of
 pub row-each : {One Other : List ℕ → Block → Type 0} → ((d : List ℕ) (b : Block) → One d b → Other d b) → {front : List ℕ} {bs : List Block} → Row One front bs → Row Other front bs
 row-each f nothing = nothing
 row-each f (more d rest b bs x r) = more d rest b bs (f d b x) (row-each f r)
