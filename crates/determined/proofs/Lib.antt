@@ -3,6 +3,7 @@ pub mod Basics
 pub mod Caption
 pub mod ServiceHeaders
 pub mod Service
+pub mod PacketServices
 pub mod PacketEntries
 pub mod PacketWriting
 pub mod PacketMoves
@@ -33,6 +34,7 @@ pub mod CcreadReport
 pub mod ScriptAnswers
 pub mod Asked
 pub mod ScriptBlocks
+pub mod ScriptServices
 pub mod ScriptPackets
 pub mod ScriptParsers
 pub mod ScriptWriters

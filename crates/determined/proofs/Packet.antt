@@ -13,13 +13,15 @@ use Rattle.model.specs.Block.{Block}
 use Rattle.model.specs.Packet.{Packet}
 use Rattle.caption.proofs.Answers.{answerOf, refused-again, saidCounted-injective, saidTruth-injective}
 use Rattle.service.specs.declared.Service.{Service}
-use Rattle.packet.specs.Packet.{Answers}
+use Rattle.packet.specs.Packet.{Answers, saidSet}
 use Rattle.packet.specs.Place.{saidPlace, Placed}
 use Rattle.packet.specs.declared.DTVCCPacket.{DTVCCPacket}
 use Rattle.packet.specs.declared.PacketAnswer.{PacketAnswer}
 use Rattle.packet.specs.declared.Place.{Place}
 use Rattle.packet.specs.declared.Place.the-variants.{Here, Nothing, Refused}
 use Rattle.packet.specs.declared.ServiceAt.{ServiceAt}
+use Rattle.packet.specs.declared.ServiceSet.{ServiceSet}
+use Rattle.packet.specs.declared.ServiceSet.the-variants as set
 use Rattle.determined.proofs.Service.{writes}
 use Rattle.packet.proofs.packet_size.Reads as packet_size
 use Rattle.packet.proofs.reads_in.Reads as ReadsIn
@@ -29,6 +31,8 @@ use Rattle.packet.proofs.DTVCCPacket.free_space.Reads as free_space
 use Rattle.packet.proofs.DTVCCPacket.len.Reads as len
 use Rattle.packet.proofs.DTVCCPacket.is_empty.Reads as is_empty
 use Rattle.packet.proofs.DTVCCPacket.service_count.Reads as service_count
+use Rattle.packet.proofs.DTVCCPacket.service_set.Reads as service_set
+use Rattle.packet.proofs.DTVCCPacket.distinct_services.Reads as distinct_services
 use Rattle.packet.proofs.DTVCCPacket.write.Reads as write
 use Rattle.packet.proofs.DTVCCPacket.service.Reads as service
 use Rattle.packet.proofs.DTVCCPacket.push_service.Reads as push_service
@@ -55,6 +59,19 @@ place-again (Refused why) = refused-again placeOf Refused why
 -- no two places say the same
 saidPlace-injective : Injective saidPlace
 saidPlace-injective = LeftInverse·injective (answerOf placeOf Refused) saidPlace place-again
+
+-- the set that its values tell
+abbrev setOf : List ℕ → ServiceSet
+setOf v = set.Of (getD v 0 0)
+
+-- a set is taken back from what it says
+set-again : LeftInverse (answerOf setOf set.Refused) saidSet
+set-again (set.Of s) = refl
+set-again (set.Refused why) = refused-again setOf set.Refused why
+
+-- no two sets say the same
+saidSet-injective : Injective saidSet
+saidSet-injective = LeftInverse·injective (answerOf setOf set.Refused) saidSet set-again
 
 module _ {A E : Type 0} where
   -- an answer and a packet
@@ -100,6 +117,14 @@ DTVCCPacket-is-empty = said saidTruth-injective
 -- `packet.service_count()`
 pub DTVCCPacket-service-count : Determines (service_count.Post (tt {0}))
 DTVCCPacket-service-count = said saidCounted-injective
+
+-- `packet.service_set()`
+pub DTVCCPacket-service-set : Determines (service_set.Post (tt {0}))
+DTVCCPacket-service-set = said saidSet-injective
+
+-- `packet.distinct_services()`
+pub DTVCCPacket-distinct-services : Determines (distinct_services.Post (tt {0}))
+DTVCCPacket-distinct-services = said saidCounted-injective
 
 -- `packet.write(out)`
 pub DTVCCPacket-write : (κs : Lfts 1) → DeterminesLent (λ e. now (e .1 .0)) (write.Post κs)

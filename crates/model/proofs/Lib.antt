@@ -6,6 +6,7 @@ pub mod Walk
 pub mod Lengths
 pub mod Fill
 pub mod Packets
+pub mod Services
 pub mod Limits
 pub mod Rates
 pub mod Carrying

@@ -2,6 +2,7 @@ pub mod Lists
 pub mod Said
 pub mod Block
 pub mod Packet
+pub mod Services
 pub mod Frame
 pub mod Demux
 pub mod Rate

@@ -1,11 +1,12 @@
 -- What a reader gives and a push leaves breaks no limit and holds what the model says. Assumes nothing.
 use mathlib.Core.Path.{_≡_, refl}
 use mathlib.Core.Bool.{Bool, true}
-use mathlib.Core.List.{List}
+use mathlib.Core.List.{List, flatMap}
 use Prim.Native.Nat.{ℕ}
 use Rattle.model.specs.Lists.{every}
 use Rattle.model.specs.Said.{gave}
-use Rattle.model.specs.Packet.{Packet, readPacket, readTidy, pushBlock, pushRunBy, packetLength, validPacket}
+use Rattle.model.specs.Packet.{Packet, noPacket, readPacket, readTidy, pushBlock, pushRunBy, packetLength, validPacket}
+use Rattle.model.specs.Services.{among, bitsOf, servicesOf}
 use Rattle.model.proofs.Packets.{Valid}
 use Rattle.model.specs.Block.{Block, validBlock}
 use Rattle.model.proofs.Cases.{gives-at}
@@ -13,13 +14,18 @@ use Rattle.model.proofs.Limits.{plain-valid, tidy-valid}
 use Rattle.model.proofs.Pushing.{block-valid, run-valid}
 use Rattle.packet_entries.specs.Fields.{blocksHeld}
 use Rattle.packet.specs.declared.DTVCCPacket.{DTVCCPacket}
-use Rattle.packet.specs.Packet.{packetOf, over, blank, validDTVCC}
+use Rattle.packet.specs.Packet.{packetOf, over, blank, laid, validDTVCC}
 use Rattle.packet.proofs.Holds.{Places, blank-places, within-facts, held-valid, over-holds, over-valid, over-places}
 
 -- the empty places break no limit
 pub blank-valid : validDTVCC blank ≡ true
-unfolding validDTVCC blocksHeld validPacket every packetLength
+unfolding validDTVCC blocksHeld validPacket every packetLength servicesOf bitsOf among
 blank-valid = refl
+
+-- they are what a packet without blocks is laid in
+pub none-laid : laid noPacket ≡ blank
+unfolding over flatMap servicesOf bitsOf among
+none-laid = refl
 
 -- a packet within the limits, laid over any places: it is held, breaks no limit and keeps the places
 pub record Laid (old : DTVCCPacket) (p : Packet) : Type 0 where

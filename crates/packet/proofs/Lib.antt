@@ -5,3 +5,4 @@ pub mod Placed
 pub mod Keeps
 pub mod Refusals
 pub mod Tidy
+pub mod Services

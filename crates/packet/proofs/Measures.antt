@@ -4,25 +4,28 @@ use mathlib.Core.Bool.{Bool, true, false, cond}
 use mathlib.Core.List.{[], _∷_}
 use Prim.Native.Nat.{ℕ, _-_, _≤_, _<_}
 use native.Mathlib.Omega.{arith}
+use lib.Count.{ones}
 use lib.Dec.{eqb}
 use lib.ListN.{length}
 use borrow.Author.Tests.{lt-ltb, le-ltb}
 use Rattle.model.specs.Lists.{every}
 use Rattle.model.specs.Said.{gave, refused, measured, accepted, badValue, badNumber}
 use Rattle.model.specs.Packet.{newPacket, packetLength, packetRoom}
+use Rattle.model.specs.Services.{servicesOf, serviceCount}
+use Rattle.model.proofs.Cases.{by-test}
 use Rattle.model.proofs.Packets.{Valid, length-empty}
+use Rattle.model.proofs.Services.{services-counted}
 use Rattle.caption.proofs.Answers.{measure-bad, measure-good}
 use Rattle.packet_entries.specs.declared.Extent.{Extent}
 use Rattle.packet_entries.specs.declared.Extent.the-variants.{Of, Bad}
-use Rattle.packet_entries.specs.Fields.{validFields}
-use Rattle.packet_entries.specs.Extent.{Sized}
+use Rattle.packet_entries.specs.Extent.{Sized, extentAs}
 use Rattle.packet_entries.proofs.Holds.{blocks-count, tests-agree}
 use Rattle.packet_entries.proofs.Walks as walks
 use Rattle.packet_entries.proofs.Measures.{length-small, sized-valid, sized-length}
 use Rattle.packet.specs.declared.DTVCCPacket.{DTVCCPacket}
 use Rattle.packet.specs.Packet.{packetOf, validDTVCC}
-use Rattle.packet.specs.Replies.{fieldsOf, extentOf}
-use Rattle.packet.proofs.Holds.{Places}
+use Rattle.packet.specs.Replies.{fieldsOf, entriesOf, agrees, extentOf}
+use Rattle.packet.proofs.Holds.{Places, within-facts, held-valid, services-held, agreed-valid, disagreed-invalid}
 
 -- a new packet
 pub new-bad : (q : ℕ) → 3 < q → newPacket q ≡ refused badNumber
@@ -38,7 +41,16 @@ pub new-valid : (q : ℕ) → q ≤ 3 → Valid (record { sequence = q; blocks =
 unfolding every
 new-valid q h = record { sequence = h; blocks = refl; length = omega (arith, length-empty (record { sequence = q; blocks = [] }) refl) }
 
+-- an extent that is given only under a test
+extent-given : (b : Bool) (e : Extent) (l u : ℕ) → cond b e Bad ≡ Of l u → (b ≡ true) × (e ≡ Of l u)
+extent-given true e l u q = (refl, q)
+extent-given false e l u q = let z : _≡_ {A = ℕ} 0 1 = cc in absurd (omega arith)
+
 module _ (p : DTVCCPacket) where
+  -- the extent of its places
+  abbrev extentHere : Extent
+  extentHere = extentAs (p .«seq_no») (p .count) (entriesOf p)
+
   count-is : p .count ≡ length (packetOf p .blocks)
   count-is = sym (blocks-count (fieldsOf p))
 
@@ -50,10 +62,23 @@ module _ (p : DTVCCPacket) where
     pub empty-measured : accepted (cond (eqb (p .count) 0) 1 0 ∷ []) ≡ measured (validDTVCC p) (cond (eqb (length (packetOf p .blocks)) 0) 1 0)
     empty-measured = measure-good _ _ is _ _ e (ap (λ n. cond (eqb n 0) 1 0) count-is)
 
+    -- the set, and its ones
+    pub set-measured : accepted (p .services ∷ []) ≡ measured (validDTVCC p) (servicesOf (packetOf p))
+    set-measured = measure-good _ _ is _ _ e (services-held p (sym is ∙ e))
+
+    pub ones-measured : (n : ℕ) → n ≡ ones (p .services) → accepted (n ∷ []) ≡ measured (validDTVCC p) (serviceCount (packetOf p))
+    ones-measured n q =
+        let ok : validDTVCC p ≡ true = sym is ∙ e in
+        measure-good _ _ is _ _ e (q ∙ ap ones (services-held p ok) ∙ services-counted (packetOf p) (held-valid p (within-facts p ok)))
+
   -- what is measured, by the extent
   module _ (x : Extent) (is : x ≡ extentOf p) where
+    given : (l u : ℕ) → x ≡ Of l u → (agrees p ≡ true) × (extentHere ≡ Of l u)
+    unfolding extentOf
+    given l u q = extent-given (agrees p) extentHere l u (sym is ∙ q)
+
     sized : (l u : ℕ) → x ≡ Of l u → Sized (fieldsOf p) l u
-    sized l u q = walks.extent-sized (fieldsOf p) x is l u q
+    sized l u q = walks.extent-sized (fieldsOf p) extentHere refl l u (given l u q .1)
 
     pub length-few : (l u : ℕ) → x ≡ Of l u → l ≤ 128
     length-few l u q = length-small (fieldsOf p) l u (sized l u q)
@@ -61,16 +86,19 @@ module _ (p : DTVCCPacket) where
     module _ (places : Places p) where
       -- the extent tells whether a limit is broken
       pub invalid : x ≡ Bad → false ≡ validDTVCC p
-      unfolding validDTVCC validFields
-      invalid q = sym (tests-agree (fieldsOf p) (places .payload) ∙ walks.extent-invalid (fieldsOf p) x is q)
+      unfolding extentOf
+      invalid q =
+          by-test (agrees p)
+          (λ a. let here : extentHere ≡ Bad = rw a at (sym is ∙ q) in
+          sym (agreed-valid p places a ∙ tests-agree (fieldsOf p) (places .payload) ∙ walks.extent-invalid (fieldsOf p) extentHere refl here))
+          (λ a. sym (disagreed-invalid p places a))
 
       pub bad-measured : (n : ℕ) → x ≡ Bad → badValue ≡ measured (validDTVCC p) n
       bad-measured n q = measure-bad _ _ (invalid q) n refl
 
       module _ (l u : ℕ) (q : x ≡ Of l u) where
         pub valid : true ≡ validDTVCC p
-        unfolding validDTVCC validFields
-        valid = sym (sized-valid (fieldsOf p) l u (sized l u q) (places .payload))
+        valid = sym (agreed-valid p places (given l u q .0) ∙ sized-valid (fieldsOf p) l u (sized l u q) (places .payload))
 
         length-is : l ≡ packetLength (packetOf p)
         length-is = sym (sized-length (fieldsOf p) l u (sized l u q) (places .payload))

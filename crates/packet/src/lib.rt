@@ -7,11 +7,12 @@ ghost use Rattle.caption.specs.Answers.{saidCounted, saidTruth};
 ghost use Rattle.model.specs.Said.{gave, checked, measured};
 ghost use Rattle.model.specs.Packet.{packetSize, readPacket, readTidy, newPacket, packetLength, packetRoom, writtenPacket, pushBlock, pushRun, pushRunSingle, pushRunBy};
 ghost use Rattle.model.specs.Packet as model;
+ghost use Rattle.model.specs.Services.{servicesOf, serviceCount};
 ghost use Rattle.service.specs.Service.{Writes, blockOf, validService};
 ghost use Rattle.service.specs.Service as service;
-ghost use Rattle.packet.specs.Packet.{Answers, packetOf, blank, validDTVCC};
+ghost use Rattle.packet.specs.Packet.{Answers, packetOf, blank, validDTVCC, saidSet};
 ghost use Rattle.packet.specs.Place.{Placed};
-ghost use Rattle.packet.specs.Replies.{unreadFor, answerFrom, answerTo, extentOf, countAfter, answerOf};
+ghost use Rattle.packet.specs.Replies.{agrees, extentOf, unreadFor, refusedOf, answerFrom, answerTo, countAfter, servicesAfter, answerOf};
 use basics::MOST_PACKET;
 use caption::Answer;
 use caption::Counted;
@@ -21,10 +22,11 @@ use packet_blocks::Filled;
 use packet_entries::Extent;
 use service::Service;
 
-// A packet: block i has number `numbers[i]` and the next `sizes[i]` bytes of `payload`.
+// A packet: block i has number `numbers[i]` and the next `sizes[i]` bytes of `payload`. Bit k of `services` is 1 where a block has number k.
 pub struct DTVCCPacket {
     pub seq_no: u8,
     pub count: usize,
+    pub services: u64,
     pub numbers: [u8; 63],
     pub sizes: [u8; 63],
     pub payload: [u8; 127],
@@ -34,6 +36,12 @@ pub struct DTVCCPacket {
 pub struct PacketAnswer {
     pub answer: Answer,
     pub packet: DTVCCPacket,
+}
+
+// The set of a packet's services.
+pub enum ServiceSet {
+    Of(u64),
+    Refused(Refusal),
 }
 
 // Whether there is a block at a place.
@@ -62,6 +70,7 @@ impl DTVCCPacket {
             packet: DTVCCPacket {
                 seq_no,
                 count: 0,
+                services: 0,
                 numbers: [0u8; 63],
                 sizes: [0u8; 63],
                 payload: [0u8; 127],
@@ -119,6 +128,26 @@ impl DTVCCPacket {
         Counted::Refused(Refusal::BadValue)
     }
 
+    // The set of the packet's services: bit k for service k [P15].
+    pub fn service_set(self) -> ServiceSet
+        ensures { λ r. ⌜ saidSet r ≡ measured (validDTVCC self) (servicesOf (packetOf self)) ⌝ }
+    {
+        if self.is_valid() {
+            return ServiceSet::Of(self.services);
+        }
+        ServiceSet::Refused(Refusal::BadValue)
+    }
+
+    // How many services the packet has: as many as its set has ones [P16].
+    pub fn distinct_services(self) -> Counted
+        ensures { λ r. ⌜ saidCounted r ≡ measured (validDTVCC self) (serviceCount (packetOf self)) ⌝ }
+    {
+        if self.is_valid() {
+            return Counted::Count(packet_services::how_many(self.services));
+        }
+        Counted::Refused(Refusal::BadValue)
+    }
+
     // The block at a place [P1].
     pub fn service(self, place: usize) -> ServiceAt
         ensures { λ r. ⌜ Placed (checked (validDTVCC self) (gave (take 1 (drop place (packetOf self .blocks))))) r ⌝ }
@@ -146,6 +175,9 @@ impl DTVCCPacket {
         let mut numbers = self.numbers;
         let mut sizes = self.sizes;
         let mut payload = self.payload;
+        if !self.services_agree() {
+            return self.refused();
+        }
         let r = packet_pushes::push_block(
             service,
             self.seq_no,
@@ -154,7 +186,7 @@ impl DTVCCPacket {
             &mut sizes,
             &mut payload,
         );
-        answered(self.seq_no, self.count, r, numbers, sizes, payload)
+        answered(self.seq_no, self.count, self.services, r, numbers, sizes, payload)
     }
 
     // Pushes a code, a run of bytes, to the latest block of its number that has room, or as a new block [P11] [P12].
@@ -199,6 +231,9 @@ impl DTVCCPacket {
         let numbers = self.numbers;
         let sizes = self.sizes;
         let payload = self.payload;
+        if !self.services_agree() {
+            return Counted::Refused(Refusal::BadValue);
+        }
         packet_writing::write(self.seq_no, self.count, &numbers, &sizes, &payload, out)
     }
 
@@ -218,7 +253,28 @@ impl DTVCCPacket {
     {
         let numbers = self.numbers;
         let sizes = self.sizes;
+        if !self.services_agree() {
+            return Extent::Bad;
+        }
         packet_entries::extent_of(self.seq_no, self.count, &numbers, &sizes)
+    }
+
+    // Whether the set is that of the numbers of the blocks.
+    fn services_agree(self) -> bool
+        ensures { λ r. ⌜ r ≡ agrees self ⌝ }
+    {
+        let numbers = self.numbers;
+        self.services == packet_services::services_of(&numbers, self.count)
+    }
+
+    // A packet that breaks a limit, handed back.
+    fn refused(self) -> PacketAnswer
+        ensures { λ r. ⌜ r ≡ refusedOf self ⌝ }
+    {
+        PacketAnswer {
+            answer: Answer::Refused(Refusal::BadValue),
+            packet: self,
+        }
     }
 
     // Pushes a run to the latest block of its number, or as a new block: where there is no such block, or where it has no
@@ -229,6 +285,9 @@ impl DTVCCPacket {
         let mut numbers = self.numbers;
         let mut sizes = self.sizes;
         let mut payload = self.payload;
+        if !self.services_agree() {
+            return self.refused();
+        }
         let r = packet_pushes::push_run(
             needs_room,
             service_no,
@@ -239,7 +298,7 @@ impl DTVCCPacket {
             &mut sizes,
             &mut payload,
         );
-        answered(self.seq_no, self.count, r, numbers, sizes, payload)
+        answered(self.seq_no, self.count, self.services, r, numbers, sizes, payload)
     }
 }
 
@@ -266,6 +325,7 @@ fn unread(why: Refusal) -> PacketAnswer
         packet: DTVCCPacket {
             seq_no: 0,
             count: 0,
+            services: 0,
             numbers: [0u8; 63],
             sizes: [0u8; 63],
             payload: [0u8; 127],
@@ -281,11 +341,13 @@ fn packet_of(r: Filled) -> PacketAnswer
     let numbers = r.numbers;
     let sizes = r.sizes;
     let payload = r.payload;
+    let services = packet_services::services_of(&numbers, r.count);
     PacketAnswer {
         answer,
         packet: DTVCCPacket {
             seq_no: r.seq_no,
             count: r.count,
+            services,
             numbers,
             sizes,
             payload,
@@ -297,18 +359,20 @@ fn packet_of(r: Filled) -> PacketAnswer
 fn answered(
     seq_no: u8,
     before: usize,
+    services: u64,
     r: Counted,
     numbers: [u8; 63],
     sizes: [u8; 63],
     payload: [u8; 127],
 ) -> PacketAnswer
-    ensures { λ a. ⌜ a ≡ answerOf «seq_no» before r numbers sizes payload ⌝ }
+    ensures { λ a. ⌜ a ≡ answerOf «seq_no» before services r numbers sizes payload ⌝ }
 {
     PacketAnswer {
         answer: answer_to(r),
         packet: DTVCCPacket {
             seq_no,
             count: count_after(r, before),
+            services: services_after(r, services, &numbers),
             numbers,
             sizes,
             payload,
@@ -333,6 +397,16 @@ fn count_after(r: Counted, before: usize) -> usize
     match r {
         Counted::Refused(_) => before,
         Counted::Count(count) => count,
+    }
+}
+
+// The set of services after a push, by how many blocks there then are; one that is refused leaves the set as it was.
+fn services_after(r: Counted, before: u64, numbers: &[u8; 63]) -> u64
+    ensures { λ s. ⌜ s ≡ servicesAfter r before (now (numbers .entry)) ⌝ }
+{
+    match r {
+        Counted::Refused(_) => before,
+        Counted::Count(count) => packet_services::services_of(numbers, count),
     }
 }
 

@@ -15,6 +15,7 @@ use Rattle.caption.specs.declared.Counted.{Counted}
 use Rattle.caption.specs.declared.Counted.the-variants.{Count, Refused}
 use Rattle.caption.specs.Answers.{saidRefusal}
 use Rattle.model.specs.Block.{Block}
+use Rattle.model.specs.Services.{numbersOf}
 use Rattle.model.proofs.Cases.{by-cond}
 use Rattle.service_headers.specs.declared.Head.{Head}
 use Rattle.service_headers.specs.declared.Head.the-variants.{Whole}
@@ -22,7 +23,7 @@ use Rattle.service_headers.specs.Head.{blockHead, saidShort}
 use Rattle.service_headers.proofs.Heads.{NotWhole, headed}
 use Rattle.basics.proofs.Runs.{sets-append, sets-more}
 use Rattle.packet_blocks.specs.declared.Kept.{Kept}
-use Rattle.packet_entries.specs.Fields.{Arrays, numbersOf, sizesOf, payloadsOf, blockFrom}
+use Rattle.packet_entries.specs.Fields.{Arrays, sizesOf, payloadsOf, blockFrom}
 use Rattle.packet_moves.specs.Moves.{wayOf, moveFor, keptFor, blocksIn, throughAt}
 use Rattle.packet_moves.proofs.Moves.{refused-at, next-is, body-length, move-covers, long, from-through, not-through, in-front, reach}
 use Rattle.packet_blocks.specs.Reading.{LaidIn, keptAfter, Keeps, Stored, Room, KeepRoom}

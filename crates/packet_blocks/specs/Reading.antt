@@ -11,9 +11,10 @@ use Rattle.caption.specs.Answers.{saidRefusal, saidAnswer}
 use Rattle.model.specs.Said.{Outcome, gave, refused, says, after, mapped}
 use Rattle.model.specs.Block.{Block}
 use Rattle.model.specs.Packet.{Packet}
+use Rattle.model.specs.Services.{numbersOf}
 use Rattle.packet_blocks.specs.declared.Kept.{Kept}
 use Rattle.packet_blocks.specs.declared.Filled.{Filled}
-use Rattle.packet_entries.specs.Fields.{Fields, Arrays, fields, zeros, laidOver, numbersOf, sizesOf, payloadsOf}
+use Rattle.packet_entries.specs.Fields.{Fields, Arrays, fields, zeros, laidOver, sizesOf, payloadsOf}
 
 -- blocks laid into the three arrays, as block `count` on, with their payloads from `used` on
 pub record LaidIn (bs : List Block) (at : Kept) (a b : Arrays) : Type 0 where

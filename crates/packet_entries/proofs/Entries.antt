@@ -12,11 +12,12 @@ use borrow.Author.Tests.{ne-eqb, le-leb, leb-true}
 use Rattle.model.specs.Lists.{every}
 use Rattle.model.specs.Block.{Block, blockLength}
 use Rattle.model.specs.Packet.{carriable, blocksLength}
+use Rattle.model.specs.Services.{numbersOf}
 use Rattle.model.proofs.Cases.{by-test, both, and-both}
 use Rattle.model.proofs.Blocks.{Carriable, facts-carriable, carriable-facts, block-length, written-length}
 use Rattle.service_headers.specs.Head.{lengthFor}
 use Rattle.service_headers.proofs.Heads.{length-by}
-use Rattle.packet_entries.specs.Fields.{blocksHeld, sumOf, numbersOf, sizesOf, payloadsOf}
+use Rattle.packet_entries.specs.Fields.{blocksHeld, sumOf, sizesOf, payloadsOf}
 use Rattle.packet_entries.specs.Entries.{Entry, entries, cut, goodEntry, goodEntries, entryLengths, usedBy}
 
 -- as many entries as were asked for
@@ -47,6 +48,13 @@ unfolding blocksHeld
 held-at k i ns ss d h =
     let e : k - i ≡ suc (k - (i + 1)) = omega arith in
     rw (e, getD-drop i ns 0 0, getD-drop i ss 0 0, drop-drop 1 i ns, drop-drop 1 i ss, add-zero)
+
+-- the numbers of the blocks are the first numbers
+pub held-numbers : (k : ℕ) (ns ss d : List ℕ) → k ≤ length ns → numbersOf (blocksHeld k ns ss d) ≡ take k ns
+unfolding blocksHeld
+held-numbers zero ns ss d h = refl
+held-numbers (suc k) [] ss d h = absurd (omega arith)
+held-numbers (suc k) (n ∷ ns) ss d h = ap (λ (l : List ℕ). n ∷ l) (held-numbers k ns (drop 1 ss) (drop (getD ss 0 0) d) (omega arith))
 
 -- an entry within the limits, as facts
 pub record Good (n k : ℕ) : Type 0 where

@@ -10,11 +10,12 @@ use lib.Seq.{sets, length-sets}
 use borrow.Author.Tests.{le-leb, leb-true, eqb-true, eqb-false}
 use Rattle.model.specs.Block.{Block}
 use Rattle.model.specs.Packet.{Packet, blocksLength, packetLength, validPacket}
+use Rattle.model.specs.Services.{numbersOf}
 use Rattle.model.proofs.Cases.{by-test, both}
 use Rattle.model.proofs.Packets.{Valid, valid-facts, facts-valid, length-some, length-empty}
 use Rattle.model.proofs.Limits.{few-blocks}
 use Rattle.basics.proofs.Runs.{sets-front}
-use Rattle.packet_entries.specs.Fields.{Fields, Places, packetIn, sumOf, validFields, laidOver, numbersOf, sizesOf, payloadsOf}
+use Rattle.packet_entries.specs.Fields.{Fields, Places, packetIn, sumOf, validFields, laidOver, sizesOf, payloadsOf}
 use Rattle.packet_entries.specs.Entries.{Entry, entriesOf, cut, goodEntries, entryLengths, usedBy, validAs, validEntries}
 use Rattle.packet_entries.proofs.Entries.{entries-length, held-cut, used-all, used-least, cut-length, cut-carriable, cut-good, cut-lengths, entryOf, entries-laid, cut-laid, laid-good, laid-lengths, payloads-length}
 

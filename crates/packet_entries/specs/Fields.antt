@@ -11,6 +11,7 @@ use denote.Ref.{RefT, now}
 use denote.Triple.Both.{Both}
 use Rattle.model.specs.Block.{Block}
 use Rattle.model.specs.Packet.{Packet, validPacket}
+use Rattle.model.specs.Services.{numbersOf}
 
 -- the first k blocks of such arrays: block i has the i-th number and the next of the i-th size of payload
 unfoldable pub blocksHeld : ℕ → List ℕ → List ℕ → List ℕ → List Block
@@ -80,10 +81,6 @@ sumOf sizes = foldr _+_ 0 sizes
 -- whether the blocks and their payloads are in their places, and the packet breaks no limit
 unfoldable pub validFields : Fields → Bool
 validFields p = leb (p .count) 63 && leb (sumOf (take (p .count) (p .sizes))) 127 && validPacket (packetIn p)
-
--- the numbers of blocks
-abbrev pub numbersOf : List Block → List ℕ
-numbersOf bs = map (λ (b : Block). b .number) bs
 
 -- the sizes of their payloads
 abbrev pub sizesOf : List Block → List ℕ

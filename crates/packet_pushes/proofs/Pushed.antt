@@ -9,8 +9,9 @@ use lib.ListN.{length, take, drop, getD, set, length-append, length-set, take-ap
 use lib.Seq.{sets, length-take-le, drop-drop, getD-take, map-set-same, take-set-lt, drop-set-lt}
 use Rattle.model.specs.Block.{Block, withRun}
 use Rattle.model.specs.Packet.{noBlock, withBlocks, blockAt, extended}
+use Rattle.model.specs.Services.{numbersOf}
 use Rattle.basics.proofs.Runs.{sets-front, sets-append, sets-own, sets-behind}
-use Rattle.packet_entries.specs.Fields.{Fields, Arrays, Places, fields, arraysOf, packetIn, laidOver, numbersOf, sizesOf, payloadsOf, blockFrom}
+use Rattle.packet_entries.specs.Fields.{Fields, Arrays, Places, fields, arraysOf, packetIn, laidOver, sizesOf, payloadsOf, blockFrom}
 use Rattle.packet_entries.specs.Entries.{Entry, entriesOf, cut, usedBy}
 use Rattle.packet_entries.specs.Extent.{Sized, sumTo}
 use Rattle.packet_entries.proofs.Entries.{used-sum, entries-numbers, entries-sizes, cut-numbers, cut-sizes, cut-payloads}

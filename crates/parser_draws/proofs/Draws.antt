@@ -1,6 +1,6 @@
 -- Laws of taking an item, one for each way out of a function. Assumes nothing.
 use mathlib.Core.Path.{_≡_, refl, sym, ap, _∙_}
-use mathlib.Core.List.{List, _∷_, _++_, flatMap}
+use mathlib.Core.List.{List, _∷_, _++_}
 use mathlib.Core.Bool.{Bool, true, false, _&&_, true≢false}
 use Prim.Native.Nat.{ℕ, suc, _+_, _-_, _*_, _%_, _≤_, _<_}
 use native.Mathlib.Numerals.{add-one}
@@ -17,10 +17,11 @@ use Rattle.model.specs.Said.{Outcome, gave, refused, isGiven, mapped, after}
 use Rattle.model.specs.Packet as model
 use Rattle.model.specs.Packet.{noPacket, readPacket, reads}
 use Rattle.model.proofs.Cases.{by-test, both}
-use Rattle.packet.specs.Packet.{laid, blank, over}
+use Rattle.packet.specs.Packet.{laid, blank}
 use Rattle.packet.specs.Packet as packet
 use Rattle.packet.specs.declared.DTVCCPacket.{DTVCCPacket}
 use Rattle.packet.specs.declared.PacketAnswer.{PacketAnswer}
+use Rattle.packet.proofs.Keeps.{none-laid}
 use Rattle.packet.proofs.Refusals.{accepted-reads, refused-reads}
 use Rattle.slots.specs.declared.Slot.{Slot}
 use Rattle.parser_rings.specs.Ring.{slotRun, slotFine}
@@ -101,9 +102,8 @@ slid-done k l a i n e h j = let q : i ≡ n = omega arith in rw q at e
 
 -- bytes that do not read leave no packet
 unread-blank : (o : Outcome model.Packet) → isGiven o ≡ false → after blank (mapped laid o) ≡ laid noPacket
-unfolding over flatMap
 unread-blank (gave p) e = absurd (true≢false e)
-unread-blank (refused why) e = refl
+unread-blank (refused why) e = sym none-laid
 
 -- a slot, read
 module _ (s : Slot) where

@@ -1,6 +1,7 @@
 // Reads one packet, or a thousand frames of 95 bytes, a million times, to set the time beside the crate's
 // (`oracle/src/bin/read_speed.rs`). Standard input is the packet or the frames; the line written is how many items were
-// read and a sum over every block, so that no reading can be left out, and both programs write the same.
+// read and a sum over every block and every packet's set of services, so that no reading can be left out, and both
+// programs write the same.
 ghost use mathlib.Core.Path.{_≡_};
 ghost use Prim.Native.Nat.{_≤_};
 ghost use lib.ListN.{length};
@@ -67,7 +68,8 @@ fn with_packet(packet: DTVCCPacket, before: u64) -> u64 {
     let numbers = packet.numbers;
     let sizes = packet.sizes;
     let payload = packet.payload;
-    with_blocks(packet.count, &numbers, &sizes, &payload, before)
+    let sum = with_blocks(packet.count, &numbers, &sizes, &payload, before);
+    mix(sum, packet.services)
 }
 
 // The totals of every frame: items are drawn until none is left, and then the next frame is read. One loop over one demultiplexer: a

@@ -12,6 +12,7 @@ use Rattle.packet.specs.Packet.{packetOf, validDTVCC, over, blank}
 use Rattle.script_answers.specs.Script.{answerLine}
 use Rattle.script_answers.specs.Steps.{Effect, lays, makes, reads, becomes, stays, chosen, writtenLine}
 use Rattle.script_answers.specs.Rows.{Row, row, exactly, numberAndRun, allOfThem, byte}
+use Rattle.script_services.specs.Sets.{setIn, servicesLine}
 use Rattle.script_packets.specs.Lines.{packetMeasures, readPacketLine}
 
 -- a new packet of a sequence number
@@ -53,13 +54,23 @@ readsTidily bytes p = reads readPacketLine over blank p (readTidy bytes)
 -- the packet's sequence number and its count of blocks, whatever they break
 abbrev pub setsPacket : ℕ → ℕ → DTVCCPacket → Effect DTVCCPacket
 setsPacket sequence count p =
-    becomes (record { «seq_no» = sequence; count = count; numbers = p .numbers; sizes = p .sizes; payload = p .payload })
+    becomes (record { «seq_no» = sequence; count = count; services = p .services; numbers = p .numbers; sizes = p .sizes; payload = p .payload })
+
+-- the packet's set, whatever it breaks
+abbrev pub setsServices : ℕ → DTVCCPacket → Effect DTVCCPacket
+setsServices services p =
+    becomes (record { «seq_no» = p .«seq_no»; count = p .count; services = services; numbers = p .numbers; sizes = p .sizes; payload = p .payload })
+
+-- the packet's services, and how many they are
+abbrev pub tellsServices : DTVCCPacket → Effect DTVCCPacket
+tellsServices p = stays p (servicesLine p)
 
 -- those that leave the packet as it is
 unfoldable pub tellingRows : DTVCCPacket → List (Row DTVCCPacket)
 tellingRows p =
     row "l" (exactly 0) (λ a. measuresPacket p)
     ∷ row "o" (exactly 1) (λ a. writesPacket (byte a 0) p)
+    ∷ row "z" (exactly 0) (λ a. tellsServices p)
     ∷ []
 
 -- before those the ones that push to it
@@ -77,4 +88,5 @@ packetRows s p =
     ∷ row "p" allOfThem (λ a. readsPlainly a p)
     ∷ row "t" allOfThem (λ a. readsTidily a p)
     ∷ row "K" (exactly 2) (λ a. setsPacket (byte a 0) (byte a 1) p)
+    ∷ row "Z" (exactly 8) (λ a. setsServices (setIn a) p)
     ∷ pushingRows s p

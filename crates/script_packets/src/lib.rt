@@ -10,9 +10,10 @@ ghost use Rattle.program_text.specs.Laid.{Laid};
 ghost use Rattle.program_lines.specs.Lines.{blockText};
 ghost use Rattle.script_answers.specs.Steps.{Runs, Lends, tells, chosen};
 ghost use Rattle.script_answers.specs.Rows.{byte, sought, Asked};
+ghost use Rattle.script_services.specs.Sets.{setIn};
 ghost use Rattle.script_packets.specs.Lines.{blocksText, blocksIn, heldText, heldLine, readPacketLine};
 ghost use Rattle.script_packets.specs.Packets.{renewsPacket, pushesRun, pushesSingle, measuresPacket, writesPacket, packetRead};
-ghost use Rattle.script_packets.specs.Packets.{setsPacket, tellingRows, pushingRows, packetRows};
+ghost use Rattle.script_packets.specs.Packets.{setsPacket, setsServices, tellsServices, tellingRows, pushingRows, packetRows};
 use basics::MOST_BLOCKS;
 use caption::Answer;
 use packet::DTVCCPacket;
@@ -23,6 +24,8 @@ use program_records::part;
 use program_text::put_newline;
 use program_text::put_word;
 use script_answers::asks;
+use script_services::put_services_line;
+use script_services::set_in;
 use service::Service;
 
 // Whether an operation was run, the place behind its line, and the packet.
@@ -207,6 +210,32 @@ fn measure_packet(out: &mut [u8], at: usize, packet: DTVCCPacket) -> OnPacket
     }
 }
 
+// The set of the packet set, whatever it breaks.
+fn set_services(out: &mut [u8], at: usize, before: DTVCCPacket, args: &[u8]) -> OnPacket
+    ensures { λ r. ⌜ Runs (setsServices (setIn (now (args .entry))) before) (now (out .entry)) at (r .ran) (r .laid) (r .packet) (now (out .exit)) ⌝ }
+{
+    let mut packet = before;
+    packet.services = set_in(args);
+    let laid = script_answers::put_ok_line(out, at);
+    OnPacket {
+        ran: true,
+        laid,
+        packet,
+    }
+}
+
+// The services of the packet: their set, and how many they are.
+fn tell_services(out: &mut [u8], at: usize, packet: DTVCCPacket) -> OnPacket
+    ensures { λ r. ⌜ Runs (tellsServices packet) (now (out .entry)) at (r .ran) (r .laid) (r .packet) (now (out .exit)) ⌝ }
+{
+    let laid = put_services_line(out, at, packet);
+    OnPacket {
+        ran: true,
+        laid,
+        packet,
+    }
+}
+
 // The packet written to an output of as many bytes as the argument says.
 fn write_packet(out: &mut [u8], at: usize, packet: DTVCCPacket, args: &[u8]) -> OnPacket
     ensures { λ r. ⌜ Runs (writesPacket (byte (now (args .entry)) 0) packet) (now (out .entry)) at (r .ran) (r .laid) (r .packet) (now (out .exit)) ⌝ }
@@ -231,6 +260,9 @@ fn on_packet_telling(out: &mut [u8], at: usize, p: DTVCCPacket, op: u8, args: &[
     }
     if asks(op, b'o', n == 1) {
         return write_packet(out, at, p, args);
+    }
+    if asks(op, b'z', n == 0) {
+        return tell_services(out, at, p);
     }
     OnPacket {
         ran: false,
@@ -286,6 +318,9 @@ pub fn on_packet(
     }
     if asks(op, b'K', n == 2) {
         return set_packet(out, at, p, args);
+    }
+    if asks(op, b'Z', n == 8) {
+        return set_services(out, at, p, args);
     }
     on_packet_pushing(out, at, s, p, op, args)
 }

@@ -34,16 +34,23 @@ fn make() -> Vec<u8> {
     frames
 }
 
-/// The sum with every block of the packet.
-fn with_blocks(packet: &DTVCCPacket, before: u64) -> u64 {
-    packet.services().iter().fold(before, |sum, service| {
+/// 31 times the sum and x, without the carry.
+fn mix(sum: u64, x: u64) -> u64 {
+    sum.wrapping_mul(31).wrapping_add(x)
+}
+
+/// The sum with every block of the packet, and with the set of its services, bit k for service k.
+fn with_packet(packet: &DTVCCPacket, before: u64) -> u64 {
+    let mut services = 0;
+    let sum = packet.services().iter().fold(before, |sum, service| {
         let (first, size) = match service.codes().first() {
             Some(code) => (code.bytes()[0], code.byte_len()),
             None => (0, 0),
         };
-        let worth = service.number() as u64 + first as u64 + size as u64;
-        sum.wrapping_mul(31).wrapping_add(worth)
-    })
+        services |= 1u64 << service.number();
+        mix(sum, service.number() as u64 + first as u64 + size as u64)
+    });
+    mix(sum, services)
 }
 
 fn read_frames(frames: &[u8]) -> (u64, u64) {
@@ -57,7 +64,7 @@ fn read_frames(frames: &[u8]) -> (u64, u64) {
         items += parser.cea608().map_or(0, |pairs| pairs.len()) as u64;
         while let Some(packet) = parser.pop_packet() {
             items += 1;
-            sum = with_blocks(&packet, sum);
+            sum = with_packet(&packet, sum);
         }
     }
     (items, sum)
@@ -68,7 +75,7 @@ fn read_packets(data: &mut [u8]) -> (u64, u64) {
     for i in 0..READINGS {
         data[0] = data[0] % 64 + (i % 4) as u8 * 64;
         let packet = DTVCCPacket::parse(data).expect("the bytes read as a packet");
-        sum = with_blocks(&packet, sum);
+        sum = with_packet(&packet, sum);
     }
     (READINGS as u64, sum)
 }

@@ -64,15 +64,28 @@ returns-4 : tie.Need-returns-4
 unfolding packetRows
 returns-4 c = search (needs, passes, finds)
 
-on-packet-pushing-requires : tie.Need-on-packet-pushing-requires
-on-packet-pushing-requires c κs = search needs
+asks-requires-5 : tie.Need-asks-requires-5
+asks-requires-5 c κs = search needs
+
+set-services-requires : tie.Need-set-services-requires
+set-services-requires c κs = search needs
 
 same-length-5 : tie.Need-same-length-5
 same-length-5 c = search needs
 
 returns-5 : tie.Need-returns-5
 unfolding packetRows
-returns-5 c = search (needs, passes)
+returns-5 c = search (needs, passes, finds)
+
+on-packet-pushing-requires : tie.Need-on-packet-pushing-requires
+on-packet-pushing-requires c κs = search needs
+
+same-length-6 : tie.Need-same-length-6
+same-length-6 c = search needs
+
+returns-6 : tie.Need-returns-6
+unfolding packetRows
+returns-6 c = search (needs, passes)
 
 pub on-packet-spec : {M : Type 1} → statement M
 on-packet-spec =
@@ -96,6 +109,10 @@ on-packet-spec =
     set-packet-requires
     same-length-4
     returns-4
-    on-packet-pushing-requires
+    asks-requires-5
+    set-services-requires
     same-length-5
-    returns-5)
+    returns-5
+    on-packet-pushing-requires
+    same-length-6
+    returns-6)

@@ -31,9 +31,22 @@ returns-2 : tie.Need-returns-2
 unfolding tellingRows
 returns-2 c = search (needs, passes, finds)
 
+asks-requires-3 : tie.Need-asks-requires-3
+asks-requires-3 c κs = search needs
+
+tell-services-requires : tie.Need-tell-services-requires
+tell-services-requires c κs = search needs
+
+same-length-3 : tie.Need-same-length-3
+same-length-3 c = search needs
+
 returns-3 : tie.Need-returns-3
 unfolding tellingRows
-returns-3 c = search (needs, passes, ends)
+returns-3 c = search (needs, passes, finds)
+
+returns-4 : tie.Need-returns-4
+unfolding tellingRows
+returns-4 c = search (needs, passes, ends)
 
 pub on-packet-telling-spec : {M : Type 1} → statement M
 on-packet-telling-spec =
@@ -47,4 +60,8 @@ on-packet-telling-spec =
     write-packet-requires
     same-length-2
     returns-2
-    returns-3)
+    asks-requires-3
+    tell-services-requires
+    same-length-3
+    returns-3
+    returns-4)

@@ -1,6 +1,7 @@
 -- The two cases of the sequence number. Assumes nothing.
 use mathlib.Core.Path.{refl}
 use mathlib.Core.List.{flatMap}
+use Rattle.model.specs.Services.{among, bitsOf, servicesOf}
 use Rattle.packet.specs.Packet.{over}
 use Rattle.packet.proofs.Holds.{blank-places}
 use Rattle.packet.proofs.Replies.{refuses, gives}
@@ -16,7 +17,7 @@ returns : tie.Need-returns
 returns c = rw (c .unread .ensures) (refuses _ _ _ _ (new-bad _ (c .before .if1 .taken)) refl refl)
 
 returns-2 : tie.Need-returns-2
-unfolding over flatMap
+unfolding over flatMap servicesOf bitsOf among
 returns-2 c = gives _ _ _ _ blank-places (new-valid _ (c .if1 .left)) (new-good _ (c .if1 .left)) refl refl
 
 pub new-spec : {M : Type 1} → statement M

@@ -1,0 +1,13 @@
+-- The set is worked out of the numbers. Assumes nothing.
+use borrow.Author.Needs.{needs}
+use Rattle.packet.proofs.packet_of.Statement.{statement}
+use Rattle.packet.proofs.packet_of.Tie as tie
+
+services-of-requires : tie.Need-services-of-requires
+services-of-requires c κs = search needs
+
+returns : tie.Need-returns
+returns c = rw (c .services-of .ensures)
+
+pub packet-of-spec : {M : Type 1} → statement M
+packet-of-spec = tie.close (tie.spec services-of-requires returns)
