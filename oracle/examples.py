@@ -1,5 +1,5 @@
-"""Operations with the lines that the rule book (docs/RULES.md) asks for: its examples, the true count, the carrying mode, and raw fields
-set by `B`, `K`, `D`, `Q` and `C`.
+"""Operations with the lines that the rule book (docs/RULES.md) asks for: its examples, the true count, the carrying mode, the services of a
+packet, and raw fields set by `B`, `K`, `Z`, `D`, `Q` and `C`.
 
 What follows a raw field is derived from the rules and not from the crate, whose fields are private: a value within the
 limits is what its fields say, and every call on another is refused with 11 before anything else.
@@ -357,6 +357,67 @@ CARRYING = [
     (("w", 24, 1, 95), padded(2, 25)),
 ]
 
+# The numbers of the blocks stand beside each packet.
+SERVICES = [
+    (("k", 0), "ok"),
+    (("z",), "ok 0000000000000000 0"),
+    # 1; 1 again, in the same block; 1, 63; 1, 63, 1; 1, 63, 1, 2
+    (("a", 1, [0x41] * 30), "ok"),
+    (("z",), "ok 0000000000000002 1"),
+    (("a", 1, [0x42]), "ok"),
+    (("z",), "ok 0000000000000002 1"),
+    (("a", 63, [0x43]), "ok"),
+    (("z",), "ok 8000000000000002 2"),
+    (("a", 1, [0x44]), "ok"),
+    (("l",), "ok 0 38 90 3"),
+    (("z",), "ok 8000000000000002 2"),
+    (("i", 2, [0x45]), "ok"),
+    (("z",), "ok 8000000000000006 3"),
+    # a push that is refused leaves the set
+    (("a", 7, [0x46] * 32), "refused 3 1"),
+    (("z",), "ok 8000000000000006 3"),
+    # 2 twice, plainly and tidily; behind the null header nothing is a block of the tidy reader's
+    (("p", data("44 41 41 41 42 00 21 43")), "ok 1 2:41 2:42 1:43"),
+    (("z",), "ok 0000000000000006 2"),
+    (("t", data("44 41 41 41 42 00 21 43")), "ok 1 2:41 2:42"),
+    (("z",), "ok 0000000000000004 1"),
+    # a block that is pushed: 2, 2, 6
+    (("b", 6), "ok"),
+    (("c", [0x47]), "ok"),
+    (("v",), "ok"),
+    (("z",), "ok 0000000000000044 2"),
+    # other sets: one service more, one less, service 0, each bit moved up; every call is refused with 11, and changes nothing
+    (("Z", 0x4C), "ok"),
+    (("z",), "refused 11"),
+    (("Z", 0x40), "ok"),
+    (("z",), "refused 11"),
+    (("Z", 0x45), "ok"),
+    (("z",), "refused 11"),
+    (("Z", 0x88), "ok"),
+    (("z",), "refused 11"),
+    (("l",), "refused 11"),
+    (("o", 2), "refused 11 A5A5"),
+    (("a", 2, [1]), "refused 11"),
+    (("a", 64, []), "refused 11"),
+    (("i", 2, [1]), "refused 11"),
+    (("v",), "refused 11"),
+    (("W",), "ok"),
+    (("q",), "refused 11"),
+    (("Z", 0x44), "ok"),
+    (("z",), "ok 0000000000000044 2"),
+    (("o", 8), "ok 8 4441414142C14700"),
+    # fewer blocks: the set is still that of all three
+    (("K", 1, 2), "ok"),
+    (("z",), "refused 11"),
+    (("Z", 4), "ok"),
+    (("z",), "ok 0000000000000004 1"),
+    # another number of argument bytes
+    (("raw", [0x7A, 0]), "bad"),
+    (("raw", [0x5A] + [0] * 7), "bad"),
+    (("raw", [0x5A] + [0] * 9), "bad"),
+    (("z",), "ok 0000000000000004 1"),
+]
+
 RAW = [
     # a block: a number above 63, a length above 31, block 0 with payload
     (("b", 1), "ok"),
@@ -396,6 +457,8 @@ RAW = [
     (("l",), "ok 3 3 125 1"),
     (("o", 4), "ok 4 C2214100"),
     (("K", 3, 0), "ok"),
+    (("l",), "refused 11"),
+    (("Z", 0), "ok"),
     (("l",), "ok 3 0 128 0"),
     # a demultiplexer: the counts as they are, fewer, and beyond the limits
     (("R",), "ok"),

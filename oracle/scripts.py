@@ -375,7 +375,7 @@ def anything(count):
     for _ in range(count):
         s, stream = [], []
         for _ in range(30):
-            k = R.choice("bcmedyvaailopptRHfffnnnFWSqqq1122wwwux" if R.random() < .9 else "RFWxk")
+            k = R.choice("bcmedyvaailoppztRHfffnnnFWSqqq1122wwwux" if R.random() < .9 else "RFWxk")
             if k == "b": s.append((k, R.choice([0, 1, 2, 7, 63, 64])))
             elif k == "k": s.append((k, R.choice([0, 1, 2, 3, 4])))
             elif k in "eo": s.append((k, R.choice([0, 1, 2, 32, 128, 255, R.randrange(256)])))
@@ -393,7 +393,7 @@ def anything(count):
 def raw_fields(count):
     """Fields set to what breaks a limit, or does not, and calls on them."""
     calls = [("m",), ("c", [1, 2]), ("c", []), ("e", 40), ("v",), ("l",), ("a", 1, [5]), ("a", 64, []), ("i", 2, [6, 7])]
-    calls += [("o", 130), ("o", 0), ("q",)]
+    calls += [("o", 130), ("o", 0), ("q",), ("z",)]
     for _ in range(count):
         s = []
         for _ in range(20):
@@ -401,6 +401,7 @@ def raw_fields(count):
             if r < .12: s.append(("B", R.choice([0, 1, 7, 62, 63, 64, 255]), R.choice([0, 1, 2, 30, 31, 32, 255])))
             elif r < .24: s.append(("K", R.choice([0, 3, 3, 4, 255]), R.choice([0, 1, 2, 3, 4, 5, 62, 63, 64, 255])))
             elif r < .3: s.append(("b", R.choice([0, 1, 7, 63, 64])))
+            elif r < .34: s.append(("Z", R.choice([0, 1, 2, 4, 6, 0x80, 2**63, R.getrandbits(64)])))
             elif r < .36: s.append(("k", R.choice([0, 3, 4])))
             elif r < .45: s.append(("d", a_block()))
             elif r < .55: s.append(("p", packet_bytes(R.choice([8, 40, 128]))))
@@ -416,6 +417,51 @@ def raw_fields(count):
         s = [("1", 0x94, 0x2C), ("2", 0x15, 0x2C), ("k", 2), ("a", 1, [0x41]), ("q",), ("Q", *fields), ("u",)]
         s += [("S", 1, 1), ("1", 1, 1), ("2", 0x80, 0x80)]
         yield s + [("q",), ("w", 30, 1, 95), ("w", 0, 0, 0), ("x",), ("k", 0), ("q",), ("W",), ("u",), ("1", 1, 1), ("w", 30, 1, 95)]
+
+def set_of(numbers): return sum(1 << n for n in set(numbers))
+
+def sets_beside(numbers):
+    """The set of these numbers, and others: a bit more or less, all moved by a place, none, all, any."""
+    right, every = set_of(numbers), 2**64 - 1
+    others = [0, every, right << 1 & every, right >> 1, right ^ 1, right ^ 1 << 63, right ^ 1 << R.randrange(64), every ^ right, len(numbers), R.getrandbits(64)]
+    return [right, R.choice(others), R.choice(others), right ^ 1 << R.choice(numbers or [2])]
+
+def written_packet(sequence, blocks):
+    """The bytes of a packet of these numbers and payloads."""
+    d = [b for n, run in blocks for b in ([n * 32 + len(run)] if n < 7 else [0xE0 + len(run), n]) + run]
+    return [sequence * 64 + (len(d) + 2) // 2 % 64] + d + [0] * ((len(d) + 1) % 2)
+
+def some_blocks():
+    """Blocks of one service or of several, and of a service several times, as many as fit."""
+    pool = R.choice([[R.randrange(1, 64)], R.sample(range(1, 64), 3), R.sample(range(1, 64), 20), list(range(1, 64)), [1, 2, 6, 7, 63]])
+    blocks, room = [], 127
+    for _ in range(R.choice([0, 1, 2, 3, 8, 63])):
+        n, run = R.choice(pool), some(R.choice([1, 1, 1, 2, 5, 31]))
+        room -= len(run) + (1 if n < 7 else 2)
+        if room < 0: break
+        blocks.append((n, run))
+    return blocks
+
+def services(count):
+    """Packets made in every way, with their services told; then other sets, and every call on what there is."""
+    for n in range(1, 64):
+        d = written_packet(1, [(n, [0x41])])
+        yield [("z",), ("a", n, [0x41]), ("z",), ("a", n, [0x42]), ("z",), ("a", n, [0x43] * 30), ("z",), ("k", 2), ("z",), ("i", n, [1]), ("z",), ("i", n, [2]), ("z",)]
+        yield [("p", d), ("z",), ("k", 0), ("z",), ("t", d), ("z",), ("b", n), ("c", [7]), ("v",), ("z",), ("v",), ("z",), ("p", d[:2]), ("z",)]
+    calls = [("l",), ("z",), ("o", 130), ("o", 0), ("a", 1, [5]), ("a", 64, []), ("i", 2, [6, 7]), ("v",), ("q",)]
+    for _ in range(count):
+        blocks = some_blocks()
+        numbers = [n for n, _ in blocks]
+        way = R.randrange(3)
+        if way == 0: s = [("k", 3)] + [op for n, run in blocks for op in [("b", n), ("c", run), ("v",)]]
+        elif way == 1: s = [("k", 3)] + [op for n, run in blocks for op in [("a", n, run), ("z",)]]
+        else: s = [(R.choice("pt"), written_packet(3, blocks))]
+        s += [("z",), ("l",)]
+        for services in sets_beside(numbers): s += [("Z", services)] + R.sample(calls, 4) + [("z",)]
+        if blocks:
+            few = R.randrange(len(blocks))
+            s += [("p", written_packet(3, blocks)), ("K", 3, few), ("z",), ("Z", set_of(numbers[:few])), ("z",), ("l",), ("K", 3, len(blocks)), ("z",)]
+        yield s + [("Z", set_of(numbers)), ("z",), ("o", 255)]
 
 TOP = 2**32 - 1
 # Rates that the carrying mode takes, the last ones at its limits; and others.
@@ -568,6 +614,7 @@ def encode(op):
     elif k in "ai": body = [args[0], *args[1]]
     elif k == "S": body = [sum(bit << place for place, bit in enumerate(args))]
     elif k == "C": body = [b for number in args for b in number.to_bytes(4, "big")]
+    elif k == "Z": body = list(args[0].to_bytes(8, "big"))
     elif k == "w": body = [*args[0].to_bytes(4, "big"), *args[1].to_bytes(4, "big"), args[2]]
     else: body = list(args)
     return bytes([0xCC, 0x5C, len(body) + 1, ord(k), *body])
@@ -600,6 +647,7 @@ def generate(seed, written, scale=1.0):
     yield "durations", durations()
     yield "multiplexer into demultiplexer", journeys(c(600), written)
     yield "raw fields", raw_fields(c(300))
+    yield "services of a packet, and other sets", services(c(1500))
     yield "anything", anything(c(1000))
     yield "operations that are not there", not_there()
 

@@ -222,6 +222,11 @@ impl Machine {
                 self.p.set(sequence, count as usize);
                 done()
             }
+            (b'z', []) => line(self.p.services().map(|(set, many)| format!("{set:016X} {many}"))),
+            (b'Z', &[a, b, c, d, e, f, g, h]) => {
+                self.p.set_services(u64::from_be_bytes([a, b, c, d, e, f, g, h]));
+                done()
+            }
             _ => return None,
         })
     }

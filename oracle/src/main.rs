@@ -2,8 +2,8 @@
 //!
 //! Where the rule book adds a rule, the rule is applied around the crate's calls: refusals 6 to 11, the
 //! sizes, the draw, the dropping of empty packets, the part handed back, the tidy reader. The crate's
-//! fields are private, so the operations that set raw fields work on places kept beside its values (`B`
-//! and `K`), or only tell that a limit is broken (`D` and `Q`).
+//! fields are private, so the operations that set raw fields work on places kept beside its values (`B`,
+//! `K` and `Z`), or only tell that a limit is broken (`D` and `Q`).
 
 mod demux;
 mod machine;

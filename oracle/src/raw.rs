@@ -1,8 +1,10 @@
-//! A block and a packet whose raw fields can be set, by the operations `B` and `K`.
+//! A block and a packet whose raw fields can be set, by the operations `B`, `K` and `Z`.
 //!
 //! The crate's fields are private, so the places of the port's values stand here beside the crate's value. Places past a
 //! count keep what they held until something is written over them. Where raw fields break a limit of the rule book there is
 //! no value of the crate's, and every call on it is refused with 11.
+
+use std::collections::BTreeSet;
 
 use cea708_types::{tables::Code, DTVCCPacket, Service};
 
@@ -51,9 +53,22 @@ impl Block {
     }
 }
 
+/// The numbers of the blocks, each once.
+fn numbers(value: &DTVCCPacket) -> BTreeSet<u8> {
+    value.services().iter().map(Service::number).collect()
+}
+
+/// The set of services: bit k is 1 if a block has number k.
+fn set(value: &DTVCCPacket) -> u64 {
+    numbers(value).into_iter().map(|number| 1u64 << number).sum()
+}
+
 /// A packet and its places.
 pub struct Packet {
     value: Option<DTVCCPacket>,
+    sequence: u8,
+    count: usize,
+    services: u64,
     numbers: [u8; 63],
     sizes: [usize; 63],
     payload: [u8; 127],
@@ -63,6 +78,9 @@ impl Packet {
     pub fn new(value: DTVCCPacket) -> Self {
         let mut packet = Self {
             value: None,
+            sequence: 0,
+            count: 0,
+            services: 0,
             numbers: [0; 63],
             sizes: [0; 63],
             payload: [0; 127],
@@ -81,6 +99,9 @@ impl Packet {
             self.payload[used..used + bytes.len()].copy_from_slice(&bytes);
             used += bytes.len();
         }
+        self.sequence = value.sequence_no();
+        self.count = value.services().len();
+        self.services = set(&value);
         self.value = Some(value);
     }
 
@@ -88,18 +109,29 @@ impl Packet {
         self.value.as_ref().ok_or(BadValue)
     }
 
-    pub fn set(&mut self, sequence: u8, count: usize) {
-        self.value = self.of(sequence, count);
+    /// The set of services, and how many they are.
+    pub fn services(&self) -> Result<(u64, usize), Refusal> {
+        self.value().map(|value| (set(value), numbers(value).len()))
     }
 
-    /// The packet of the first `count` places, where all is within the limits.
-    fn of(&self, sequence: u8, count: usize) -> Option<DTVCCPacket> {
-        if sequence > 3 || count > 63 {
+    pub fn set(&mut self, sequence: u8, count: usize) {
+        (self.sequence, self.count) = (sequence, count);
+        self.value = self.within();
+    }
+
+    pub fn set_services(&mut self, services: u64) {
+        self.services = services;
+        self.value = self.within();
+    }
+
+    /// The packet of the first places, where all is within the limits and the set is that of its services.
+    fn within(&self) -> Option<DTVCCPacket> {
+        if self.sequence > 3 || self.count > 63 {
             return None;
         }
-        let mut packet = DTVCCPacket::new(sequence);
+        let mut packet = DTVCCPacket::new(self.sequence);
         let mut rest = &self.payload[..];
-        for (&number, &size) in self.numbers[..count].iter().zip(&self.sizes) {
+        for (&number, &size) in self.numbers[..self.count].iter().zip(&self.sizes) {
             if !(1..=63).contains(&number) || !(1..=31).contains(&size) || rest.len() < size {
                 return None;
             }
@@ -107,6 +139,6 @@ impl Packet {
             packet.push_service(service(number, bytes)).ok()?;
             rest = behind;
         }
-        Some(packet)
+        (self.services == set(&packet)).then_some(packet)
     }
 }
