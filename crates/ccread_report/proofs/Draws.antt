@@ -1,21 +1,18 @@
 -- What is drawn is what waits: each item's lines are the first of those left, and once nothing waits a draw changes nothing. Assumes nothing.
 use mathlib.Core.Path.{_≡_, refl, sym, ap, _∙_}
-use mathlib.Core.Bool.{true}
 use mathlib.Core.List.{List, [], _∷_, _++_, append-assoc}
 use Prim.Native.Nat.{ℕ, zero, suc, _+_, _≤_}
 use native.Mathlib.Omega.{arith}
 use lib.ListN.{length}
-use Rattle.model.specs.Lists.{every}
 use Rattle.caption.specs.declared.Cea608.the-variants.{Field1, Field2}
 use Rattle.model.specs.Said.{Said, accepted}
-use Rattle.model.specs.Packet.{Packet, noPacket, packetLength, validPacket}
+use Rattle.model.specs.Packet.{Packet}
 use Rattle.model.specs.Frame.{Cea608, field1, field2, pair}
 use Rattle.model.specs.Demux as model
 use Rattle.model.specs.Demux.{Demux, aPair, aPacket, noItem, itemValues, itemPacket}
-use Rattle.model.proofs.Cases.{both}
-use Rattle.model.proofs.Packets.{Valid, valid-facts}
+use Rattle.model.proofs.Packets.{Valid}
 use Rattle.model.proofs.DemuxStates.{demux-facts}
-use Rattle.packet.specs.Packet.{packetOf, blank, laid, validDTVCC}
+use Rattle.packet.specs.Packet.{packetOf, blank, laid}
 use Rattle.packet.proofs.Holds.{blank-places}
 use Rattle.packet.proofs.Keeps.{laid-over}
 use Rattle.parser.specs.Valid.{valid}
@@ -29,6 +26,7 @@ use Rattle.parser.specs.declared.CCDataParser.{CCDataParser}
 use Rattle.parser.proofs.Laid.{Sound}
 use Rattle.parser.proofs.Kept.{sound-demux, laid-still}
 use Rattle.parser.proofs.Items.{saidItem-injective}
+use Rattle.parser.proofs.Beside.{Holds, first-holds}
 use Rattle.ccread_report.specs.Report.{pairLine, packetLines, pairLines, packetsLines, waitingLines, itemLines, drawnOut}
 
 -- the lines of the model's item
@@ -88,10 +86,6 @@ item-said (aPair (field2 (pair a b))) = refl
 item-said (aPacket p) = refl
 item-said noItem = refl
 
--- a packet that is drawn is within its limits
-abbrev Holds : model.Item → Type 0
-Holds i = Valid (itemPacket i)
-
 -- the lines of the item, beside which the packet stands
 item-lines : (i : model.Item) → Holds i → itemLines (itemAs i) (packetOf (laid (itemPacket i))) ≡ linesOf i
 unfolding itemLines
@@ -99,9 +93,6 @@ item-lines (aPair (field1 (pair a b))) h = refl
 item-lines (aPair (field2 (pair a b))) h = refl
 item-lines (aPacket p) h = ap packetLines (laid-over blank blank-places p h .holds)
 item-lines noItem h = refl
-
-beside-valid : (i : model.Item) → Holds i → validDTVCC (laid (itemPacket i)) ≡ true
-beside-valid i h = laid-over blank blank-places (itemPacket i) h .valid
 
 -- a draw that tells nothing found nothing
 none-told : (i : model.Item) → length (itemValues i) ≡ 0 → i ≡ noItem
@@ -121,21 +112,6 @@ none-left d e = by-items (d .on608) (d .pairs) (d .pending) (d .waiting) e
     by-items on (field2 (pair a b) ∷ xs) g ps k = absurd (omega (arith, ap (λ (i : model.Item). length (itemValues i)) k))
     by-items on [] g (p ∷ ps) k = absurd (omega (arith, ap (λ (i : model.Item). length (itemValues i)) k))
     by-items on [] g [] k = refl
-
-none-valid : validPacket noPacket ≡ true
-unfolding validPacket every packetLength
-none-valid = refl
-
-first-holds : (d : Demux) → every validPacket (d .waiting) ≡ true → Holds (model.draw d .item)
-unfolding model.draw every
-first-holds d v = by-items (d .on608) (d .pairs) (d .pending) (d .waiting) v
-  where
-    by-items : (on : _) (xs : List Cea608) (g : List ℕ) (ps : List Packet)
-        → let w : Demux = record { on608 = on; pairs = xs; pending = g; waiting = ps } in
-        every validPacket ps ≡ true → Holds (model.draw w .item)
-    by-items on (x ∷ xs) g ps k = valid-facts noPacket none-valid
-    by-items on [] g (p ∷ ps) k = valid-facts p (both (validPacket p) (every validPacket ps) k .0)
-    by-items on [] g [] k = valid-facts noPacket none-valid
 
 -- with none left a draw leaves all as it is
 draw-none : (d : Demux) → itemsIn d ≡ 0 → model.draw d ≡ record { item = noItem; next = d }
@@ -166,12 +142,9 @@ module _ (p : CCDataParser) (s : Sound p) (r : Drawn) (h : Draws p r) where
   item-is : r .item ≡ itemAs first
   item-is = saidItem-injective _ _ (said ∙ sym (item-said first))
 
-  -- its lines are the first of those left, and the packet beside it is within its limits
+  -- its lines are the first of those left
   pub drawn-lines : waitingLines (means p) ≡ itemLines (r .item) (packetOf (r .packet)) ++ waitingLines (model.draw (means p) .next)
   drawn-lines = rw (item-is, beside, item-lines first holds) (drawn-first (means p))
-
-  pub drawn-valid : validDTVCC (r .packet) ≡ true
-  drawn-valid = rw beside (beside-valid first holds)
 
   -- nothing is drawn where nothing waits
   pub drawn-none : r .item ≡ item.Nothing → itemsIn (means p) ≡ 0

@@ -1,6 +1,6 @@
 -- A set of numbers as bits: which bit is 1, how a number more changes it, and how many ones it has, each by one law over the width. Assumes nothing.
-use mathlib.Core.Path.{_≡_, refl, sym, ap, ap₂, _∙_}
-use mathlib.Core.Bool.{Bool, true, false, cond, _||_}
+use mathlib.Core.Path.{_≡_, refl, sym, ap, _∙_}
+use mathlib.Core.Bool.{Bool, true, false, cond}
 use mathlib.Core.List.{List, [], _∷_, _++_}
 use Prim.Native.Nat.{ℕ, zero, suc, _+_, _-_, _*_, _/_, _%_, _^_, _≤_, _<_}
 use native.Mathlib.Nat.{add-zero, zero-mul, one-mul, zero-add, pow-suc}
@@ -9,7 +9,7 @@ use borrow.Author.Tests.{eq-eqb, ne-eqb, eqb-true, eqb-false, ltb-true, lt-ltb}
 use lib.Dec.{eqb, ltb}
 use lib.ListN.{length}
 use lib.Pow.{pow-pos, pow-lt, high, low, field, mod-mod-pow}
-use lib.Bits.{bitOr, or-block, or-zero-l, or-zero-r}
+use lib.Bits.{bitOr, or-block, or-zero-r}
 use lib.Count.{ones, ones-cat}
 use Rattle.model.specs.Lists.{every}
 use Rattle.model.specs.Block.{Block}

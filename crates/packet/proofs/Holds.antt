@@ -1,11 +1,11 @@
 -- What a valid `DTVCCPacket` holds is a packet within the limits, and a packet laid over any other is the packet held. Assumes nothing.
 use mathlib.Core.Path.{_≡_, refl, sym, ap, _∙_}
 use mathlib.Core.Bool.{Bool, true, false, _&&_, and-comm, and-false}
-use Prim.Native.Nat.{ℕ, _≤_, _<_}
+use Prim.Native.Nat.{ℕ, _≤_}
 use native.Mathlib.Omega.{arith}
 use lib.Dec.{eqb, leb}
 use lib.ListN.{length-replicate}
-use borrow.Author.Tests.{eq-eqb, eqb-true, leb-true, leb-false, lt-leb}
+use borrow.Author.Tests.{eq-eqb, eqb-true, leb-true}
 use Rattle.model.specs.Packet.{Packet}
 use Rattle.model.specs.Services.{among, bitsOf, servicesOf}
 use Rattle.model.proofs.Cases.{by-test, both, and-both}

@@ -6,7 +6,7 @@ use Prim.Native.Nat.{ℕ, _+_, _/_, _%_, _^_, _<_}
 use native.Mathlib.Omega.{arith}
 use borrow.Author.Tests.{eq-eqb, ne-eqb}
 use lib.Count.{ones}
-use lib.Dec.{eqb, leb}
+use lib.Dec.{leb}
 use lib.ListN.{getD, take}
 use Rattle.model.specs.Said.{Said, Outcome, gave, refused, measured}
 use Rattle.model.specs.Packet.{Packet, validPacket}

@@ -9,4 +9,5 @@ pub mod Pushes
 pub mod Calls
 pub mod Drawing
 pub mod Items
+pub mod Beside
 pub mod Same

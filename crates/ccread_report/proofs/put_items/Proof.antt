@@ -3,7 +3,7 @@ use Prim.Native.Nat.{_-_, _≤_}
 use native.Mathlib.Omega.{arith}
 use borrow.Author.Needs.{needs}
 use Rattle.parser.proofs.Calls.{length-mapped}
-use Rattle.ccread_report.proofs.Draws.{drawn-valid}
+use Rattle.parser.proofs.Beside.{drawn-valid}
 use Rattle.ccread_report.proofs.Going.{Going, going-first, going-next, going-none, going-done}
 use Rattle.ccread_report.proofs.put_items.Statement.{statement}
 use Rattle.ccread_report.proofs.put_items.Tie as tie
@@ -38,7 +38,7 @@ draw-requires c κs = search needs
 
 put-item-requires : tie.Need-put-item-requires Inv-loop μ-loop
 put-item-requires c κs = (
-  drawn-valid _ (c .before .before .before .before .before .loop .inv .1 .sound) _ (c .before .before .before .draw .ensures),
+  drawn-valid _ _ (c .before .before .before .draw .ensures),
   c .before .before .before .before .before .loop .inv .1 .place,
 )
 
