@@ -7,6 +7,7 @@ use Prim.Native.Nat.{ℕ}
 use Rattle.model.specs.Said.{Said, Outcome, gave, refused, mapped}
 use Rattle.model.specs.Block.{Block, headerLength, numberIn, isHeaderShort, needed, isShort, blockIn, shortAt, readBlockAt, readBlock, writtenHeader, writtenBlock, blockLength}
 use Rattle.model.specs.Packet.{Packet, sequenceIn, packetSize, plainMove, tidyMove, isNullHeader, blocksFrom, readBy, readPacket, reads, readTidy, blocksLength, packetLength, writtenBlocks, packetHeader, fill, writtenPacket}
+use Rattle.model.specs.Services.{among, once, bitsOf, servicesOf, serviceCount}
 use Rattle.model.specs.Frame.{pair, Cea608, field1, field2, seen, seenAll, flat, triplesIn, flagged, frameBytes}
 use Rattle.model.specs.Demux.{turn608On, freshDemux, pairsIn, lateAfter, lateFrom, carries708, closed, packetsOf, kept, wants, gather, ended, gathered, takeGathered, takeTriples, unread, takeFrame}
 use Rattle.model.specs.Rate.{rounded, budgets, goingOn, carriedBudget, leftOver, carriedOn, carriedShare, shareBy}
@@ -17,7 +18,7 @@ use Rattle.model.specs.Run.{Call, pushes, pushes608, sets, call, run, re
 pub data Input : Type 0 where
   header : ℕ → Input
   written : Packet → Input
-  plain tidy alone : List ℕ → Input
+  plain tidy plainSet tidySet alone : List ℕ → Input
   frames : List (List ℕ) → Input
   frame readBack : ℕ → ℕ → List Call → Input
 
@@ -26,6 +27,7 @@ pub data Result : Type 0 where
   size : ℕ → ℕ → Result
   bytes : List ℕ → Result
   packet : Packet → Result
+  set : ℕ → ℕ → Result
   block : Block → Result
   refusal : Said → Result
   items : List Said → List Cea608 → List Packet → Result
@@ -37,6 +39,10 @@ says number values = record { number = number; values = values }
 -- a packet of one block
 abbrev pub one : ℕ → ℕ → List ℕ → Packet
 one sequence number payload = record { sequence = sequence; blocks = record { number = number; payload = payload } ∷ [] }
+
+-- the set of a packet's services, and how many they are
+abbrev setOf : Packet → Result
+setOf p = set (servicesOf p) (serviceCount p)
 
 -- a refusal is told as such, whatever was asked
 abbrev told : {A : Type 0} → (A → Result) → Outcome A → Result
@@ -59,6 +65,8 @@ answer (header h) = size (sequenceIn h) (packetSize h)
 answer (written p) = bytes (writtenPacket p)
 answer (plain d) = told packet (readPacket d)
 answer (tidy d) = told packet (readTidy d)
+answer (plainSet d) = told setOf (readPacket d)
+answer (tidySet d) = told setOf (readTidy d)
 answer (alone d) = told block (readBlock d)
 answer (frames fs) = read fs
 answer (frame numer denom calls) = told bytes (afterCalls numer denom calls)
@@ -76,6 +84,10 @@ row i r = record { input = i; result = r }
 -- the pair 94 2C of field 1 twice, and a packet: at 30 frames a second without padding the second turn sends nothing
 abbrev silentTurn : List Call
 silentTurn = pushes608 (field1 (pair 0x94 0x2C)) ∷ pushes608 (field1 (pair 0x94 0x2C)) ∷ pushes (one 2 1 (0x41 ∷ [])) ∷ []
+
+-- service 2 twice and service 1, with a null header before the last
+abbrev twoServices : List ℕ
+twoServices = 0x44 ∷ 0x41 ∷ 0x41 ∷ 0x41 ∷ 0x42 ∷ 0x00 ∷ 0x21 ∷ 0x43 ∷ []
 
 -- the starred examples, in the rule book's order
 unfoldable pub table : List Row
@@ -99,6 +111,12 @@ table =
     ∷ row (tidy (0x08 ∷ 0x21 ∷ 0x41 ∷ [])) (refusal (says 13 (16 ∷ 3 ∷ 0 ∷ [])))
     ∷ row (plain (0x04 ∷ 0x21 ∷ 0x41 ∷ 0xE2 ∷ [])) (refusal (says 14 (2 ∷ 1 ∷ 3 ∷ [])))
     ∷ row (plain (0x04 ∷ 0x21 ∷ 0x41 ∷ 0xE2 ∷ 0x07 ∷ 0x42 ∷ [])) (refusal (says 15 (4 ∷ 3 ∷ 3 ∷ [])))
+    ∷ row
+    (plain twoServices)
+    (packet (record { sequence = 1; blocks = record { number = 2; payload = 0x41 ∷ [] } ∷ record { number = 2; payload = 0x42 ∷ [] } ∷ record { number = 1; payload = 0x43 ∷ [] } ∷ [] }))
+    ∷ row (plainSet twoServices) (set 6 2)
+    ∷ row (tidy twoServices) (packet (record { sequence = 1; blocks = record { number = 2; payload = 0x41 ∷ [] } ∷ record { number = 2; payload = 0x42 ∷ [] } ∷ [] }))
+    ∷ row (tidySet twoServices) (set 4 1)
     ∷ row (plain []) (refusal (says 13 (1 ∷ 0 ∷ 0 ∷ [])))
     ∷ row (tidy []) (refusal (says 13 (1 ∷ 0 ∷ 0 ∷ [])))
     ∷ row (alone []) (refusal (says 14 (1 ∷ 0 ∷ 0 ∷ [])))
@@ -129,6 +147,7 @@ pub examples : map (λ (r : Row). answer (r .input)) table ≡ map (λ (r : Row)
 unfolding table
     headerLength numberIn isHeaderShort needed isShort blockIn shortAt readBlockAt writtenHeader writtenBlock blockLength
     packetSize plainMove tidyMove isNullHeader blocksFrom readBy readPacket reads readTidy blocksLength packetLength writtenBlocks packetHeader fill writtenPacket
+    among once bitsOf servicesOf serviceCount
     seen seenAll flat triplesIn flagged frameBytes
     pairsIn lateAfter lateFrom carries708 closed packetsOf kept wants gather ended gathered takeGathered takeTriples unread takeFrame
     rounded budgets goingOn carriedBudget leftOver carriedOn carriedShare shareBy

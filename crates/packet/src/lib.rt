@@ -186,7 +186,15 @@ impl DTVCCPacket {
             &mut sizes,
             &mut payload,
         );
-        answered(self.seq_no, self.count, self.services, r, numbers, sizes, payload)
+        answered(
+            self.seq_no,
+            self.count,
+            self.services,
+            r,
+            numbers,
+            sizes,
+            payload,
+        )
     }
 
     // Pushes a code, a run of bytes, to the latest block of its number that has room, or as a new block [P11] [P12].
@@ -298,7 +306,15 @@ impl DTVCCPacket {
             &mut sizes,
             &mut payload,
         );
-        answered(self.seq_no, self.count, self.services, r, numbers, sizes, payload)
+        answered(
+            self.seq_no,
+            self.count,
+            self.services,
+            r,
+            numbers,
+            sizes,
+            payload,
+        )
     }
 }
 
