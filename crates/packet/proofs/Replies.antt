@@ -71,7 +71,7 @@ push-refused p v o a f is = rw (is, f) (record { answer = refl; means = refl; pl
 
 -- what a push left, where the set is that of the services
 module _ (p : DTVCCPacket) (full : Places p) (agreed : agrees p ≡ true) (r : Counted) (x : Arrays) (a : PacketAnswer)
-    (is : a ≡ answerOf (p .«seq_no») (p .count) (p .services) r (x .numbers) (x .sizes) (x .payload)) where
+    (is : a ≡ answerOf p r (x .numbers) (x .sizes) (x .payload)) where
   stored : (o : Outcome Packet) → Gives Valid o → Stores (mapped (places.laidOver (fieldsOf p)) o) (fieldsOf p) r x → Answers o p a
   unfolding Stores
   stored (gave q) v (e, k) =

@@ -75,6 +75,6 @@ servicesAfter (Count k) before ns = servicesTo k ns
 servicesAfter (Refused why) before ns = before
 
 -- what is answered to it, with the places that it leaves
-abbrev pub answerOf : ℕ → ℕ → ℕ → Counted → List ℕ → List ℕ → List ℕ → PacketAnswer
-answerOf sequence before services r n s d =
-    record { answer = answerTo r; packet = packetAt (servicesAfter r services n) (fields sequence (countAfter r before) n s d) }
+abbrev pub answerOf : DTVCCPacket → Counted → List ℕ → List ℕ → List ℕ → PacketAnswer
+answerOf p r n s d =
+    record { answer = answerTo r; packet = packetAt (servicesAfter r (p .services) n) (fields (p .«seq_no») (countAfter r (p .count)) n s d) }

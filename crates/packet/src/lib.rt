@@ -186,15 +186,7 @@ impl DTVCCPacket {
             &mut sizes,
             &mut payload,
         );
-        answered(
-            self.seq_no,
-            self.count,
-            self.services,
-            r,
-            numbers,
-            sizes,
-            payload,
-        )
+        answered(self, r, numbers, sizes, payload)
     }
 
     // Pushes a code, a run of bytes, to the latest block of its number that has room, or as a new block [P11] [P12].
@@ -306,15 +298,7 @@ impl DTVCCPacket {
             &mut sizes,
             &mut payload,
         );
-        answered(
-            self.seq_no,
-            self.count,
-            self.services,
-            r,
-            numbers,
-            sizes,
-            payload,
-        )
+        answered(self, r, numbers, sizes, payload)
     }
 }
 
@@ -373,22 +357,20 @@ fn packet_of(r: Filled) -> PacketAnswer
 
 // The answer to a push into these places, which a refusal leaves as they were. It is built once: built for each answer, it would be copied.
 fn answered(
-    seq_no: u8,
-    before: usize,
-    services: u64,
+    before: DTVCCPacket,
     r: Counted,
     numbers: [u8; 63],
     sizes: [u8; 63],
     payload: [u8; 127],
 ) -> PacketAnswer
-    ensures { λ a. ⌜ a ≡ answerOf «seq_no» before services r numbers sizes payload ⌝ }
+    ensures { λ a. ⌜ a ≡ answerOf before r numbers sizes payload ⌝ }
 {
     PacketAnswer {
         answer: answer_to(r),
         packet: DTVCCPacket {
-            seq_no,
-            count: count_after(r, before),
-            services: services_after(r, services, &numbers),
+            seq_no: before.seq_no,
+            count: count_after(r, before.count),
+            services: services_after(r, before.services, &numbers),
             numbers,
             sizes,
             payload,
