@@ -59,7 +59,7 @@ fn numbers(value: &DTVCCPacket) -> BTreeSet<u8> {
 }
 
 /// The set of services: bit k is 1 if a block has number k.
-fn set(value: &DTVCCPacket) -> u64 {
+fn set_of(value: &DTVCCPacket) -> u64 {
     numbers(value).into_iter().map(|number| 1u64 << number).sum()
 }
 
@@ -101,7 +101,7 @@ impl Packet {
         }
         self.sequence = value.sequence_no();
         self.count = value.services().len();
-        self.services = set(&value);
+        self.services = set_of(&value);
         self.value = Some(value);
     }
 
@@ -111,7 +111,7 @@ impl Packet {
 
     /// The set of services, and how many they are.
     pub fn services(&self) -> Result<(u64, usize), Refusal> {
-        self.value().map(|value| (set(value), numbers(value).len()))
+        self.value().map(|value| (set_of(value), numbers(value).len()))
     }
 
     pub fn set(&mut self, sequence: u8, count: usize) {
@@ -139,6 +139,6 @@ impl Packet {
             packet.push_service(service(number, bytes)).ok()?;
             rest = behind;
         }
-        (self.services == set(&packet)).then_some(packet)
+        (self.services == set_of(&packet)).then_some(packet)
     }
 }

@@ -10,7 +10,6 @@ use Rattle.model.specs.Packet.{Packet}
 use Rattle.model.specs.Frame.{Cea608, field1, field2, pair}
 use Rattle.model.specs.Demux as model
 use Rattle.model.specs.Demux.{Demux, aPair, aPacket, noItem, itemValues, itemPacket}
-use Rattle.model.proofs.Packets.{Valid}
 use Rattle.model.proofs.DemuxStates.{demux-facts}
 use Rattle.packet.specs.Packet.{packetOf, blank, laid}
 use Rattle.packet.proofs.Holds.{blank-places}

@@ -13,15 +13,13 @@ use Rattle.model.specs.Block.{Block}
 use Rattle.model.specs.Packet.{Packet}
 use Rattle.caption.proofs.Answers.{answerOf, refused-again, saidCounted-injective, saidTruth-injective}
 use Rattle.service.specs.declared.Service.{Service}
-use Rattle.packet.specs.Packet.{Answers, saidSet}
+use Rattle.packet.specs.Packet.{Answers}
 use Rattle.packet.specs.Place.{saidPlace, Placed}
 use Rattle.packet.specs.declared.DTVCCPacket.{DTVCCPacket}
 use Rattle.packet.specs.declared.PacketAnswer.{PacketAnswer}
 use Rattle.packet.specs.declared.Place.{Place}
 use Rattle.packet.specs.declared.Place.the-variants.{Here, Nothing, Refused}
 use Rattle.packet.specs.declared.ServiceAt.{ServiceAt}
-use Rattle.packet.specs.declared.ServiceSet.{ServiceSet}
-use Rattle.packet.specs.declared.ServiceSet.the-variants as set
 use Rattle.determined.proofs.Service.{writes}
 use Rattle.packet.proofs.packet_size.Reads as packet_size
 use Rattle.packet.proofs.reads_in.Reads as ReadsIn
@@ -43,6 +41,7 @@ use Rattle.packet.proofs.DTVCCPacket.parse_in.Reads as ParseIn
 use Rattle.packet.proofs.DTVCCPacket.parse_tidy.Reads as parse_tidy
 use Rattle.packet.proofs.DTVCCPacket.is_valid.Reads as is_valid
 use Rattle.packet.proofs.Replies.{one-answer}
+use Rattle.packet.proofs.Services.{saidSet-injective}
 use Rattle.determined.specs.Determines.{Determines, DeterminesLent}
 use Rattle.determined.proofs.Ways.{equal, said, two}
 
@@ -59,19 +58,6 @@ place-again (Refused why) = refused-again placeOf Refused why
 -- no two places say the same
 saidPlace-injective : Injective saidPlace
 saidPlace-injective = LeftInverse·injective (answerOf placeOf Refused) saidPlace place-again
-
--- the set that its values tell
-abbrev setOf : List ℕ → ServiceSet
-setOf v = set.Of (getD v 0 0)
-
--- a set is taken back from what it says
-set-again : LeftInverse (answerOf setOf set.Refused) saidSet
-set-again (set.Of s) = refl
-set-again (set.Refused why) = refused-again setOf set.Refused why
-
--- no two sets say the same
-saidSet-injective : Injective saidSet
-saidSet-injective = LeftInverse·injective (answerOf setOf set.Refused) saidSet set-again
 
 module _ {A E : Type 0} where
   -- an answer and a packet

@@ -7,7 +7,7 @@ use Prim.Native.Nat.{ℕ}
 use Rattle.model.specs.Said.{Said, Outcome, gave, refused, mapped}
 use Rattle.model.specs.Block.{Block, headerLength, numberIn, isHeaderShort, needed, isShort, blockIn, shortAt, readBlockAt, readBlock, writtenHeader, writtenBlock, blockLength}
 use Rattle.model.specs.Packet.{Packet, sequenceIn, packetSize, plainMove, tidyMove, isNullHeader, blocksFrom, readBy, readPacket, reads, readTidy, blocksLength, packetLength, writtenBlocks, packetHeader, fill, writtenPacket}
-use Rattle.model.specs.Services.{among, once, bitsOf, servicesOf, serviceCount}
+use Rattle.model.specs.Services.{among, once, bitsOf, servicesOf, distinctServices}
 use Rattle.model.specs.Frame.{pair, Cea608, field1, field2, seen, seenAll, flat, triplesIn, flagged, frameBytes}
 use Rattle.model.specs.Demux.{turn608On, freshDemux, pairsIn, lateAfter, lateFrom, carries708, closed, packetsOf, kept, wants, gather, ended, gathered, takeGathered, takeTriples, unread, takeFrame}
 use Rattle.model.specs.Rate.{rounded, budgets, goingOn, carriedBudget, leftOver, carriedOn, carriedShare, shareBy}
@@ -42,7 +42,7 @@ one sequence number payload = record { sequence = sequence; blocks = record { nu
 
 -- the set of a packet's services, and how many they are
 abbrev setOf : Packet → Result
-setOf p = set (servicesOf p) (serviceCount p)
+setOf p = set (servicesOf p) (distinctServices p)
 
 -- a refusal is told as such, whatever was asked
 abbrev told : {A : Type 0} → (A → Result) → Outcome A → Result
@@ -147,7 +147,7 @@ pub examples : map (λ (r : Row). answer (r .input)) table ≡ map (λ (r : Row)
 unfolding table
     headerLength numberIn isHeaderShort needed isShort blockIn shortAt readBlockAt writtenHeader writtenBlock blockLength
     packetSize plainMove tidyMove isNullHeader blocksFrom readBy readPacket reads readTidy blocksLength packetLength writtenBlocks packetHeader fill writtenPacket
-    among once bitsOf servicesOf serviceCount
+    among once bitsOf servicesOf distinctServices
     seen seenAll flat triplesIn flagged frameBytes
     pairsIn lateAfter lateFrom carries708 closed packetsOf kept wants gather ended gathered takeGathered takeTriples unread takeFrame
     rounded budgets goingOn carriedBudget leftOver carriedOn carriedShare shareBy

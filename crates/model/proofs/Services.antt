@@ -14,7 +14,7 @@ use lib.Count.{ones, ones-cat}
 use Rattle.model.specs.Lists.{every}
 use Rattle.model.specs.Block.{Block}
 use Rattle.model.specs.Packet.{Packet, carriable}
-use Rattle.model.specs.Services.{among, once, bitsOf, numbersOf, servicesOf, serviceCount}
+use Rattle.model.specs.Services.{among, once, bitsOf, numbersOf, servicesOf, distinctServices}
 use Rattle.model.proofs.Cases.{by-test, both, and-both}
 use Rattle.model.proofs.Blocks.{carriable-facts}
 use Rattle.model.proofs.Packets.{Valid}
@@ -28,7 +28,7 @@ bits-top : (w : ℕ) (ns : List ℕ) → bitsOf (suc w) ns ≡ bitFor (among ns 
 unfolding bitsOf
 bits-top w ns = by-test (among ns w) (λ e. rw (e, one-mul)) (λ e. rw (e, zero-mul))
 
-pub bits-small : (w : ℕ) (ns : List ℕ) → bitsOf w ns < 2 ^ w
+bits-small : (w : ℕ) (ns : List ℕ) → bitsOf w ns < 2 ^ w
 unfolding bitsOf
 bits-small zero ns = omega arith
 bits-small (suc w) ns =
@@ -47,6 +47,12 @@ bit-before w ns k l =
     let e : w ≡ (j + 1) + k = omega arith in
     let r : n % 2 ^ w ≡ bitsOf w ns = ap (λ (x : ℕ). x % 2 ^ w) (bits-top w ns) ∙ low (bitFor (among ns w)) w (bits-small w ns) in
     sym (mod-mod-pow (n / 2 ^ k) j 1) ∙ ap (λ (x : ℕ). x % 2) (sym (field n (j + 1) k) ∙ ap (λ (x : ℕ). n % 2 ^ x / 2 ^ k) (sym e) ∙ ap (λ (x : ℕ). x / 2 ^ k) r)
+
+-- no number has a bit among none
+pub bits-none : (w : ℕ) → bitsOf w [] ≡ 0
+unfolding bitsOf among
+bits-none zero = refl
+bits-none (suc w) = zero-add (bitsOf w []) ∙ bits-none w
 
 -- Bit k of the set is 1 exactly where k is among the numbers.
 pub bit-among : (w : ℕ) (ns : List ℕ) (k : ℕ) → k < w → bitsOf w ns / 2 ^ k % 2 ≡ bitFor (among ns k)
@@ -116,11 +122,6 @@ ones-top w ns =
     ap ones (bits-top w ns) ∙ ones-cat w (bitFor (among ns w)) (bitsOf w ns) (bits-small w ns)
     ∙ by-test (among ns w) (λ e. rw e) (λ e. rw e)
 
-ones-none : (w : ℕ) → ones (bitsOf w []) ≡ 0
-unfolding bitsOf ones among
-ones-none zero = refl
-ones-none (suc w) = ap ones (zero-add (bitsOf w [])) ∙ ones-none w
-
 -- a number that was not among the others makes one more
 ones-end : (n : ℕ) (ns : List ℕ) → among ns n ≡ false → ones (bitsOf (suc n) (n ∷ ns)) ≡ 1 + ones (bitsOf (suc n) ns)
 ones-end n ns none =
@@ -144,8 +145,8 @@ bits-again w n ns e = bits-as w (n ∷ ns) ns (λ k _. by-test (eqb n k) (λ q. 
 
 -- The law of ones, over the width: a set of numbers that are all below it has as many ones as there are different numbers.
 pub ones-once : (w : ℕ) (ns : List ℕ) → every (λ n. ltb n w) ns ≡ true → ones (bitsOf w ns) ≡ length (once ns)
-unfolding every once
-ones-once w [] h = ones-none w
+unfolding every once ones
+ones-once w [] h = ap ones (bits-none w)
 ones-once w (n ∷ ns) h =
     let t = both (ltb n w) (every (λ k. ltb k w) ns) h in
     by-test (among ns n)
@@ -161,6 +162,6 @@ low-numbers (b ∷ bs) h =
     and-both (ltb (b .number) 64) (every (λ n. ltb n 64) (numbersOf bs)) (lt-ltb (b .number) 64 (omega (arith, carriable-facts b (t .0) .known))) (low-numbers bs (t .1))
 
 -- so that a packet within the limits has as many services as its set has ones [P16]
-pub services-counted : (p : Packet) → Valid p → ones (servicesOf p) ≡ serviceCount p
-unfolding servicesOf serviceCount
+pub services-counted : (p : Packet) → Valid p → ones (servicesOf p) ≡ distinctServices p
+unfolding servicesOf distinctServices
 services-counted p v = ones-once 64 (numbersOf (p .blocks)) (low-numbers (p .blocks) (v .blocks))

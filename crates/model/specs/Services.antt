@@ -31,5 +31,5 @@ unfoldable pub servicesOf : Packet → ℕ
 servicesOf p = bitsOf 64 (numbersOf (p .blocks))
 
 -- How many services it has, one with several blocks counted once [P16].
-unfoldable pub serviceCount : Packet → ℕ
-serviceCount p = length (once (numbersOf (p .blocks)))
+unfoldable pub distinctServices : Packet → ℕ
+distinctServices p = length (once (numbersOf (p .blocks)))

@@ -56,7 +56,7 @@ pub entries-within : (p : DTVCCPacket) → Within p → Places p → held.Within
 entries-within p w places = held.held-within (fieldsOf p) w (places .payload)
 
 -- the set of the numbers in their places is that of the services
-pub set-is : (p : DTVCCPacket) → Places p → p .count ≤ 63 → servicesTo (p .count) (p .numbers) ≡ servicesOf (packetOf p)
+set-is : (p : DTVCCPacket) → Places p → p .count ≤ 63 → servicesTo (p .count) (p .numbers) ≡ servicesOf (packetOf p)
 unfolding servicesOf
 set-is p places few =
     set-few (p .numbers) (p .count) few ∙ ap (bitsOf 64) (sym (held-numbers (p .count) (p .numbers) (p .sizes) (p .payload) (omega (arith, places .numbers))))

@@ -11,7 +11,7 @@ use borrow.Author.Tests.{lt-ltb, le-ltb}
 use Rattle.model.specs.Lists.{every}
 use Rattle.model.specs.Said.{gave, refused, measured, accepted, badValue, badNumber}
 use Rattle.model.specs.Packet.{newPacket, packetLength, packetRoom}
-use Rattle.model.specs.Services.{servicesOf, serviceCount}
+use Rattle.model.specs.Services.{servicesOf, distinctServices}
 use Rattle.model.proofs.Cases.{by-test}
 use Rattle.model.proofs.Packets.{Valid, length-empty}
 use Rattle.model.proofs.Services.{services-counted}
@@ -66,7 +66,7 @@ module _ (p : DTVCCPacket) where
     pub set-measured : accepted (p .services ∷ []) ≡ measured (validDTVCC p) (servicesOf (packetOf p))
     set-measured = measure-good _ _ is _ _ e (services-held p (sym is ∙ e))
 
-    pub ones-measured : (n : ℕ) → n ≡ ones (p .services) → accepted (n ∷ []) ≡ measured (validDTVCC p) (serviceCount (packetOf p))
+    pub ones-measured : (n : ℕ) → n ≡ ones (p .services) → accepted (n ∷ []) ≡ measured (validDTVCC p) (distinctServices (packetOf p))
     ones-measured n q =
         let ok : validDTVCC p ≡ true = sym is ∙ e in
         measure-good _ _ is _ _ e (q ∙ ap ones (services-held p ok) ∙ services-counted (packetOf p) (held-valid p (within-facts p ok)))

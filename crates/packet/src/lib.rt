@@ -7,7 +7,7 @@ ghost use Rattle.caption.specs.Answers.{saidCounted, saidTruth};
 ghost use Rattle.model.specs.Said.{gave, checked, measured};
 ghost use Rattle.model.specs.Packet.{packetSize, readPacket, readTidy, newPacket, packetLength, packetRoom, writtenPacket, pushBlock, pushRun, pushRunSingle, pushRunBy};
 ghost use Rattle.model.specs.Packet as model;
-ghost use Rattle.model.specs.Services.{servicesOf, serviceCount};
+ghost use Rattle.model.specs.Services.{servicesOf, distinctServices};
 ghost use Rattle.service.specs.Service.{Writes, blockOf, validService};
 ghost use Rattle.service.specs.Service as service;
 ghost use Rattle.packet.specs.Packet.{Answers, packetOf, blank, validDTVCC, saidSet};
@@ -140,7 +140,7 @@ impl DTVCCPacket {
 
     // How many services the packet has: as many as its set has ones [P16].
     pub fn distinct_services(self) -> Counted
-        ensures { λ r. ⌜ saidCounted r ≡ measured (validDTVCC self) (serviceCount (packetOf self)) ⌝ }
+        ensures { λ r. ⌜ saidCounted r ≡ measured (validDTVCC self) (distinctServices (packetOf self)) ⌝ }
     {
         if self.is_valid() {
             return Counted::Count(packet_services::how_many(self.services));
@@ -237,7 +237,7 @@ impl DTVCCPacket {
         packet_writing::write(self.seq_no, self.count, &numbers, &sizes, &payload, out)
     }
 
-    // Whether the packet breaks no limit [P1].
+    // Whether the packet breaks no limit [P1] [P15].
     pub fn is_valid(self) -> bool
         ensures { λ r. ⌜ r ≡ validDTVCC self ⌝ }
     {
@@ -264,7 +264,7 @@ impl DTVCCPacket {
         ensures { λ r. ⌜ r ≡ agrees self ⌝ }
     {
         let numbers = self.numbers;
-        self.services == packet_services::services_of(&numbers, self.count)
+        self.services == packet_services::services_to(&numbers, self.count)
     }
 
     // A packet that breaks a limit, handed back.
@@ -341,7 +341,7 @@ fn packet_of(r: Filled) -> PacketAnswer
     let numbers = r.numbers;
     let sizes = r.sizes;
     let payload = r.payload;
-    let services = packet_services::services_of(&numbers, r.count);
+    let services = packet_services::services_to(&numbers, r.count);
     PacketAnswer {
         answer,
         packet: DTVCCPacket {
@@ -404,7 +404,7 @@ fn services_after(r: Counted, before: u64, numbers: &[u8; 63]) -> u64
 {
     match r {
         Counted::Refused(_) => before,
-        Counted::Count(count) => packet_services::services_of(numbers, count),
+        Counted::Count(count) => packet_services::services_to(numbers, count),
     }
 }
 

@@ -1,5 +1,5 @@
 -- The places of a packet: what three arrays of numbers, sizes and payloads hold, and when that breaks no limit. But for `blocksHeld` this is for the
--- functions and the proofs of this crate, of `packet_blocks`, `packet_pushes` and `packet`, which says the same of its own struct. Assumes nothing.
+-- functions and the proofs of this crate, of `packet_blocks`, `packet_pushes` and `packet`, which says the same of its own struct, and of the set of services besides. Assumes nothing.
 use mathlib.Core.Path.{_≡_}
 use mathlib.Core.Bool.{Bool, _&&_}
 use mathlib.Core.List.{List, [], _∷_, map, flatMap, foldr}

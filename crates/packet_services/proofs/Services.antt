@@ -1,8 +1,7 @@
 -- The set of the first numbers, one number further. Assumes nothing.
-use mathlib.Core.Path.{_≡_, refl, sym, ap, _∙_}
-use mathlib.Core.List.{List, [], _∷_}
-use Prim.Native.Nat.{ℕ, zero, suc, _+_, _^_, _≤_, _<_}
-use native.Mathlib.Nat.{zero-add}
+use mathlib.Core.Path.{_≡_, sym, ap, _∙_}
+use mathlib.Core.List.{List, _∷_}
+use Prim.Native.Nat.{ℕ, _+_, _^_, _≤_, _<_}
 use native.Mathlib.Numerals.{add-one}
 use native.Mathlib.Omega.{arith}
 use borrow.Author.Tests.{lt-ltb, le-ltb, ltb-true, ltb-false}
@@ -10,9 +9,9 @@ use lib.Bits.{bitOr}
 use lib.Dec.{ltb}
 use lib.ListN.{length, take, getD}
 use lib.Seq.{take-suc}
-use Rattle.model.specs.Services.{among, bitsOf}
+use Rattle.model.specs.Services.{bitsOf}
 use Rattle.model.proofs.Cases.{by-test}
-use Rattle.model.proofs.Services.{bits-past, bits-with, bits-last}
+use Rattle.model.proofs.Services.{bits-none, bits-past, bits-with, bits-last}
 use Rattle.packet_services.specs.Services.{withNumber, servicesTo}
 
 -- a number above 63 has no bit
@@ -26,14 +25,9 @@ with-one set n h = simp (le-ltb 63 n h)
 
 -- the set of the first numbers
 module _ (ns : List ℕ) where
-  no-bits : (w : ℕ) → 0 ≡ bitsOf w []
-  unfolding bitsOf among
-  no-bits zero = refl
-  no-bits (suc w) = no-bits w ∙ sym (zero-add (bitsOf w []))
-
   -- of none
   pub set-first : 0 ≡ bitsOf 64 (take 0 ns)
-  set-first = no-bits 64
+  set-first = sym (bits-none 64)
 
   -- of one more
   pub set-next : (i s r : ℕ) → i < length ns → s ≡ bitsOf 64 (take i ns) → r ≡ withNumber s (getD ns i 0) → r ≡ bitsOf 64 (take (i + 1) ns)

@@ -16,7 +16,7 @@ fn with_number(set: u64, number: u8) -> u64
 }
 
 // The set of the first `count` numbers.
-pub fn services_of(numbers: &[u8; 63], count: usize) -> u64
+pub fn services_to(numbers: &[u8; 63], count: usize) -> u64
     ensures { λ r. ⌜ r ≡ servicesTo count (now (numbers .entry)) ⌝ }
 {
     let all = &numbers[..];

@@ -19,7 +19,7 @@ const READINGS: usize = 1000000;
 // No frame leaves more to draw than 31 pairs and 32 packets, and once nothing is drawn.
 const MOST_DRAWS: usize = 64000001;
 
-// The items drawn, the sum over their blocks, and the demultiplexer.
+// The items drawn, the sum over their blocks and sets, and the demultiplexer.
 struct Totals {
     items: u64,
     sum: u64,

@@ -1,4 +1,4 @@
-// The operations of a script, by their letters, on its packet: each makes one call, lays the line that tells of it into a lent buffer from a place
+// The operations of a script, by their letters, on its packet: each makes its call or calls, or sets fields, lays the line that tells of it into a lent buffer from a place
 // on, and answers the place behind the line beside what the call leaves.
 ghost use mathlib.Core.Path.{_≡_};
 ghost use lib.ListN.{drop};
@@ -210,7 +210,7 @@ fn measure_packet(out: &mut [u8], at: usize, packet: DTVCCPacket) -> OnPacket
     }
 }
 
-// The set of the packet set, whatever it breaks.
+// The packet's set becomes that of eight bytes, whatever it breaks.
 fn set_services(out: &mut [u8], at: usize, before: DTVCCPacket, args: &[u8]) -> OnPacket
     ensures { λ r. ⌜ Runs (setsServices (setIn (now (args .entry))) before) (now (out .entry)) at (r .ran) (r .laid) (r .packet) (now (out .exit)) ⌝ }
 {

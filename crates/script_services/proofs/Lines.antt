@@ -1,21 +1,19 @@
 -- The line of a packet's services: its parts, laid one behind another, and what two calls tell of them. Assumes nothing.
-use mathlib.Core.Path.{_≡_, ap}
+use mathlib.Core.Path.{_≡_}
 use mathlib.Core.Bool.{Bool, true, false, cond}
 use mathlib.Core.List.{List}
 use Prim.Native.Nat.{ℕ}
-use native.Mathlib.Omega.{arith}
-use lib.ListN.{getD}
-use Rattle.model.specs.Said.{Said, measured, badValue}
-use Rattle.model.specs.Services.{servicesOf, serviceCount}
+use Rattle.model.specs.Said.{measured, badValue}
+use Rattle.model.specs.Services.{servicesOf, distinctServices}
 use Rattle.caption.specs.declared.Refusal.{Refusal}
 use Rattle.caption.specs.declared.Counted.{Counted}
 use Rattle.caption.specs.declared.Counted.the-variants as counted
 use Rattle.caption.specs.Answers.{saidRefusal, saidCounted}
-use Rattle.caption.proofs.Answers.{refusal-numbered}
 use Rattle.packet.specs.declared.DTVCCPacket.{DTVCCPacket}
 use Rattle.packet.specs.declared.ServiceSet.{ServiceSet}
 use Rattle.packet.specs.declared.ServiceSet.the-variants as set
 use Rattle.packet.specs.Packet.{packetOf, validDTVCC, saidSet}
+use Rattle.packet.proofs.Services.{set-told, count-told}
 use Rattle.program_text.specs.Laid.{Laid}
 use Rattle.program_text.specs.Text.{word}
 use Rattle.program_text.proofs.Layings.{laid-append}
@@ -47,16 +45,10 @@ module _ {out after : List ℕ} {at r : ℕ} where
 told-as : (v : Bool) (a b : ℕ) (s : ServiceSet) (m : Counted) → saidSet s ≡ measured v a → saidCounted m ≡ measured v b
     → toldLine s m ≡ cond v (setLine a b) (answerLine badValue)
 unfolding toldLine
-told-as true a b (set.Of x) (counted.Count n) e f =
-    let p : x ≡ a = ap (λ (s : Said). getD (s .values) 0 0) e in
-    let q : n ≡ b = ap (λ (s : Said). getD (s .values) 0 0) f in
-    rw (p, q)
-told-as true a b (set.Of x) (counted.Refused why) e f = absurd (refusal-numbered why (ap (λ (s : Said). s .number) f))
-told-as true a b (set.Refused why) m e f = absurd (refusal-numbered why (ap (λ (s : Said). s .number) e))
-told-as false a b (set.Of x) m e f = let z : _≡_ {A = ℕ} 0 11 = ap (λ (s : Said). s .number) e in absurd (omega arith)
-told-as false a b (set.Refused why) m e f = ap answerLine e
+told-as true a b s m e f = rw (set-told true a s e, count-told true b m f)
+told-as false a b s m e f = rw (set-told false a s e)
 
 pub told : {out after : List ℕ} {at r : ℕ} (p : DTVCCPacket) (s : ServiceSet) (m : Counted) → saidSet s ≡ measured (validDTVCC p) (servicesOf (packetOf p))
-    → saidCounted m ≡ measured (validDTVCC p) (serviceCount (packetOf p)) → Laid (toldLine s m) out at r after → Laid (servicesLine p) out at r after
+    → saidCounted m ≡ measured (validDTVCC p) (distinctServices (packetOf p)) → Laid (toldLine s m) out at r after → Laid (servicesLine p) out at r after
 unfolding servicesLine
 told p s m e f l = rw (told-as (validDTVCC p) _ _ s m e f) at l

@@ -1,4 +1,4 @@
-// The services of a packet in a script: their set as sixteen digits of a line, with how many they are, and a set out of eight argument bytes.
+// The services of a packet in a script: their set as sixteen hex figures of a line, with how many they are, and a set out of eight argument bytes.
 ghost use mathlib.Core.Path.{_≡_};
 ghost use Rattle.program_text.specs.Laid.{Laid};
 ghost use Rattle.script_services.specs.Sets.{highestBytes, setIn, setLine, toldLine, servicesLine};

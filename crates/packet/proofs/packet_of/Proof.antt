@@ -3,11 +3,11 @@ use borrow.Author.Needs.{needs}
 use Rattle.packet.proofs.packet_of.Statement.{statement}
 use Rattle.packet.proofs.packet_of.Tie as tie
 
-services-of-requires : tie.Need-services-of-requires
-services-of-requires c κs = search needs
+services-to-requires : tie.Need-services-to-requires
+services-to-requires c κs = search needs
 
 returns : tie.Need-returns
-returns c = rw (c .services-of .ensures)
+returns c = rw (c .services-to .ensures)
 
 pub packet-of-spec : {M : Type 1} → statement M
-packet-of-spec = tie.close (tie.spec services-of-requires returns)
+packet-of-spec = tie.close (tie.spec services-to-requires returns)

@@ -1,5 +1,5 @@
 -- Two numbers of four bytes are one of eight. Assumes nothing.
-use Rattle.script_services.specs.Sets.{setIn}
+use Rattle.script_services.proofs.Sets.{eight-bytes}
 use borrow.Author.Needs.{needs}
 use Rattle.script_services.proofs.set_in.Statement.{statement}
 use Rattle.script_services.proofs.set_in.Tie as tie
@@ -23,8 +23,7 @@ add-result : tie.Need-add-result
 add-result c = search needs
 
 returns : tie.Need-returns
-unfolding setIn
-returns c = rw (c .before .number-at .ensures, c .number-at2 .ensures)
+returns c = rw (c .before .number-at .ensures, c .number-at2 .ensures) (eight-bytes _)
 
 pub set-in-spec : {M : Type 1} → statement M
 set-in-spec =

@@ -4,12 +4,12 @@ use Rattle.packet.specs.Replies.{agrees}
 use Rattle.packet.proofs.DTVCCPacket.services_agree.Statement.{statement}
 use Rattle.packet.proofs.DTVCCPacket.services_agree.Tie as tie
 
-services-of-requires : tie.Need-services-of-requires
-services-of-requires c κs = search needs
+services-to-requires : tie.Need-services-to-requires
+services-to-requires c κs = search needs
 
 returns : tie.Need-returns
 unfolding agrees
-returns c = rw (c .before .services-of .ensures)
+returns c = rw (c .before .services-to .ensures)
 
 pub services-agree-spec : {M : Type 1} → statement M
-services-agree-spec = tie.close (tie.spec services-of-requires returns)
+services-agree-spec = tie.close (tie.spec services-to-requires returns)

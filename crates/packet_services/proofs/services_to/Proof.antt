@@ -7,8 +7,8 @@ use lib.ListN.{length, take}
 use borrow.Author.Needs.{needs}
 use Rattle.model.specs.Services.{bitsOf}
 use Rattle.packet_services.proofs.Services.{set-first, set-next, set-few, set-many}
-use Rattle.packet_services.proofs.services_of.Statement.{statement}
-use Rattle.packet_services.proofs.services_of.Tie as tie
+use Rattle.packet_services.proofs.services_to.Statement.{statement}
+use Rattle.packet_services.proofs.services_to.Tie as tie
 
 abbrev Inv-loop : tie.InvT-loop
 Inv-loop numbers count all set₀ i₀ set i = (i ≤ count) × (count ≤ 63) × (length numbers ≡ 63) × (set ≡ bitsOf 64 (take i numbers))
@@ -46,8 +46,8 @@ returns-2 c =
     let all : l .i ≡ c .before .before .before .before .args .count = omega (arith, l .inv .0) in
     l .inv .3 ∙ rw all (sym (set-few _ _ (l .inv .1)))
 
-pub services-of-spec : {M : Type 1} → statement M
-services-of-spec =
+pub services-to-spec : {M : Type 1} → statement M
+services-to-spec =
     tie.close
     (tie.spec
     Inv-loop
