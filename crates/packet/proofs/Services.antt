@@ -91,7 +91,10 @@ module _ (p : DTVCCPacket) (wrong : p .services ≡ servicesOf (packetOf p) → 
   unfolding validDTVCC validFields
   invalid = rw (ne-eqb (p .services) (servicesOf (packetOf p)) wrong) (and-false (validFields (fieldsOf p)))
 
-  -- what is measured of it
+  -- its set, and whatever is counted
+  pub wrong-told : (r : ServiceSet) (n : ℕ) → saidSet r ≡ measured (validDTVCC p) n → r ≡ set.Refused BadValue
+  wrong-told r n e = set-told (validDTVCC p) n r e ∙ rw invalid
+
   pub wrong-measured : (c : Counted) (n : ℕ) → saidCounted c ≡ measured (validDTVCC p) n → c ≡ counted.Refused BadValue
   wrong-measured c n e = count-told (validDTVCC p) n c e ∙ rw invalid
 
