@@ -135,3 +135,8 @@ module _ (valid v : Bool) (is : v ≡ valid) where
   -- the number where none is
   pub measure-good : (n k : ℕ) → v ≡ true → n ≡ k → accepted (n ∷ []) ≡ measured valid k
   measure-good n k e q = rw (← is, e, q)
+
+-- so that a count tells whether a limit is broken, and the number
+pub count-told : (v : Bool) (n : ℕ) (c : Counted) → saidCounted c ≡ measured v n → c ≡ cond v (counted.Count n) (counted.Refused BadValue)
+count-told true n c e = saidCounted-injective c (counted.Count n) e
+count-told false n c e = saidCounted-injective c (counted.Refused BadValue) e

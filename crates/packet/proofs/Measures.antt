@@ -41,11 +41,6 @@ pub new-valid : (q : ℕ) → q ≤ 3 → Valid (record { sequence = q; blocks =
 unfolding every
 new-valid q h = record { sequence = h; blocks = refl; length = omega (arith, length-empty (record { sequence = q; blocks = [] }) refl) }
 
--- an extent that is given only under a test
-extent-given : (b : Bool) (e : Extent) (l u : ℕ) → cond b e Bad ≡ Of l u → (b ≡ true) × (e ≡ Of l u)
-extent-given true e l u q = (refl, q)
-extent-given false e l u q = let z : _≡_ {A = ℕ} 0 1 = cc in absurd (omega arith)
-
 module _ (p : DTVCCPacket) where
   -- the extent of its places
   abbrev extentHere : Extent
@@ -75,7 +70,7 @@ module _ (p : DTVCCPacket) where
   module _ (x : Extent) (is : x ≡ extentOf p) where
     given : (l u : ℕ) → x ≡ Of l u → (agrees p ≡ true) × (extentHere ≡ Of l u)
     unfolding extentOf
-    given l u q = extent-given (agrees p) extentHere l u (sym is ∙ q)
+    given l u q = walks.extent-given (agrees p) extentHere l u (sym is ∙ q)
 
     sized : (l u : ℕ) → x ≡ Of l u → Sized (fieldsOf p) l u
     sized l u q = walks.extent-sized (fieldsOf p) extentHere refl l u (given l u q .1)

@@ -17,7 +17,7 @@ use Rattle.caption.specs.declared.Counted.{Counted}
 use Rattle.caption.specs.declared.Counted.the-variants as counted
 use Rattle.caption.specs.declared.Refusal.the-variants.{BadValue}
 use Rattle.caption.specs.Answers.{saidCounted}
-use Rattle.caption.proofs.Answers.{answerOf, refused-again, saidCounted-injective}
+use Rattle.caption.proofs.Answers.{answerOf, refused-again, saidCounted-injective, count-told}
 use Rattle.service.specs.Service.{Writes}
 use Rattle.packet_entries.specs.Fields.{validFields}
 use Rattle.packet.specs.declared.DTVCCPacket.{DTVCCPacket}
@@ -47,10 +47,6 @@ saidSet-injective = LeftInverse·injective (answerOf setOf set.Refused) saidSet 
 pub set-told : (v : Bool) (n : ℕ) (r : ServiceSet) → saidSet r ≡ measured v n → r ≡ cond v (set.Of n) (set.Refused BadValue)
 set-told true n r e = saidSet-injective r (set.Of n) e
 set-told false n r e = saidSet-injective r (set.Refused BadValue) e
-
-pub count-told : (v : Bool) (n : ℕ) (c : Counted) → saidCounted c ≡ measured v n → c ≡ cond v (counted.Count n) (counted.Refused BadValue)
-count-told true n c e = saidCounted-injective c (counted.Count n) e
-count-told false n c e = saidCounted-injective c (counted.Refused BadValue) e
 
 -- a set that is told
 set-given : (v : Bool) (n s : ℕ) → set.Of s ≡ cond v (set.Of n) (set.Refused BadValue) → (v ≡ true) × (s ≡ n)
@@ -85,7 +81,7 @@ set-kept (refused why) old r a k = rw (a .places) k
 pub made-set : (o : Outcome Packet) (r : PacketAnswer) → Answers o blank r → r .packet .services ≡ servicesOf (packetOf (r .packet))
 made-set o r a = set-kept o blank r a (services-held blank blank-valid)
 
--- A packet whose set is not that of its services: every call is refused with 11, and changes nothing [P15].
+-- A packet whose set is not that of its services: what is told or counted of it, a push and a write are refused with 11, and nothing changes [P15].
 module _ (p : DTVCCPacket) (wrong : p .services ≡ servicesOf (packetOf p) → ⊥) where
   invalid : validDTVCC p ≡ false
   unfolding validDTVCC validFields

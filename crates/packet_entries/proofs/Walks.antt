@@ -149,10 +149,13 @@ pub sum-many : (l : List ℕ) (k : ℕ) → 63 < k → 0 ≡ sumTo k l
 unfolding sumTo
 sum-many l k h = simp (lt-ltb 63 k h)
 
--- what an extent says
+-- what an extent says that is given only under a test
+pub extent-given : (b : Bool) (e : Extent) (l u : ℕ) → cond b e Bad ≡ Of l u → (b ≡ true) × (e ≡ Of l u)
+extent-given true e l u q = (refl, q)
+extent-given false e l u q = let z : _≡_ {A = ℕ} 0 1 = cc in absurd (omega arith)
+
 of-parts : (b : Bool) (l u l′ u′ : ℕ) → cond b (Of l u) Bad ≡ Of l′ u′ → (b ≡ true) × (l ≡ l′) × (u ≡ u′)
-of-parts true l u l′ u′ e = (refl, cc, cc)
-of-parts false l u l′ u′ e = let z : _≡_ {A = ℕ} 0 1 = cc in absurd (omega arith)
+of-parts b l u l′ u′ e = let g = extent-given b (Of l u) l′ u′ e in let q : Of l u ≡ Of l′ u′ = g .1 in (g .0, cc, cc)
 
 bad-parts : (b : Bool) (l u : ℕ) → cond b (Of l u) Bad ≡ Bad → b ≡ false
 bad-parts false l u e = refl

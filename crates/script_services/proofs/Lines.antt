@@ -9,11 +9,12 @@ use Rattle.caption.specs.declared.Refusal.{Refusal}
 use Rattle.caption.specs.declared.Counted.{Counted}
 use Rattle.caption.specs.declared.Counted.the-variants as counted
 use Rattle.caption.specs.Answers.{saidRefusal, saidCounted}
+use Rattle.caption.proofs.Answers.{count-told}
 use Rattle.packet.specs.declared.DTVCCPacket.{DTVCCPacket}
 use Rattle.packet.specs.declared.ServiceSet.{ServiceSet}
 use Rattle.packet.specs.declared.ServiceSet.the-variants as set
 use Rattle.packet.specs.Packet.{packetOf, validDTVCC, saidSet}
-use Rattle.packet.proofs.Services.{set-told, count-told}
+use Rattle.packet.proofs.Services.{set-told}
 use Rattle.program_text.specs.Laid.{Laid}
 use Rattle.program_text.specs.Text.{word}
 use Rattle.program_text.proofs.Layings.{laid-append}

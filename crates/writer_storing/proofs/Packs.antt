@@ -12,7 +12,7 @@ use Rattle.model.specs.Packet.{Packet, packetLength, writtenPacket}
 use Rattle.model.proofs.Cases.{by-test}
 use Rattle.model.proofs.Packets.{Shape, shape, length-some, length-empty}
 use Rattle.caption.specs.Answers.{saidCounted}
-use Rattle.caption.proofs.Answers.{saidCounted-injective}
+use Rattle.caption.proofs.Answers.{count-told}
 use Rattle.caption.specs.declared.Counted.{Counted}
 use Rattle.caption.specs.declared.Counted.the-variants as counted
 use Rattle.caption.specs.declared.Answer.the-variants.{Accepted, Refused}
@@ -30,12 +30,12 @@ use Rattle.writer_storing.specs.declared.Placed.{Placed}
 
 -- what a length that was asked for tells
 pub counted-given : (v : Bool) (r : Counted) (n m : ℕ) → saidCounted r ≡ measured v m → r ≡ counted.Count n → (v ≡ true) × (n ≡ m)
-counted-given true r n m e z = (refl, (cc (saidCounted-injective r (counted.Count m) e)))
-counted-given false r n m e z = let k : r ≡ counted.Refused BadValue = saidCounted-injective r (counted.Refused BadValue) e in ((cc), (cc))
+counted-given true r n m e z = (refl, (cc (count-told true m r e)))
+counted-given false r n m e z = let k : r ≡ counted.Refused BadValue = count-told false m r e in ((cc), (cc))
 
 -- a refusal tells that the packet breaks a limit
 pub counted-refused : (v : Bool) (r : Counted) (why : Refusal) (m : ℕ) → saidCounted r ≡ measured v m → r ≡ counted.Refused why → v ≡ false
-counted-refused true r why m e z = let k : r ≡ counted.Count m = saidCounted-injective r (counted.Count m) e in (cc)
+counted-refused true r why m e z = let k : r ≡ counted.Count m = count-told true m r e in (cc)
 counted-refused false r why m e z = refl
 
 -- a length is 0 for an empty packet alone
