@@ -2,18 +2,18 @@
 -- Assumes nothing.
 use mathlib.Core.Path.{_≡_, refl, sym, ap, subst, _∙_}
 use mathlib.Core.Bool.{Bool, true, false, cond, true≢false}
-use mathlib.Core.List.{List, [], _∷_}
+use mathlib.Core.List.{List, [], _∷_, _++_}
 use mathlib.Mathlib.Logic.Function.Defs.{id, Injective, LeftInverse, LeftInverse·injective}
 use Prim.Native.Nat.{ℕ, _-_}
 use lib.Dec.{eqb}
-use lib.ListN.{getD}
+use lib.ListN.{getD, replicate}
 use borrow.Author.Tests.{eq-eqb}
 use Rattle.model.specs.Said.{Said, accepted, badValue, measured}
 use Rattle.model.specs.Said as model
 use Rattle.model.proofs.Cases.{Refuses}
 use Rattle.caption.specs.Answers.{saidRefusal, saidAnswer, saidCounted, saidTruth}
 use Rattle.caption.specs.declared.Refusal.{Refusal}
-use Rattle.caption.specs.declared.Refusal.the-variants.{Cea608AfterCea708, WouldOverflow, ReadOnly, EmptyService, BadNumber, BadRun, BadRate, OutShort, Full, BadValue, FrameLengthWrong, PacketLengthWrong, BlockHeaderShort, BlockBodyShort}
+use Rattle.caption.specs.declared.Refusal.the-variants.{Cea608AfterCea708, WouldOverflow, ReadOnly, EmptyService, BadNumber, BadRun, BadRate, OutShort, Full, BadValue, FrameLengthWrong, PacketLengthWrong, BlockHeaderShort, BlockBodyShort, UnknownLength, CodeCutShort}
 use Rattle.caption.specs.declared.Answer.{Answer}
 use Rattle.caption.specs.declared.Answer.the-variants as answer
 use Rattle.caption.specs.declared.Counted.{Counted}
@@ -21,7 +21,7 @@ use Rattle.caption.specs.declared.Counted.the-variants as counted
 use Rattle.caption.specs.declared.Truth.{Truth}
 use Rattle.caption.specs.declared.Truth.the-variants as truth
 
--- the table's rows from 2 on, with the values that they carry
+-- the table's rows from 2 on, with the values that they carry; 16 to 20 have no row
 abbrev refusals : List ℕ → List Refusal
 refusals v =
     Cea608AfterCea708 (getD v 0 0)
@@ -38,7 +38,7 @@ refusals v =
     ∷ PacketLengthWrong (getD v 0 0) (getD v 1 0) (getD v 2 0)
     ∷ BlockHeaderShort (getD v 0 0) (getD v 1 0) (getD v 2 0)
     ∷ BlockBodyShort (getD v 0 0) (getD v 1 0) (getD v 2 0)
-    ∷ []
+    ∷ (replicate 5 BadValue ++ (UnknownLength ∷ CodeCutShort ∷ []))
 
 -- Every answer that gives values or refuses is taken back from what it says in the same way.
 module _ {A : Type 0} (given : List ℕ → A) (refused : Refusal → A) where
@@ -62,6 +62,8 @@ module _ {A : Type 0} (given : List ℕ → A) (refused : Refusal → A) where
   refused-again (PacketLengthWrong expected actual offset) = refl
   refused-again (BlockHeaderShort expected actual offset) = refl
   refused-again (BlockBodyShort expected actual offset) = refl
+  refused-again UnknownLength = refl
+  refused-again CodeCutShort = refl
 
 -- so none has the number of what is accepted
 pub refusal-numbered : (why : Refusal) → saidRefusal why .number ≡ 0 → ⊥
@@ -69,10 +71,19 @@ refusal-numbered why z =
     let e : answerOf (λ _. true) (λ _. false) (saidRefusal why) ≡ true = rw (eq-eqb _ _ z) in
     true≢false (sym e ∙ refused-again (λ _. true) (λ _. false) why)
 
--- an answer that refuses is the refusal of the outcome that it tells
+-- an answer that refuses is the refusal of the outcome that it tells, whatever else that could give
+pub refused-with : {A : Type 0} (values : A → List ℕ) (why : Refusal) (o : model.Outcome A) → saidRefusal why ≡ model.saysWith values o → o ≡ model.refused (saidRefusal why)
+refused-with values why (model.gave x) h = absurd (refusal-numbered why (ap (λ (s : Said). s .number) h))
+refused-with values why (model.refused y) h = ap model.refused (sym h)
+
 pub refused-as : {A : Type 0} (why : Refusal) (o : model.Outcome A) → saidRefusal why ≡ model.says o → o ≡ model.refused (saidRefusal why)
-refused-as why (model.gave x) h = absurd (refusal-numbered why (ap (λ (s : Said). s .number) h))
-refused-as why (model.refused y) h = ap model.refused (sym h)
+refused-as why o h = refused-with (λ _. []) why o h
+
+-- and one that accepts tells what it gives, if no refusal of it has the number of what is accepted
+pub given-with : {A : Type 0} (values : A → List ℕ) (vs : List ℕ) (o : model.Outcome A) → Refuses (λ why. why .number ≡ 0 → ⊥) o → accepted vs ≡ model.saysWith values o
+    → (x : A) × (o ≡ model.gave x) × (vs ≡ values x)
+given-with values vs (model.gave x) n h = (x, refl, ap (λ (s : Said). s .values) h)
+given-with values vs (model.refused why) n h = absurd (n (sym (ap (λ (s : Said). s .number) h)))
 
 -- so what holds of every refusal of that outcome holds of it
 pub refused-so : {A : Type 0} (P : Said → Type 0) (why : Refusal) (o : model.Outcome A) → Refuses P o → saidRefusal why ≡ model.says o → P (saidRefusal why)

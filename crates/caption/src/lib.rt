@@ -58,6 +58,10 @@ pub enum Refusal {
         actual: usize,
         offset: usize,
     },
+    // No code has a length that these bytes tell.
+    UnknownLength,
+    // The bytes end within a code.
+    CodeCutShort,
 }
 
 // The answer of a call that only accepts or refuses.

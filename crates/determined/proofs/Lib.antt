@@ -11,6 +11,9 @@ pub mod PacketBlocks
 pub mod PacketReading
 pub mod PacketPushes
 pub mod Packet
+pub mod CodesLengths
+pub mod CodesCuts
+pub mod Codes
 pub mod Slots
 pub mod ParserTriples
 pub mod ParserLists

@@ -7,6 +7,7 @@ pub mod Lengths
 pub mod Fill
 pub mod Packets
 pub mod Services
+pub mod Codes
 pub mod Limits
 pub mod Rates
 pub mod Carrying
@@ -14,6 +15,7 @@ pub mod Durations
 pub mod Frames
 pub mod Sends
 pub mod Pushing
+pub mod CodedPackets
 pub mod Examples
 pub mod Slips
 pub mod DemuxStates

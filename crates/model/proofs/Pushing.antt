@@ -12,14 +12,14 @@ use Rattle.model.specs.Lists.{every}
 use Rattle.model.specs.Block.{Block, validBlock, blockLength, blockRoom, withRun}
 use Rattle.model.specs.Packet.{Packet, packetLength, packetRoom, blocksLength, carriable, withBlocks, pushBlock, pushNew, pushAt, pushRunAt, pushRunBy, latestOf, latest, noBlock, blockAt, extended}
 use Rattle.model.proofs.Cases.{by-test, by-cond, both, and-both, Gives}
+use Rattle.model.proofs.Lists.{every-append, every-set, every-at}
 use Rattle.model.proofs.Blocks.{Carriable, carriable-facts, facts-carriable, block-length, written-header-most, written-length}
 use Rattle.model.proofs.Packets.{Valid, length-some}
 
 -- blocks of a packet, one behind the others
 carriable-append : (bs : List Block) (b : Block) → every carriable bs ≡ true → Carriable b → every carriable (bs ++ (b ∷ [])) ≡ true
 unfolding every
-carriable-append [] b ok c = and-both (carriable b) true (facts-carriable b c) refl
-carriable-append (x ∷ bs) b ok c = let f = both (carriable x) (every carriable bs) ok in and-both _ _ (f .0) (carriable-append bs b (f .1) c)
+carriable-append bs b ok c = every-append carriable bs (b ∷ []) ok (and-both (carriable b) true (facts-carriable b c) refl)
 
 lengths-append : (bs : List Block) (b : Block) → blocksLength (bs ++ (b ∷ [])) ≡ blocksLength bs + blockLength b
 unfolding blocksLength
@@ -52,10 +52,7 @@ valid-carriable b v full =
 
 -- one of the blocks in another's place
 carriable-set : (bs : List Block) (i : ℕ) (b : Block) → every carriable bs ≡ true → Carriable b → every carriable (set bs i b) ≡ true
-unfolding every
-carriable-set [] i b ok c = refl
-carriable-set (x ∷ bs) zero b ok c = and-both _ _ (facts-carriable b c) (both (carriable x) (every carriable bs) ok .1)
-carriable-set (x ∷ bs) (suc i) b ok c = let f = both (carriable x) (every carriable bs) ok in and-both _ _ (f .0) (carriable-set bs i b (f .1) c)
+carriable-set bs i b ok c = every-set carriable bs i b ok (facts-carriable b c)
 
 lengths-set : (bs : List Block) (i : ℕ) (b : Block) → i < length bs → blocksLength (set bs i b) + blockLength (getD bs i noBlock) ≡ blocksLength bs + blockLength b
 unfolding blocksLength
@@ -64,10 +61,7 @@ lengths-set (x ∷ bs) zero b h = omega arith
 lengths-set (x ∷ bs) (suc i) b h = omega (arith, lengths-set bs i b (omega arith))
 
 carriable-at : (bs : List Block) (i : ℕ) → every carriable bs ≡ true → i < length bs → Carriable (getD bs i noBlock)
-unfolding every
-carriable-at [] i ok h = absurd (omega arith)
-carriable-at (x ∷ bs) zero ok h = carriable-facts x (both (carriable x) (every carriable bs) ok .0)
-carriable-at (x ∷ bs) (suc i) ok h = carriable-at bs i (both (carriable x) (every carriable bs) ok .1) (omega arith)
+carriable-at bs i ok h = carriable-facts (getD bs i noBlock) (every-at carriable bs i noBlock ok h)
 
 -- a block that takes a run
 grown-block : (run : List ℕ) (b : Block) → Carriable b → length run ≤ blockRoom b → Carriable (withRun run b)
@@ -81,7 +75,7 @@ grown-length run b c =
     omega (arith, block-length (withRun run b) (omega (arith, c .filled)), written-length (withRun run b), block-length b (c .filled), written-length b)
 
 -- the latest block is one of the packet's
-latest-within : (n k : ℕ) (bs : List Block) (i : ℕ) → latestOf n k bs ≡ some i → i < k
+pub latest-within : (n k : ℕ) (bs : List Block) (i : ℕ) → latestOf n k bs ≡ some i → i < k
 unfolding latestOf
 latest-within n zero bs i e = let z : _≡_ {A = ℕ} 0 1 = cc in absurd (omega arith)
 latest-within n (suc k) bs i e =

@@ -3,6 +3,7 @@ pub mod Said
 pub mod Block
 pub mod Packet
 pub mod Services
+pub mod Codes
 pub mod Frame
 pub mod Demux
 pub mod Rate

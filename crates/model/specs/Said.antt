@@ -73,6 +73,14 @@ blockHeaderShort expected actual offset = record { number = 14; values = expecte
 abbrev pub blockBodyShort : ℕ → ℕ → ℕ → Said
 blockBodyShort expected actual offset = record { number = 15; values = expected ∷ actual ∷ offset ∷ [] }
 
+-- 21: no code has the length that is asked for [R21]
+abbrev pub unknownLength : Said
+unknownLength = record { number = 21; values = [] }
+
+-- 22: the bytes end within a code [R22]
+abbrev pub codeCutShort : Said
+codeCutShort = record { number = 22; values = [] }
+
 -- A call gives its value, or refuses and gives none.
 pub data Outcome (A : Type 0) : Type 0 where
   gave : A → Outcome A

@@ -46,6 +46,8 @@ few-refusal (refusal.FrameLengthWrong e a) = omega arith
 few-refusal (refusal.PacketLengthWrong e a o) = omega arith
 few-refusal (refusal.BlockHeaderShort e a o) = omega arith
 few-refusal (refusal.BlockBodyShort e a o) = omega arith
+few-refusal refusal.UnknownLength = omega arith
+few-refusal refusal.CodeCutShort = omega arith
 
 -- so no answer does
 pub few-answer : (a : Answer) → length (saidAnswer a .values) ≤ 3

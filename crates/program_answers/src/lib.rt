@@ -74,6 +74,8 @@ pub fn tell_refusal(why: Refusal) -> Numbers
             actual,
             offset,
         } => telling(15, 3, expected, actual, offset),
+        Refusal::UnknownLength => bare(21),
+        Refusal::CodeCutShort => bare(22),
     }
 }
 

@@ -89,6 +89,18 @@ enum-known-why-7 c = search needs
 telling-requires-4 : tie.Need-telling-requires-4
 telling-requires-4 c κs = search needs
 
+enum-told-8 : tie.Need-enum-told-8
+enum-told-8 c = search needs
+
+bare-requires-8 : tie.Need-bare-requires-8
+bare-requires-8 c κs = search needs
+
+enum-told-9 : tie.Need-enum-told-9
+enum-told-9 c = search needs
+
+bare-requires-9 : tie.Need-bare-requires-9
+bare-requires-9 c κs = search needs
+
 returns : tie.Need-returns
 returns c = search (needs, told-as saidRefusal)
 
@@ -131,6 +143,12 @@ returns-13 c = search (needs, told-as saidRefusal)
 returns-14 : tie.Need-returns-14
 returns-14 c = search (needs, told-as saidRefusal)
 
+returns-15 : tie.Need-returns-15
+returns-15 c = search (needs, told-as saidRefusal)
+
+returns-16 : tie.Need-returns-16
+returns-16 c = search (needs, told-as saidRefusal)
+
 pub tell-refusal-spec : {M : Type 1} → statement M
 tell-refusal-spec =
     tie.close
@@ -163,6 +181,10 @@ tell-refusal-spec =
     telling-requires-3
     enum-known-why-7
     telling-requires-4
+    enum-told-8
+    bare-requires-8
+    enum-told-9
+    bare-requires-9
     returns
     returns-2
     returns-3
@@ -176,4 +198,6 @@ tell-refusal-spec =
     returns-11
     returns-12
     returns-13
-    returns-14)
+    returns-14
+    returns-15
+    returns-16)
