@@ -62,4 +62,3 @@ module _ (κs : Lfts 1) (run : Lent) where
       -- and the refusal is that at the leftmost place at which no code begins.
       pub refused-there : Leftmost (now run) (saidRefusal why)
       refused-there = refused-leftmost (now run) (saidRefusal why) (is-not (now run) r told why not)
-

@@ -39,6 +39,7 @@ pub mod Asked
 pub mod ScriptBlocks
 pub mod ScriptServices
 pub mod ScriptPackets
+pub mod ScriptCodes
 pub mod ScriptParsers
 pub mod ScriptWriters
 pub mod ScriptOperations

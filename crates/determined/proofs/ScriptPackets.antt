@@ -19,7 +19,8 @@ use Rattle.determined.proofs.ProgramText.{lays}
 pub put-packet : (κs : Lfts 1) → DeterminesLent (λ e. now (e .0)) (put_packet.Post κs)
 put-packet κs = lays
 
-packets : (w : Sought DTVCCPacket) (old : DTVCCPacket) (before out out′ : List ℕ) (at : ℕ) (r q : OnPacket)
+-- two results of what the packet is asked for
+pub packets : (w : Sought DTVCCPacket) (old : DTVCCPacket) (before out out′ : List ℕ) (at : ℕ) (r q : OnPacket)
     → Asked w old before at (r .ran) (r .laid) (r .packet) out → Asked w old before at (q .ran) (q .laid) (q .packet) out′ → (r ≡ q) × (out ≡ out′)
 packets w old before out out′ at r q h k =
     asked-one (λ (x : Bool) (n : ℕ) (p : DTVCCPacket). record { ran = x; laid = n; packet = p }) w old (r .packet) (q .packet) before out out′ at

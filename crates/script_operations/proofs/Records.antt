@@ -19,6 +19,7 @@ use Rattle.script_blocks.specs.Blocks.{blockRows}
 use Rattle.script_blocks.specs.Blocks as block
 use Rattle.script_packets.specs.Packets.{packetRows}
 use Rattle.script_packets.specs.Packets as packet
+use Rattle.script_codes.specs.Operations.{codesRows}
 use Rattle.script_parsers.specs.declared.OnParser.{OnParser}
 use Rattle.script_writers.specs.declared.OnWriter.{OnWriter}
 use Rattle.script_parsers.specs.Parsers.{parserRows}
@@ -31,7 +32,7 @@ use Rattle.script_operations.specs.Ran.{within, bad, withBlock, withPack
 
 -- no operation is 0, which stands for the letter of an empty record
 ran-by : (m : Machine) (l : List ℕ) → ran m l ≡ operated m (getD l 0 0) (drop 1 l)
-unfolding ran operated onMachines sought blockRows block.tellingRows packetRows packet.pushingRows packet.tellingRows parserRows parser.streamingRows writerRows writer.pushingRows writer.leavingRows
+unfolding ran operated onMachines sought blockRows block.tellingRows codesRows packetRows packet.pushingRows packet.tellingRows parserRows parser.streamingRows writerRows writer.pushingRows writer.leavingRows
 ran-by m [] = refl
 ran-by m (x ∷ l) = refl
 
@@ -112,7 +113,7 @@ module _ (m : Machine) (l a : List ℕ) (op : ℕ) (e : op ≡ getD l 0 0) (h : 
   ofBlock = sought (blockRows (m .s)) op a
 
   abbrev ofPacket : Sought DTVCCPacket
-  ofPacket = sought (packetRows (m .s) (m .p)) op a
+  ofPacket = sought (codesRows (m .s) (m .p)) op a
 
   begin : Passed (operated m op a) (within (withBlock m) ofBlock (within (withPacket m) ofPacket (onMachines m op a))) out out
   unfolding operated

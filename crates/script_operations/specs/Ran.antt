@@ -16,7 +16,7 @@ use Rattle.program_text.specs.Text.{word}
 use Rattle.script_answers.specs.Steps.{Effect, stays}
 use Rattle.script_answers.specs.Rows.{Sought, sought}
 use Rattle.script_blocks.specs.Blocks.{blockRows}
-use Rattle.script_packets.specs.Packets.{packetRows}
+use Rattle.script_codes.specs.Operations.{codesRows}
 use Rattle.script_parsers.specs.Parsers.{parserRows}
 use Rattle.script_writers.specs.Writers.{writerRows}
 use Rattle.script_operations.specs.declared.Machine.{Machine}
@@ -59,11 +59,11 @@ unfoldable pub onMachines : Machine → ℕ → List ℕ → Effect Machine
 onMachines m op a =
     within (withParser m) (sought (parserRows (m .r)) op a) (within (withWriter m) (sought (writerRows (m .p) (m .w)) op a) (bad m))
 
--- and before them those of the block and of the packet
+-- and before them those of the block, of codes and of the packet
 unfoldable pub operated : Machine → ℕ → List ℕ → Effect Machine
 operated m op a =
     within (withBlock m) (sought (blockRows (m .s)) op a)
-    (within (withPacket m) (sought (packetRows (m .s) (m .p)) op a) (onMachines m op a))
+    (within (withPacket m) (sought (codesRows (m .s) (m .p)) op a) (onMachines m op a))
 
 -- the first byte of a record is the letter, and the argument bytes follow
 unfoldable pub ran : Machine → List ℕ → Effect Machine

@@ -124,7 +124,7 @@ pub fn run_record(out: &mut [u8], at: usize, m: Machine, record: &[u8]) -> Stepp
     if on_s.ran {
         return left_block(m, on_s);
     }
-    let on_p = script_packets::on_packet(out, at, s, p, op, args);
+    let on_p = script_codes::on_codes(out, at, s, p, op, args);
     if on_p.ran {
         return left_packet(m, on_p);
     }

@@ -1,4 +1,4 @@
--- The blocks of a packet, laid one behind another as they stand at its places. Assumes nothing.
+-- A text for each block of a packet, laid one behind another as the blocks stand at its places. Assumes nothing.
 use mathlib.Core.Path.{_≡_, refl, sym, ap, _∙_, subst}
 use mathlib.Core.Bool.{Bool, true, false, cond}
 use mathlib.Core.List.{List, [], _∷_, _++_, append-nil, append-assoc}
@@ -30,9 +30,8 @@ use Rattle.packet.proofs.Placed.{blocksAt}
 use Rattle.packet.proofs.Holds.{within-facts}
 use Rattle.program_text.specs.Laid.{Laid}
 use Rattle.program_text.proofs.Layings.{laid-within, laid-append}
-use Rattle.program_lines.specs.Lines.{blockText}
 use Rattle.script_answers.specs.Script.{countOf}
-use Rattle.script_packets.specs.Lines.{blocksText, blocksIn}
+use Rattle.script_packets.specs.Lines.{eachText, blocksIn}
 
 -- an empty list has no first block
 none-first : {b : Block} {rest : List Block} (i : ℕ) → drop i [] ≡ b ∷ rest → ⊥
@@ -48,15 +47,13 @@ first-same {x} e = ap firstOr e
     firstOr (c ∷ cs) = c
 
 -- the text of one block more
-text-more : (i : ℕ) (bs : List Block) (b : Block) (rest : List Block) → drop i bs ≡ b ∷ rest
-    → blocksText (take (suc i) bs) ≡ blocksText (take i bs) ++ blockText (b .number) (b .payload)
-unfolding blocksText
-text-more i [] b rest e = absurd (none-first i e)
-text-more zero (x ∷ bs) b rest e =
-    append-nil (blockText (x .number) (x .payload)) ∙ ap (λ (c : Block). blockText (c .number) (c .payload)) (first-same e)
-text-more (suc i) (x ∷ bs) b rest e =
-    ap (λ (l : List ℕ). blockText (x .number) (x .payload) ++ l) (text-more i bs b rest e)
-    ∙ sym (append-assoc (blockText (x .number) (x .payload)) (blocksText (take i bs)) (blockText (b .number) (b .payload)))
+text-more : (text : Block → List ℕ) (i : ℕ) (bs : List Block) (b : Block) (rest : List Block) → drop i bs ≡ b ∷ rest
+    → eachText text (take (suc i) bs) ≡ eachText text (take i bs) ++ text b
+unfolding eachText
+text-more text i [] b rest e = absurd (none-first i e)
+text-more text zero (x ∷ bs) b rest e = append-nil (text x) ∙ ap text (first-same e)
+text-more text (suc i) (x ∷ bs) b rest e =
+    ap (λ (l : List ℕ). text x ++ l) (text-more text i bs b rest e) ∙ sym (append-assoc (text x) (eachText text (take i bs)) (text b))
 
 -- no payload of a packet's blocks has more than 31 bytes
 small-at : (i : ℕ) (bs : List Block) (b : Block) (rest : List Block) → every carriable bs ≡ true → drop i bs ≡ b ∷ rest → length (b .payload) ≤ 31
@@ -135,37 +132,37 @@ taken-whole : (i : ℕ) (bs : List Block) → drop i bs ≡ [] → take i bs ≡
 taken-whole i bs e =
     let z : length bs - i ≡ 0 = sym (length-drop i bs) ∙ ap length e in take-all i bs (omega arith)
 
--- The loop: the blocks up to a place are laid, and before the first nothing is.
-pub blocks-begun : (p : DTVCCPacket) {before out : List ℕ} {at q : ℕ} → Laid [] before at q out → Laid (blocksText (take 0 (blocksIn p))) out q q out
-unfolding blocksText
-blocks-begun p {before} {out} {at} {q} l = record { place = omega (arith, l .place, laid-within l .1); bytes = refl }
+module _ (text : Block → List ℕ) where
+  -- The loop: the texts of the blocks up to a place are laid, and before the first nothing is.
+  pub texts-begun : (p : DTVCCPacket) {before out : List ℕ} {at q : ℕ} → Laid [] before at q out → Laid (eachText text (take 0 (blocksIn p))) out q q out
+  unfolding eachText
+  texts-begun p {before} {out} {at} {q} l = record { place = omega (arith, l .place, laid-within l .1); bytes = refl }
 
-pub blocks-more : (p : DTVCCPacket) (i : ℕ) {before out after : List ℕ} {at q r : ℕ} (h : ServiceAt) → Placed (blocksAt i p) h → h .place ≡ Here
-    → Laid (blocksText (take i (blocksIn p))) before at q out → Laid (blockText (h .service .number) (blockOf (h .service) .payload)) out q r after
-    → Laid (blocksText (take (i + 1) (blocksIn p))) before at r after
-blocks-more p i {before} {out} {after} {at} {q} {r} h w k s l =
-    let there = here-by p i h w (validDTVCC p) (drop i (packetOf p .blocks)) refl refl k in
-    let b = there .block in
-    let one : Laid (blockText (b .number) (b .payload)) out q r after =
-    subst (λ (c : Block). Laid (blockText (c .number) (c .payload)) out q r after) (there .same) l in
-    rw (add-one i, text-more i (blocksIn p) b (there .rest) (there .there)) (laid-append s one)
+  pub texts-more : (p : DTVCCPacket) (i : ℕ) {before out after : List ℕ} {at q r : ℕ} (h : ServiceAt) → Placed (blocksAt i p) h → h .place ≡ Here
+      → Laid (eachText text (take i (blocksIn p))) before at q out → Laid (text (blockOf (h .service))) out q r after
+      → Laid (eachText text (take (i + 1) (blocksIn p))) before at r after
+  texts-more p i {before} {out} {after} {at} {q} {r} h w k s l =
+      let there = here-by p i h w (validDTVCC p) (drop i (packetOf p .blocks)) refl refl k in
+      let b = there .block in
+      let one : Laid (text b) out q r after = subst (λ (c : Block). Laid (text c) out q r after) (there .same) l in
+      rw (add-one i, text-more text i (blocksIn p) b (there .rest) (there .there)) (laid-append s one)
 
--- Where none is left, all are laid.
-module _ (p : DTVCCPacket) (i : ℕ) {first before out : List ℕ} {at from q : ℕ} (none : Laid [] first at from before)
-    (s : Laid (blocksText (take i (blocksIn p))) before from q out) where
-  whole : drop i (blocksIn p) ≡ [] → Laid (blocksText (blocksIn p)) first at q out
-  whole e = laid-append none (subst (λ (l : List Block). Laid (blocksText l) before from q out) (taken-whole i (blocksIn p) e) s)
+  -- Where none is left, all are laid.
+  module _ (p : DTVCCPacket) (i : ℕ) {first before out : List ℕ} {at from q : ℕ} (none : Laid [] first at from before)
+      (s : Laid (eachText text (take i (blocksIn p))) before from q out) where
+    whole : drop i (blocksIn p) ≡ [] → Laid (eachText text (blocksIn p)) first at q out
+    whole e = laid-append none (subst (λ (l : List Block). Laid (eachText text l) before from q out) (taken-whole i (blocksIn p) e) s)
 
-  pub blocks-end : (h : ServiceAt) → Placed (blocksAt i p) h → h .place ≡ Nothing → Laid (blocksText (blocksIn p)) first at q out
-  blocks-end h w k =
-      whole
-      (none-by p i h w (validDTVCC p) (drop i (packetOf p .blocks)) refl refl
-      (λ e. let z : _≡_ {A = ℕ} 0 1 = ap (λ (s : Said). getD (s .values) 0 0) (sym (ap saidPlace k) ∙ e) in omega arith))
+    pub texts-end : (h : ServiceAt) → Placed (blocksAt i p) h → h .place ≡ Nothing → Laid (eachText text (blocksIn p)) first at q out
+    texts-end h w k =
+        whole
+        (none-by p i h w (validDTVCC p) (drop i (packetOf p .blocks)) refl refl
+        (λ e. let z : _≡_ {A = ℕ} 0 1 = ap (λ (s : Said). getD (s .values) 0 0) (sym (ap saidPlace k) ∙ e) in omega arith))
 
-  pub blocks-refused : (h : ServiceAt) (why : Refusal) → Placed (blocksAt i p) h → h .place ≡ Refused why
-      → Laid (blocksText (blocksIn p)) first at q out
-  blocks-refused h why w k =
-      whole (none-by p i h w (validDTVCC p) (drop i (packetOf p .blocks)) refl refl (λ e. refusal-not why (sym (ap saidPlace k) ∙ e)))
+    pub texts-refused : (h : ServiceAt) (why : Refusal) → Placed (blocksAt i p) h → h .place ≡ Refused why
+        → Laid (eachText text (blocksIn p)) first at q out
+    texts-refused h why w k =
+        whole (none-by p i h w (validDTVCC p) (drop i (packetOf p .blocks)) refl refl (λ e. refusal-not why (sym (ap saidPlace k) ∙ e)))
 
-  pub blocks-most : 63 ≤ i → Laid (blocksText (blocksIn p)) first at q out
-  blocks-most h = whole (few-blocks p i h)
+    pub texts-most : 63 ≤ i → Laid (eachText text (blocksIn p)) first at q out
+    texts-most h = whole (few-blocks p i h)

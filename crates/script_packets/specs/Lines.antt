@@ -19,10 +19,18 @@ packetMeasures p =
     measures (validDTVCC p)
     (p .«seq_no» ∷ packetLength (packetOf p) ∷ packetRoom (packetOf p) ∷ length (packetOf p .blocks) ∷ [])
 
--- blocks one behind the other
-unfoldable pub blocksText : List Block → List ℕ
-blocksText [] = []
-blocksText (b ∷ bs) = blockText (b .number) (b .payload) ++ blocksText bs
+-- a text for each of several blocks, one behind the other
+unfoldable pub eachText : (Block → List ℕ) → List Block → List ℕ
+eachText text [] = []
+eachText text (b ∷ bs) = text b ++ eachText text bs
+
+-- a block, as `number:payload`
+abbrev pub shownText : Block → List ℕ
+shownText b = blockText (b .number) (b .payload)
+
+-- blocks so, one behind the other
+abbrev pub blocksText : List Block → List ℕ
+blocksText bs = eachText shownText bs
 
 -- the blocks of a packet within the limits
 unfoldable pub blocksIn : DTVCCPacket → List Block

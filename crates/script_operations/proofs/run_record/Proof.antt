@@ -26,8 +26,8 @@ returns c =
     by-block _ _ _ _ (z .before .byte-at .ensures) (z .part .ensures) _ _ _ (y .on-block .result) (y .on-block .ensures) _
     (c .before .if1 .taken) (c .left-block .ensures)
 
-on-packet-requires : tie.Need-on-packet-requires
-on-packet-requires c κs = search needs
+on-codes-requires : tie.Need-on-codes-requires
+on-codes-requires c κs = search needs
 
 left-packet-requires : tie.Need-left-packet-requires
 left-packet-requires c κs = search needs
@@ -41,7 +41,7 @@ returns-2 c =
     let y = c .before .before .before .before .before .before .before .before .before in
     let x = c .before .before .before .before in
     by-packet _ _ _ _ (z .before .byte-at .ensures) (z .part .ensures) _ _ _ (y .on-block .result) (y .on-block .ensures)
-    (c .before .before .before .before .before .before .if1 .left) _ (x .on-packet .result) (x .on-packet .ensures) _ (c .before .if2 .taken) (c .left-packet .ensures)
+    (c .before .before .before .before .before .before .if1 .left) _ (x .on-codes .result) (x .on-codes .ensures) _ (c .before .if2 .taken) (c .left-packet .ensures)
 
 run-on-machines-requires : tie.Need-run-on-machines-requires
 run-on-machines-requires c κs = search needs
@@ -55,7 +55,7 @@ returns-3 c =
     let y = c .before .before .before .before .before .before .before .before .before .before .before .before in
     let x = c .before .before .before .before .before .before .before in
     by-machines _ _ _ _ (z .before .byte-at .ensures) (z .part .ensures) _ _ _ (y .on-block .result) (y .on-block .ensures)
-    (c .before .before .before .before .before .before .before .before .before .if1 .left) _ (x .on-packet .result) (x .on-packet .ensures) _
+    (c .before .before .before .before .before .before .before .before .before .if1 .left) _ (x .on-codes .result) (x .on-codes .ensures) _
     (c .before .before .before .before .if2 .left) (c .before .before .run-on-machines .ensures)
 
 pub run-record-spec : {M : Type 1} → statement M
@@ -68,7 +68,7 @@ run-record-spec =
     left-block-requires
     same-length
     returns
-    on-packet-requires
+    on-codes-requires
     left-packet-requires
     same-length-2
     returns-2

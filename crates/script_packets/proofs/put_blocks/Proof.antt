@@ -3,8 +3,8 @@ use Prim.Native.Nat.{_-_, _≤_}
 use lib.ListN.{length, take}
 use mathlib.Core.Path.{_≡_, refl}
 use Rattle.program_text.specs.Laid.{Laid}
-use Rattle.script_packets.specs.Lines.{blocksText, blocksIn}
-use Rattle.script_packets.proofs.Blocks.{blocks-begun, blocks-more, blocks-end, blocks-refused, blocks-most}
+use Rattle.script_packets.specs.Lines.{shownText, blocksText, blocksIn}
+use Rattle.script_packets.proofs.Blocks.{texts-begun, texts-more, texts-end, texts-refused, texts-most}
 use borrow.Author.Needs.{needs}
 use Rattle.script_packets.proofs.put_blocks.Statement.{statement}
 use Rattle.script_packets.proofs.put_blocks.Tie as tie
@@ -22,7 +22,7 @@ put-word-requires : tie.Need-put-word-requires Inv-loop μ-loop
 put-word-requires c κs = search needs
 
 loop-holds : tie.Need-loop-holds Inv-loop μ-loop
-loop-holds c = (search needs, refl, search (needs, blocks-begun))
+loop-holds c = (search needs, refl, search (needs, texts-begun shownText))
 
 service-requires : tie.Need-service-requires Inv-loop μ-loop
 service-requires c κs = search needs
@@ -44,7 +44,7 @@ loop-again c =
     let l = c .before .before .before .before .before .before .before .before .before .loop in (
       search needs,
       search needs,
-      blocks-more _ (l .i) _ (c .before .before .before .before .before .before .before .service .ensures)
+      texts-more shownText _ (l .i) _ (c .before .before .before .before .before .before .before .service .ensures)
           (c .before .before .before .before .before .enum-told .given .1) (l .inv .2) (c .before .before .put-block .ensures),
     )
 
@@ -55,7 +55,7 @@ same-length : tie.Need-same-length Inv-loop μ-loop
 same-length c = search needs
 
 returns : tie.Need-returns Inv-loop μ-loop
-returns c = search (needs, blocks-end)
+returns c = search (needs, texts-end shownText)
 
 enum-told-3 : tie.Need-enum-told-3 Inv-loop μ-loop
 enum-told-3 c = search needs
@@ -64,13 +64,13 @@ same-length-2 : tie.Need-same-length-2 Inv-loop μ-loop
 same-length-2 c = search needs
 
 returns-2 : tie.Need-returns-2 Inv-loop μ-loop
-returns-2 c = search (needs, blocks-refused)
+returns-2 c = search (needs, texts-refused shownText)
 
 same-length-3 : tie.Need-same-length-3 Inv-loop μ-loop
 same-length-3 c = search needs
 
 returns-3 : tie.Need-returns-3 Inv-loop μ-loop
-returns-3 c = search (needs, blocks-most)
+returns-3 c = search (needs, texts-most shownText)
 
 pub put-blocks-spec : {M : Type 1} → statement M
 put-blocks-spec =
