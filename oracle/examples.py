@@ -1,5 +1,5 @@
 """Operations with the lines that the rule book (docs/RULES.md) asks for: its examples, the true count, the carrying mode, the services of a
-packet, and raw fields set by `B`, `K`, `Z`, `D`, `Q` and `C`.
+packet, codes, and raw fields set by `B`, `K`, `Z`, `D`, `Q` and `C`.
 
 What follows a raw field is derived from the rules and not from the crate, whose fields are private: a value within the
 limits is what its fields say, and every call on another is refused with 11 before anything else.
@@ -416,6 +416,85 @@ SERVICES = [
     (("raw", [0x5A] + [0] * 7), "bad"),
     (("raw", [0x5A] + [0] * 9), "bad"),
     (("z",), "ok 0000000000000004 1"),
+]
+
+CODES = [
+    (("g", []), "ok"),
+    (("g", data("41 42 43")), "ok 1 1 1"),
+    (("g", data("10 80 01 02 03 04")), "ok 6"),
+    (("g", data("91 01 02 03")), "ok 4"),
+    # a 10 that is the last byte, a length that is not known, a code that the end cuts
+    (("g", data("10")), "refused 22"),
+    (("g", data("10 90")), "refused 21"),
+    (("g", data("98 41")), "refused 22"),
+    # what is met first from the left: the unknown length before the cut code, and a cut code to which 10 90 belongs
+    (("g", data("41 10 90 98")), "refused 21"),
+    (("g", data("41 98 10 90")), "refused 22"),
+    # bytes that belong to a code begin none
+    (("g", data("98 10 90 10 90 10 90")), "ok 7"),
+    (("g", data("11 10 90 10 90 12 10")), "ok 2 3 2"),
+    # both ends of each range of first bytes
+    (("g", data("00 0F")), "ok 1 1"),
+    (("g", data("11 01 17 01")), "ok 2 2"),
+    (("g", data("18 01 02 1F 01 02")), "ok 3 3"),
+    (("g", data("20 87")), "ok 1 1"),
+    (("g", data("88 01 8D 01")), "ok 2 2"),
+    (("g", data("8E 8F")), "ok 1 1"),
+    (("g", data("90 01 02 91 01 02 03 92 01 02")), "ok 3 4 3"),
+    (("g", data("93 96")), "ok 1 1"),
+    (("g", data("97 01 02 03 04")), "ok 5"),
+    (("g", data("98 01 02 03 04 05 06 9F 01 02 03 04 05 06")), "ok 7 7"),
+    (("g", data("A0 FF")), "ok 1 1"),
+    # and of bytes behind 10
+    (("g", data("10 00 10 07")), "ok 2 2"),
+    (("g", data("10 08 01 10 0F 01")), "ok 3 3"),
+    (("g", data("10 10 01 02 10 17 01 02")), "ok 4 4"),
+    (("g", data("10 18 01 02 03 10 1F 01 02 03")), "ok 5 5"),
+    (("g", data("10 20 10 7F")), "ok 2 2"),
+    (("g", data("10 80 01 02 03 04 10 87 01 02 03 04")), "ok 6 6"),
+    (("g", data("10 88 01 02 03 04 05 10 8F 01 02 03 04 05")), "ok 7 7"),
+    (("g", data("10 9F")), "refused 21"),
+    (("g", data("10 A0 10 FF")), "ok 2 2"),
+    # blocks of a packet: whole codes; an unknown length in the second; a second block whose last byte belongs to its code
+    (("p", data("06 26 41 97 01 02 03 04 43 10 08 05")), "ok 0 1:419701020304 2:100805"),
+    (("G",), "ok 2 1"),
+    (("p", data("06 26 41 97 01 02 03 04 43 10 98 05")), "ok 0 1:419701020304 2:109805"),
+    (("G",), "refused 21"),
+    (("p", data("06 26 41 97 01 02 03 04 43 10 08 88")), "ok 0 1:419701020304 2:100888"),
+    (("G",), "ok 2 1"),
+    # a cut code in the first block stands before the unknown length in the second; a block's end cuts, whatever follows it
+    (("p", data("04 21 88 42 10 90")), "ok 0 1:88 2:1090"),
+    (("G",), "refused 22"),
+    (("p", data("04 42 10 90 21 88")), "ok 0 2:1090 1:88"),
+    (("G",), "refused 21"),
+    # a payload that comes in two runs is one
+    (("k", 0), "ok"),
+    (("G",), "ok"),
+    (("a", 1, [0x88]), "ok"),
+    (("G",), "refused 22"),
+    (("a", 1, [0x41]), "ok"),
+    (("G",), "ok 1"),
+    # another number of argument bytes
+    (("raw", [0x47, 0]), "bad"),
+    (("G",), "ok 1"),
+]
+
+# What breaks a limit is refused before any code is looked at.
+CODES_RAW = [
+    (("k", 0), "ok"),
+    (("G",), "ok"),
+    (("K", 0, 1), "ok"),
+    (("G",), "refused 11"),
+    (("g", data("10 90")), "refused 21"),
+    (("p", data("06 26 41 97 01 02 03 04 43 10 98 05")), "ok 0 1:419701020304 2:109805"),
+    (("K", 4, 2), "ok"),
+    (("G",), "refused 11"),
+    (("K", 3, 2), "ok"),
+    (("G",), "refused 21"),
+    (("Z", 2), "ok"),
+    (("G",), "refused 11"),
+    (("K", 3, 1), "ok"),
+    (("G",), "ok 2"),
 ]
 
 RAW = [

@@ -1,12 +1,14 @@
-"""A second reckoning of `ccscript`'s readers of blocks and packets and of its multiplexer, with its carrying mode and its true count: the lines
-that a script has to print.
+"""A second reckoning of `ccscript`'s readers of blocks and packets, of its codes and of its multiplexer, with its carrying mode and its true
+count: the lines that a script has to print.
 
 It is written from the rules (docs/RULES.md, whose numbers stand in square brackets), with exact fractions. What a frame
 gets in the carrying mode is the difference of two sums, what is due up to it and what was due before it; no rest is handed
-on from write to write. A value is never changed: a call that is accepted gives a new one, one that is refused gives none.
+on from write to write. Codes are found by one pattern, and no length is looked up. A value is never changed: a call that
+is accepted gives a new one, one that is refused gives none.
 
 `answers(records)` takes the records of a script without mark and length. It knows the operations in OPERATIONS.
 """
+import re
 from fractions import Fraction
 from math import ceil, floor
 from typing import NamedTuple
@@ -137,6 +139,45 @@ def packet_triples(packet):
     data = bytes([packet.sequence << 6 | size % 64]) + b"".join(map(block_bytes, packet.blocks))
     data += bytes(len(data) % 2)
     return [bytes([0xFF if at == 0 else 0xFE, data[at], data[at + 1]]) for at in range(0, len(data), 2)]
+
+
+# Codes
+
+# What stands at a place of a payload: a whole code, by its first byte [K1] or by the byte behind 0x10 [K2]; and if not that, a code of which no
+# length is known, or else one that is cut short [K3].
+CODE = re.compile(
+    rb"""
+      [\x00-\x0F\x20-\x87\x8E-\x8F\x93-\x96\xA0-\xFF]
+    | [\x11-\x17\x88-\x8D] .
+    | [\x18-\x1F\x90\x92] .{2}
+    | \x91 .{3}
+    | \x97 .{4}
+    | [\x98-\x9F] .{6}
+    | \x10 [\x00-\x07\x20-\x7F\xA0-\xFF]
+    | \x10 [\x08-\x0F] .
+    | \x10 [\x10-\x17] .{2}
+    | \x10 [\x18-\x1F] .{3}
+    | \x10 [\x80-\x87] .{4}
+    | \x10 [\x88-\x8F] .{5}
+    | (?P<unknown> \x10 [\x90-\x9F] )
+    | (?P<short> . )
+    """,
+    re.VERBOSE | re.DOTALL,
+)
+
+
+def code_lengths(payload):
+    """[K4]; [R21] or [R22], whichever is met first from the left"""
+    found = list(CODE.finditer(payload))
+    for code in found:
+        refuse_if(code["unknown"], 21)
+        refuse_if(code["short"], 22)
+    return [len(code[0]) for code in found]
+
+
+def code_counts(packet):
+    """[K6]"""
+    return [len(code_lengths(block.payload)) for block in packet.blocks]
 
 
 # The multiplexer
@@ -273,9 +314,11 @@ def durations(mux):
 # The operations
 
 ANY = range(255)
-# By letter, how many argument bytes: the calls on the multiplexer, and all. `R` is of the demultiplexer, which is not reckoned.
+# By letter, how many argument bytes: the calls on the multiplexer, those on blocks, packets and payloads, and all. `R` is of the demultiplexer,
+# which is not reckoned.
 CALLS = {"S": [1], "q": [0], "1": [2], "2": [2], "w": [9], "u": [0], "x": [0]}
-OPERATIONS = {"b": [1], "c": ANY, "d": ANY, "p": ANY, "t": ANY, "k": [1], "v": [0], "a": ANY[1:], "R": [0], "W": [0], "C": [16], **CALLS}
+VALUES = {"b": [1], "c": ANY, "d": ANY, "p": ANY, "t": ANY, "k": [1], "v": [0], "a": ANY[1:], "g": ANY, "G": [0]}
+OPERATIONS = {**VALUES, "R": [0], "W": [0], "C": [16], **CALLS}
 FRESH = Block(1), Packet(0), Multiplexer()
 
 
@@ -309,6 +352,8 @@ def carry_out(state, letter, args):
         case "k": p = new_packet(args[0])
         case "v": p = push_block(p, s)
         case "a": p = push_run(p, args[0], args[1:])
+        case "g": return state, code_lengths(args)
+        case "G": return state, code_counts(p)
         case "W": w = Multiplexer()
         case "S": w = switch(w, args[0])
         case "q": w = push_packet(w, p)

@@ -1,9 +1,9 @@
 """Scripts for `ccscript`, by kind: all short ones, every limit from both sides, damaged copies of good bytes, any order of calls.
 
 An operation is a tuple of its letter and its arguments, or of "raw" and a record's bytes; a script is a list of operations.
-`generate(seed, written)` gives each kind with its scripts, `generate_reading(seed)` those of reading that the reckoning knows
-too, and `generate_carrying(seed)` those of the carrying mode, which the crate does not have. `generate_counting` and
-`generate_carrying_counting` give those with writes once more, with the true count.
+`generate(seed, written)` gives each kind with its scripts, `generate_reading(seed)` those of reading and `generate_codes(seed)`
+those of codes that the reckoning knows too, and `generate_carrying(seed)` those of the carrying mode, which the crate does not
+have. `generate_counting` and `generate_carrying_counting` give those with writes once more, with the true count.
 """
 import random, itertools
 R = random.Random()
@@ -375,13 +375,14 @@ def anything(count):
     for _ in range(count):
         s, stream = [], []
         for _ in range(30):
-            k = R.choice("bcmedyvaailoppztRHfffnnnFWSqqq1122wwwux" if R.random() < .9 else "RFWxk")
+            k = R.choice("bcmedyvaailoppztgGRHfffnnnFWSqqq1122wwwux" if R.random() < .9 else "RFWxk")
             if k == "b": s.append((k, R.choice([0, 1, 2, 7, 63, 64])))
             elif k == "k": s.append((k, R.choice([0, 1, 2, 3, 4])))
             elif k in "eo": s.append((k, R.choice([0, 1, 2, 32, 128, 255, R.randrange(256)])))
             elif k == "c": s.append((k, a_run()))
             elif k in "dy": s.append((k, (a_block() + some(2))[:R.choice([50, 50, 1, 3])]))
             elif k in "pt": s.append((k, packet_bytes(R.choice([4, 8, 40, 128]))))
+            elif k == "g": s.append((k, a_payload(R.choice([0, 3, 31, 254]))))
             elif k == "f": s.append((k, a_frame(stream)))
             elif k in "ai": s.append((k, R.choice([0, 1, 2, 7, 64]), a_run()))
             elif k == "S": s.append((k, R.randrange(2), R.randrange(2)))
@@ -431,12 +432,14 @@ def written_packet(sequence, blocks):
     d = [b for n, run in blocks for b in ([n * 32 + len(run)] if n < 7 else [0xE0 + len(run), n]) + run]
     return [sequence * 64 + (len(d) + 2) // 2 % 64] + d + [0] * ((len(d) + 1) % 2)
 
-def some_blocks():
+def a_short_run(): return some(R.choice([1, 1, 1, 2, 5, 31]))
+
+def some_blocks(make_run=a_short_run):
     """Blocks of one service or of several, and of a service several times, as many as fit."""
     pool = R.choice([[R.randrange(1, 64)], R.sample(range(1, 64), 3), R.sample(range(1, 64), 20), list(range(1, 64)), [1, 2, 6, 7, 63]])
     blocks, room = [], 127
     for _ in range(R.choice([0, 1, 2, 3, 8, 63])):
-        n, run = R.choice(pool), some(R.choice([1, 1, 1, 2, 5, 31]))
+        n, run = R.choice(pool), make_run()
         room -= len(run) + (1 if n < 7 else 2)
         if room < 0: break
         blocks.append((n, run))
@@ -462,6 +465,84 @@ def services(count):
             few = R.randrange(len(blocks))
             s += [("p", written_packet(3, blocks)), ("K", 3, few), ("z",), ("Z", set_of(numbers[:few])), ("z",), ("l",), ("K", 3, len(blocks)), ("z",)]
         yield s + [("Z", set_of(numbers)), ("z",), ("o", 255)]
+
+# Ranges of the first byte of a code and of the byte behind 0x10, and how many bytes the code has behind that byte.
+FIRST = [(0, 0x0F, 0), (0x11, 0x17, 1), (0x18, 0x1F, 2), (0x20, 0x87, 0), (0x88, 0x8D, 1), (0x8E, 0x8F, 0), (0x90, 0x90, 2), (0x91, 0x91, 3)]
+FIRST += [(0x92, 0x92, 2), (0x93, 0x96, 0), (0x97, 0x97, 4), (0x98, 0x9F, 6), (0xA0, 0xFF, 0)]
+SECOND = [(0, 7, 0), (8, 0x0F, 1), (0x10, 0x17, 2), (0x18, 0x1F, 3), (0x20, 0x7F, 0), (0x80, 0x87, 4), (0x88, 0x8F, 5), (0xA0, 0xFF, 0)]
+
+def code_byte():
+    """Any byte, often one that cuts otherwise if a code is taken to begin there."""
+    return R.choice([0x10, 0x10, 0x90, 0x98, byte(), R.randrange(0x88, 0xA0), R.randrange(256)])
+
+def code_bytes(n): return [code_byte() for _ in range(n)]
+
+def a_code():
+    """A whole code, of any range and often at an end of it."""
+    before, ranges = R.choice([([], FIRST), ([0x10], SECOND)])
+    low, high, more = R.choice(ranges)
+    return before + [R.choice([low, high, R.randrange(low, high + 1)])] + code_bytes(more)
+
+def whole_codes(most, wrong=0):
+    """Codes, up to so many bytes or filled up to so many; with this chance each is one of unknown length or a part of one."""
+    d = []
+    while True:
+        code = a_code()
+        if R.random() < wrong: code = R.choice([[0x10, R.randrange(0x90, 0xA0)], code[:-1]])
+        if len(d + code) > most: return d + [0x41] * R.choice([0, most - len(d)])
+        d += code
+
+def a_payload(most):
+    """Codes up to so many bytes, most of them whole, and now and then one that the end cuts."""
+    d = whole_codes(most, R.choice([0, 0, 0, .02, .1]))
+    return d if bit(.7) else (d + a_code())[:most]
+
+def every_code():
+    """Every code once, all behind one another in a few payloads; each of unknown length; and each that is longer without its last byte."""
+    fronts = [(before + [b], more) for before, ranges in (([], FIRST), ([0x10], SECOND)) for low, high, more in ranges for b in range(low, high + 1)]
+    whole, rows = [front + code_bytes(more) for front, more in fronts], [[]]
+    for code in whole:
+        if len(rows[-1] + code) > 254: rows.append([])
+        rows[-1] += code
+    cut = [code[:-1] for code in whole if code[:-1] not in ([], [0x10])]
+    yield [("g", d) for d in rows + [[0x10, b] for b in range(0x90, 0xA0)] + cut]
+
+def codes_cut():
+    """Each first byte and each byte behind 0x10 with bytes behind it, cut at every length up to 9: alone, behind a whole code or two, and with a
+    byte more."""
+    for front in [[a] for a in range(256)] + [[0x10, b] for b in range(256)]:
+        s = []
+        for n in range(1, 10):
+            plain, d = (front + [0x41] * 8)[:n], (front + code_bytes(8))[:n]
+            s += [("g", plain), ("g", a_code() + plain), ("g", a_code() + a_code() + d), ("g", plain + [code_byte()])]
+        yield s
+
+def codes(count):
+    """Payloads of every size, and with each some of their cuts and some with one byte changed."""
+    for _ in range(count):
+        d = a_payload(R.choice([1, 3, 8, 20, 31, 100, 254, R.randrange(255)])) or [code_byte()]
+        s = [("g", d), ("g", d[:-1])]
+        for at in R.choices(range(len(d)), k=8): s += [("g", d[:at]), ("g", d[:at] + [code_byte()] + d[at + 1:])]
+        yield s
+
+def codes_of_packets(count, raw=False):
+    """Packets of such payloads, pushed in two runs each and read, with their codes counted; then with one byte changed. With raw fields also
+    other counts and sets."""
+    for _ in range(count):
+        payload, pushed, s = R.choice([whole_codes, a_payload]), bit(), [("k", R.randrange(4)), ("G",)]
+        blocks = some_blocks(lambda: payload(R.choice([1, 2, 3, 7, 12, 31])) or [0x41])
+        for n, run in blocks:
+            at = R.randrange(len(run))
+            s += [("a", n, run[:at]), ("G",), ("a", n, run[at:])] if pushed else [("b", n), ("c", run[:at]), ("c", run[at:]), ("v",)]
+            s.append(("G",))
+        numbers, d = [n for n, _ in blocks], written_packet(3, blocks)
+        s += [(R.choice("pt"), d), ("G",)]
+        for at in R.choices(range(len(d)), k=4): s += [(R.choice("pt"), d[:at] + [code_byte()] + d[at + 1:]), ("G",)]
+        if raw:
+            few = R.randrange(len(blocks) + 1)
+            s += [("p", d), ("K", R.choice([0, 3, 4, 255]), len(blocks) + bit()), ("G",), ("K", 3, few), ("G",)]
+            for services in sets_beside(numbers[:few]): s += [("Z", services), ("G",), ("l",)]
+        yield s
 
 TOP = 2**32 - 1
 # Rates that the carrying mode takes, the last ones at its limits; and others.
@@ -610,7 +691,7 @@ def encode(op):
     """The record of an operation."""
     k, args = op[0], op[1:]
     if k == "raw": return bytes([0xCC, 0x5C, len(args[0]), *args[0]])
-    if k in "cdyptf": body = list(args[0])
+    if k in "cdyptfg": body = list(args[0])
     elif k in "ai": body = [args[0], *args[1]]
     elif k == "S": body = [sum(bit << place for place, bit in enumerate(args))]
     elif k == "C": body = [b for number in args for b in number.to_bytes(4, "big")]
@@ -650,6 +731,11 @@ def generate(seed, written, scale=1.0):
     yield "services of a packet, and other sets", services(c(1500))
     yield "anything", anything(c(1000))
     yield "operations that are not there", not_there()
+    yield "codes, every one", every_code()
+    yield "codes, every payload of up to two bytes", short_strings("g")
+    yield "codes, every first byte at every cut", codes_cut()
+    yield "codes, random payloads", codes(c(1000))
+    yield "codes of packets", codes_of_packets(c(1000), raw=True)
 
 def generate_reading(seed, scale=1.0):
     """Kinds of reading, of operations that the reckoning knows."""
@@ -662,6 +748,16 @@ def generate_reading(seed, scale=1.0):
     yield "packets read tidily, by the reckoning", packet_reading(c(1500), "t")
     yield "blocks and packets cut at every byte, by the reckoning", cut_everywhere(c(300))
     yield "null headers of both forms at every place, by the reckoning", null_headers(c(150))
+
+def generate_codes(seed, scale=1.0):
+    """Kinds of codes, of operations that the reckoning knows."""
+    R.seed(seed + 3)
+    c = lambda n: max(1, int(n * scale))
+    yield "codes, every one, by the reckoning", every_code()
+    yield "codes, every payload of up to two bytes, by the reckoning", short_strings("g")
+    yield "codes, every first byte at every cut, by the reckoning", codes_cut()
+    yield "codes, random payloads, by the reckoning", codes(c(2000))
+    yield "codes of packets, by the reckoning", codes_of_packets(c(2000))
 
 def generate_counting(seed, written, scale=1.0):
     """The kinds with writes, with the true count."""

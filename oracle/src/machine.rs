@@ -2,11 +2,12 @@
 
 use cea708_types::{tables::Code, DTVCCPacket, Framerate, Service};
 
+use crate::codes;
 use crate::demux::{Demux, Item};
 use crate::mux::Mux;
 use crate::raw::{Block, Packet};
 use crate::refusal::Refusal::{self, BadNumber, BadRun, BadValue, OutShort};
-use crate::text::{hex, packet_text, pair_text, payload};
+use crate::text::{hex, packet_text, pair_text, payload, row};
 use crate::tidy;
 
 /// What the script's operations work on.
@@ -197,7 +198,14 @@ impl Machine {
         put(out, &bytes)
     }
 
-    /// Operations on the block and the packet.
+    /// How many codes each block has.
+    fn count_codes(&self) -> Answer {
+        let blocks = self.p.value()?.services().iter();
+        let counts = blocks.map(|s| codes::lengths(&payload(s)).map(|found| found.len()));
+        Ok(row(&counts.collect::<Result<Vec<_>, _>>()?))
+    }
+
+    /// Operations on the block and the packet, and on payloads.
     fn values(&mut self, op: u8, args: &[u8]) -> Option<Line> {
         Some(match (op, args) {
             (b'b', &[number]) => line(self.new_service(number)),
@@ -214,6 +222,8 @@ impl Machine {
             (b'o', &[len]) => lent(len, |out| self.write_packet(out)),
             (b'p', bytes) => line(self.packet_read(DTVCCPacket::parse(bytes).map_err(Into::into))),
             (b't', bytes) => line(self.packet_read(tidy::read(bytes))),
+            (b'g', bytes) => line(codes::lengths(bytes).map(|found| row(&found))),
+            (b'G', []) => line(self.count_codes()),
             (b'B', &[number, len]) => {
                 self.s.set(number, len as usize);
                 done()

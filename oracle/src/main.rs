@@ -1,11 +1,12 @@
 //! `ccscript` over the Rust crate: runs the script on standard input and prints each answer on a line.
 //!
 //! Where the rule book adds a rule, the rule is applied around the crate's calls: refusals 6 to 11, the
-//! sizes, the draw, the dropping of empty packets, the true count, the set of services, the part
-//! handed back, the tidy reader. The crate's
-//! fields are private, so the operations that set raw fields work on places kept beside its values (`B`,
-//! `K` and `Z`), or only tell that a limit is broken (`D` and `Q`).
+//! sizes, the draw, the dropping of empty packets, the true count, the set of services, the cut into
+//! codes with refusals 21 and 22, the part handed back, the tidy reader. The crate's fields are private,
+//! so the operations that set raw fields work on places kept beside its values (`B`, `K` and `Z`), or
+//! only tell that a limit is broken (`D` and `Q`).
 
+mod codes;
 mod demux;
 mod machine;
 mod mux;

@@ -18,6 +18,8 @@ pub enum Refusal {
     FrameLengthWrong(usize, usize),
     /// Of a packet or a block. The crate tells neither which nor where: 13, 14 or 15, without its offset.
     LengthMismatch(usize, usize),
+    UnknownLength,
+    CodeCutShort,
 }
 
 impl Refusal {
@@ -69,6 +71,8 @@ impl fmt::Display for Refusal {
             Self::BadValue => write!(f, "11"),
             Self::FrameLengthWrong(expected, actual) => write!(f, "12 {expected} {actual}"),
             Self::LengthMismatch(expected, actual) => write!(f, "13-15 {expected} {actual}"),
+            Self::UnknownLength => write!(f, "21"),
+            Self::CodeCutShort => write!(f, "22"),
         }
     }
 }

@@ -10,6 +10,12 @@ pub fn hex(bytes: &[u8]) -> String {
     bytes.iter().map(|b| format!("{b:02X}")).collect()
 }
 
+/// Numbers with a space between them.
+pub fn row(numbers: &[usize]) -> String {
+    let words: Vec<_> = numbers.iter().map(usize::to_string).collect();
+    words.join(" ")
+}
+
 /// The bytes of all runs of a block.
 pub fn payload(s: &Service) -> Vec<u8> {
     s.codes()

@@ -1,7 +1,7 @@
 -- What the profile tells of blocks and packets, and what it keeps, whatever results the contracts allow. Assumes nothing.
 use mathlib.Core.Path.{_≡_, refl, sym, ap, _∙_}
 use mathlib.Core.Bool.{Bool, true, false, _&&_}
-use mathlib.Core.List.{List, [], _∷_, _++_}
+use mathlib.Core.List.{List, _∷_, _++_}
 use Prim.Native.Nat.{ℕ}
 use native.Mathlib.Omega.{arith}
 use borrow.Author.Tests.{ltb-false}
@@ -24,7 +24,7 @@ use Rattle.caption.specs.declared.Answer.the-variants.{Accepted, Refused}
 use Rattle.caption.specs.declared.Refusal.{Refusal}
 use Rattle.caption.specs.declared.Refusal.the-variants.{BadValue}
 use Rattle.caption.specs.Answers.{saidRefusal, saidAnswer}
-use Rattle.caption.proofs.Answers.{saidAnswer-injective, given-with}
+use Rattle.caption.proofs.Answers.{saidAnswer-injective}
 use Rattle.service.specs.declared.Service.{Service}
 use Rattle.service.specs.Service.{blockOf, validService}
 use Rattle.packet.specs.declared.DTVCCPacket.{DTVCCPacket}

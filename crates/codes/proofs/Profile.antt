@@ -1,21 +1,19 @@
 -- What the profile tells of a run, whatever results the contracts of its functions allow. Assumes nothing.
-use mathlib.Core.Path.{_≡_, sym, ap, _∙_}
+use mathlib.Core.Path.{_≡_, ap, _∙_}
 use mathlib.Core.List.{List, []}
 use Prim.Native.Nat.{ℕ}
 use contract.Lifetimes.{Lfts}
 use denote.Ref.{RefT, now}
 use lib.ListN.{length, getD}
-use Rattle.model.specs.Said.{Outcome, gave, after}
-use Rattle.model.specs.Codes.{codesOf}
-use Rattle.model.proofs.Codes.{CutInto, Leftmost, only-cut, cut-given, refused-leftmost, refused-uncut, codes-numbered}
+use Rattle.model.specs.Said.{Outcome, after}
+use Rattle.model.proofs.Codes.{CutInto, Leftmost, only-cut, cut-given, refused-leftmost, refused-uncut}
 use Rattle.caption.specs.declared.Counted.{Counted}
 use Rattle.caption.specs.declared.Counted.the-variants.{Count}
 use Rattle.caption.specs.declared.Answer.{Answer}
 use Rattle.caption.specs.declared.Answer.the-variants.{Accepted, Refused}
 use Rattle.caption.specs.declared.Refusal.{Refusal}
 use Rattle.caption.specs.Answers.{saidRefusal}
-use Rattle.caption.proofs.Answers.{saidAnswer-injective, saidCounted-injective, given-with}
-use Rattle.codes_cuts.specs.Cuts.{howMany}
+use Rattle.caption.proofs.Answers.{saidAnswer-injective, saidCounted-injective}
 use Rattle.codes.proofs.code_count.Reads as code_count
 use Rattle.codes.proofs.code_at.Reads as code_at
 use Rattle.codes.proofs.check_run.Reads as check_run

@@ -1,6 +1,6 @@
 -- What is answered of runs and of the payloads of blocks. Assumes nothing.
 use mathlib.Core.Path.{_≡_, refl, sym, ap, _∙_}
-use mathlib.Core.Bool.{Bool, true, false, cond}
+use mathlib.Core.Bool.{Bool, true, false}
 use mathlib.Core.List.{List, [], _∷_, map}
 use Prim.Native.Nat.{ℕ, zero, suc, _+_, _-_, _≤_, _<_, min}
 use native.Mathlib.Omega.{arith}
@@ -8,7 +8,7 @@ use borrow.Author.Tests.{lt-ltb, le-ltb, leb-true, leb-false}
 use lib.Dec.{ltb, leb}
 use lib.ListN.{length, getD, take, drop, length-drop, drop-of-length-le}
 use lib.Seq.{getD-drop, drop-drop, take-all}
-use Rattle.model.specs.Said.{Said, Outcome, gave, refused, mapped, says, saysWith, after, checked, accepted, badValue, badNumber}
+use Rattle.model.specs.Said.{Said, Outcome, gave, refused, mapped, says, saysWith, checked, accepted, badValue, badNumber}
 use Rattle.model.specs.Block.{Block}
 use Rattle.model.specs.Packet.{Packet, pushRunBy}
 use Rattle.model.specs.Codes.{codesOf, codesOfEach, pushCodesBy}

@@ -69,17 +69,17 @@ fn start_of(payload: &[u8], place: usize) -> usize
     requires { ⌜ place < length (cutOf (now payload)) ⌝ }
     ensures { λ r. ⌜ Reached (now (payload .entry)) place r ⌝ }
 {
-    let mut at: usize = 0;
+    let mut start: usize = 0;
     let mut i: usize = 0;
     while i < place {
-        let code = code_length_at(payload, at);
+        let code = code_length_at(payload, start);
         let Counted::Count(n) = code else {
-            return at;
+            return start;
         };
-        at += n;
+        start += n;
         i += 1;
     }
-    at
+    start
 }
 
 // The code at a place, as a part of the payload; an empty part where the payload is refused or has no code there [K4].

@@ -1,12 +1,11 @@
 // How long codes are: a table of 2 times 256 lengths, of which the rule by ranges holds at every entry.
 ghost use mathlib.Core.Path.{_≡_};
-ghost use Rattle.model.specs.Codes.{lengthBy};
-ghost use Rattle.codes_lengths.specs.Table.{ruled};
+ghost use Rattle.model.specs.Codes.{lengthBy, lengthTable};
 
 // How many bytes a code has: by its first byte, and then by the byte behind 0x10; 0 where the byte tells no length.
 const LENGTHS: [[u8; 256]; 2] = [
     [
-        // 00 to 0F
+        1, // 00 to 0F
         1,
         1,
         1,
@@ -22,18 +21,15 @@ const LENGTHS: [[u8; 256]; 2] = [
         1,
         1,
         1,
-        1,
-        // 10
-        0,
-        // 11 to 17
+        0, // 10
+        2, // 11 to 17
         2,
         2,
         2,
         2,
         2,
         2,
-        2,
-        // 18 to 1F
+        3, // 18 to 1F
         3,
         3,
         3,
@@ -41,8 +37,7 @@ const LENGTHS: [[u8; 256]; 2] = [
         3,
         3,
         3,
-        3,
-        // 20 to 87
+        1, // 20 to 87
         1,
         1,
         1,
@@ -146,31 +141,23 @@ const LENGTHS: [[u8; 256]; 2] = [
         1,
         1,
         1,
-        1,
-        // 88 to 8D
+        2, // 88 to 8D
         2,
         2,
         2,
         2,
         2,
-        2,
-        // 8E to 8F
+        1, // 8E to 8F
         1,
-        1,
-        // 90
-        3,
-        // 91
-        4,
-        // 92
-        3,
-        // 93 to 96
+        3, // 90
+        4, // 91
+        3, // 92
+        1, // 93 to 96
         1,
         1,
         1,
-        1,
-        // 97
-        5,
-        // 98 to 9F
+        5, // 97
+        7, // 98 to 9F
         7,
         7,
         7,
@@ -178,9 +165,7 @@ const LENGTHS: [[u8; 256]; 2] = [
         7,
         7,
         7,
-        7,
-        // A0 to FF
-        1,
+        1, // A0 to FF
         1,
         1,
         1,
@@ -278,7 +263,7 @@ const LENGTHS: [[u8; 256]; 2] = [
         1,
     ],
     [
-        // 00 to 07
+        2, // 00 to 07
         2,
         2,
         2,
@@ -286,8 +271,7 @@ const LENGTHS: [[u8; 256]; 2] = [
         2,
         2,
         2,
-        2,
-        // 08 to 0F
+        3, // 08 to 0F
         3,
         3,
         3,
@@ -295,8 +279,7 @@ const LENGTHS: [[u8; 256]; 2] = [
         3,
         3,
         3,
-        3,
-        // 10 to 17
+        4, // 10 to 17
         4,
         4,
         4,
@@ -304,8 +287,7 @@ const LENGTHS: [[u8; 256]; 2] = [
         4,
         4,
         4,
-        4,
-        // 18 to 1F
+        5, // 18 to 1F
         5,
         5,
         5,
@@ -313,8 +295,7 @@ const LENGTHS: [[u8; 256]; 2] = [
         5,
         5,
         5,
-        5,
-        // 20 to 7F
+        2, // 20 to 7F
         2,
         2,
         2,
@@ -410,8 +391,7 @@ const LENGTHS: [[u8; 256]; 2] = [
         2,
         2,
         2,
-        2,
-        // 80 to 87
+        6, // 80 to 87
         6,
         6,
         6,
@@ -419,8 +399,7 @@ const LENGTHS: [[u8; 256]; 2] = [
         6,
         6,
         6,
-        6,
-        // 88 to 8F
+        7, // 88 to 8F
         7,
         7,
         7,
@@ -428,8 +407,7 @@ const LENGTHS: [[u8; 256]; 2] = [
         7,
         7,
         7,
-        7,
-        // 90 to 9F
+        0, // 90 to 9F
         0,
         0,
         0,
@@ -445,9 +423,7 @@ const LENGTHS: [[u8; 256]; 2] = [
         0,
         0,
         0,
-        0,
-        // A0 to FF
-        2,
+        2, // A0 to FF
         2,
         2,
         2,
@@ -548,7 +524,7 @@ const LENGTHS: [[u8; 256]; 2] = [
 
 // The table, whole: each entry is what the ranges say of it [K1] [K2].
 pub fn lengths() -> [[u8; 256]; 2]
-    ensures { λ r. ⌜ r ≡ ruled ⌝ }
+    ensures { λ r. ⌜ r ≡ lengthTable ⌝ }
 {
     LENGTHS
 }

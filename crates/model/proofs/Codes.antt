@@ -1,18 +1,38 @@
 -- How a payload is cut into codes: the cut is the only one, a payload that is refused has none, and the refusal told is the one at the leftmost place
 -- that codes do not go past. Assumes nothing.
 use mathlib.Core.Path.{_≡_, refl, sym, ap, ap₂, subst, _∙_}
-use mathlib.Core.Bool.{Bool, true, false, cond, not, _&&_, _||_}
+use mathlib.Core.Bool.{Bool, true, false, cond, not, _||_}
 use mathlib.Core.List.{List, [], _∷_, _++_, flatten, append-assoc, append-nil}
 use Prim.Native.Nat.{ℕ, zero, suc, _+_, _-_, _≤_, _<_}
 use native.Mathlib.Omega.{arith}
 use lib.Dec.{eqb, leb, ltb}
-use lib.ListN.{length, getD, take, drop, length-append, length-drop, take-append-drop, List·getD-append}
+use lib.ListN.{length, getD, take, drop, replicate, length-append, length-drop, take-append-drop, List·getD-append}
 use lib.Seq.{drop-nil, drop-at, take-at, getD-take, length-take-le}
-use borrow.Author.Tests.{eq-eqb, ne-eqb, eqb-true, eqb-false, lt-leb, le-leb, leb-true, leb-false, lt-ltb, le-ltb, ltb-true, ltb-false}
+use borrow.Author.Tests.{eq-eqb, ne-eqb, eqb-true, eqb-false, lt-leb, leb-true, leb-false, lt-ltb, le-ltb, ltb-true, ltb-false}
 use Rattle.model.specs.Lists.{every}
-use Rattle.model.specs.Said.{Said, Outcome, gave, refused, andThen, mapped, unknownLength, codeCutShort}
-use Rattle.model.specs.Codes.{Range, extendedRanges, within, toldIn, lengthBy, isExtended, tellingPlace, toldLength, isUntold, codeIn, codesFrom, codesOf, isCode}
+use Rattle.model.specs.Said.{Said, Outcome, gave, refused, mapped, unknownLength, codeCutShort}
+use Rattle.model.specs.Codes.{Range, firstRanges, extendedRanges, within, tabled, toldIn, lengthBy, isExtended, tellingPlace, toldLength, isUntold, codeIn, codesFrom, codesOf, isCode}
 use Rattle.model.proofs.Cases.{by-test, by-cond, both, and-both, Gives, gives-at, Refuses, refuses-weaker, mapped-mapped, mapped-same}
+
+-- how many of the ranges a byte is in
+unfoldable pub heldIn : List Range → ℕ → ℕ
+heldIn [] b = 0
+heldIn (r ∷ rs) b = cond (within r b) (1 + heldIn rs b) (heldIn rs b)
+
+-- Each byte is in one of the ranges and in no other, as the first of a code and as the one behind 0x10: all 512 in one equation.
+pub each-once : tabled (heldIn firstRanges) 0 256 ++ tabled (heldIn extendedRanges) 0 256 ≡ replicate 512 1
+unfolding tabled heldIn firstRanges extendedRanges
+each-once = refl
+
+-- an entry of a table that a rule has made
+table-from : (rule : ℕ → ℕ) (from n k : ℕ) → k < n → getD (tabled rule from n) k 0 ≡ rule (from + k)
+unfolding tabled
+table-from rule from zero k h = absurd (omega arith)
+table-from rule from (suc n) zero h = let e : from + 0 ≡ from = omega arith in rw e
+table-from rule from (suc n) (suc k) h = let e : from + suc k ≡ suc from + k = omega arith in rw e (table-from rule (suc from) n k (omega arith))
+
+pub table-at : (rule : ℕ → ℕ) (n k : ℕ) → k < n → getD (tabled rule 0 n) k 0 ≡ rule k
+table-at rule n k h = let e : 0 + k ≡ k = omega arith in rw e at (table-from rule 0 n k h)
 
 -- a length that is no length or at least two
 abbrev noneOrTwo : ℕ → Bool

@@ -4,10 +4,12 @@ use mathlib.Core.Path.{_≡_, refl}
 use mathlib.Core.Bool.{true, false}
 use mathlib.Core.List.{List, [], _∷_, map}
 use Prim.Native.Nat.{ℕ}
-use Rattle.model.specs.Said.{Said, Outcome, gave, refused, mapped}
+use lib.ListN.{length}
+use Rattle.model.specs.Said.{Said, Outcome, gave, refused, andThen, mapped}
 use Rattle.model.specs.Block.{Block, headerLength, numberIn, isHeaderShort, needed, isShort, blockIn, shortAt, readBlockAt, readBlock, writtenHeader, writtenBlock, blockLength}
 use Rattle.model.specs.Packet.{Packet, sequenceIn, packetSize, plainMove, tidyMove, isNullHeader, blocksFrom, readBy, readPacket, reads, readTidy, blocksLength, packetLength, writtenBlocks, packetHeader, fill, writtenPacket}
 use Rattle.model.specs.Services.{among, once, bitsOf, servicesOf, distinctServices}
+use Rattle.model.specs.Codes.{firstRanges, extendedRanges, toldIn, toldLength, isUntold, codeIn, codesFrom, codesOf, codesOfEach, codesOfBlocks}
 use Rattle.model.specs.Frame.{pair, Cea608, field1, field2, seen, seenAll, flat, triplesIn, flagged, frameBytes}
 use Rattle.model.specs.Demux.{turn608On, freshDemux, pairsIn, lateAfter, lateFrom, carries708, closed, packetsOf, kept, wants, gather, ended, gathered, takeGathered, takeTriples, unread, takeFrame}
 use Rattle.model.specs.Rate.{rounded, budgets, goingOn, carriedBudget, leftOver, carriedOn, carriedShare, shareBy}
@@ -18,7 +20,7 @@ use Rattle.model.specs.Run.{Call, pushes, pushes608, sets, call, run, re
 pub data Input : Type 0 where
   header : ℕ → Input
   written : Packet → Input
-  plain tidy plainSet tidySet alone : List ℕ → Input
+  plain tidy plainSet tidySet alone codes blockCodes : List ℕ → Input
   frames : List (List ℕ) → Input
   frame readBack : ℕ → ℕ → List Call → Input
 
@@ -29,6 +31,7 @@ pub data Result : Type 0 where
   packet : Packet → Result
   set : ℕ → ℕ → Result
   block : Block → Result
+  counts : List ℕ → Result
   refusal : Said → Result
   items : List Said → List Cea608 → List Packet → Result
 
@@ -68,6 +71,8 @@ answer (tidy d) = told packet (readTidy d)
 answer (plainSet d) = told setOf (readPacket d)
 answer (tidySet d) = told setOf (readTidy d)
 answer (alone d) = told block (readBlock d)
+answer (codes d) = told (λ cs. counts (map length cs)) (codesOf d)
+answer (blockCodes d) = told (λ css. counts (map length css)) (andThen (readPacket d) (λ p. codesOfBlocks (p .blocks)))
 answer (frames fs) = read fs
 answer (frame numer denom calls) = told bytes (afterCalls numer denom calls)
 answer (readBack numer denom calls) = told (λ f. read (f ∷ [])) (afterCalls numer denom calls)
@@ -117,6 +122,16 @@ table =
     ∷ row (plainSet twoServices) (set 6 2)
     ∷ row (tidy twoServices) (packet (record { sequence = 1; blocks = record { number = 2; payload = 0x41 ∷ [] } ∷ record { number = 2; payload = 0x42 ∷ [] } ∷ [] }))
     ∷ row (tidySet twoServices) (set 4 1)
+    ∷ row (codes (0x41 ∷ 0x42 ∷ 0x43 ∷ [])) (counts (1 ∷ 1 ∷ 1 ∷ []))
+    ∷ row (codes (0x10 ∷ 0x80 ∷ 0x01 ∷ 0x02 ∷ 0x03 ∷ 0x04 ∷ [])) (counts (6 ∷ []))
+    ∷ row (codes (0x91 ∷ 0x01 ∷ 0x02 ∷ 0x03 ∷ [])) (counts (4 ∷ []))
+    ∷ row (codes []) (counts [])
+    ∷ row (codes (0x10 ∷ [])) (refusal (says 22 []))
+    ∷ row (codes (0x10 ∷ 0x90 ∷ [])) (refusal (says 21 []))
+    ∷ row (codes (0x41 ∷ 0x10 ∷ 0x90 ∷ 0x98 ∷ [])) (refusal (says 21 []))
+    ∷ row (codes (0x41 ∷ 0x98 ∷ 0x10 ∷ 0x90 ∷ [])) (refusal (says 22 []))
+    ∷ row (blockCodes (0x06 ∷ 0x26 ∷ 0x41 ∷ 0x97 ∷ 0x01 ∷ 0x02 ∷ 0x03 ∷ 0x04 ∷ 0x43 ∷ 0x10 ∷ 0x08 ∷ 0x05 ∷ [])) (counts (2 ∷ 1 ∷ []))
+    ∷ row (blockCodes (0x06 ∷ 0x26 ∷ 0x41 ∷ 0x97 ∷ 0x01 ∷ 0x02 ∷ 0x03 ∷ 0x04 ∷ 0x43 ∷ 0x10 ∷ 0x98 ∷ 0x05 ∷ [])) (refusal (says 21 []))
     ∷ row (plain []) (refusal (says 13 (1 ∷ 0 ∷ 0 ∷ [])))
     ∷ row (tidy []) (refusal (says 13 (1 ∷ 0 ∷ 0 ∷ [])))
     ∷ row (alone []) (refusal (says 14 (1 ∷ 0 ∷ 0 ∷ [])))
@@ -148,6 +163,7 @@ unfolding table
     headerLength numberIn isHeaderShort needed isShort blockIn shortAt readBlockAt writtenHeader writtenBlock blockLength
     packetSize plainMove tidyMove isNullHeader blocksFrom readBy readPacket reads readTidy blocksLength packetLength writtenBlocks packetHeader fill writtenPacket
     among once bitsOf servicesOf distinctServices
+    firstRanges extendedRanges toldIn toldLength isUntold codeIn codesFrom codesOfEach
     seen seenAll flat triplesIn flagged frameBytes
     pairsIn lateAfter lateFrom carries708 closed packetsOf kept wants gather ended gathered takeGathered takeTriples unread takeFrame
     rounded budgets goingOn carriedBudget leftOver carriedOn carriedShare shareBy

@@ -64,6 +64,15 @@ abbrev pub lengthBy : Bool → ℕ → ℕ
 lengthBy false b = toldIn firstRanges b
 lengthBy true b = toldIn extendedRanges b
 
+-- what a rule says of so many numbers, the first of which is `from`
+unfoldable pub tabled : (ℕ → ℕ) → ℕ → ℕ → List ℕ
+tabled rule from zero = []
+tabled rule from (suc n) = rule from ∷ tabled rule (suc from) n
+
+-- The table of 2 times 256 lengths: by each first byte, and by each byte behind 0x10 [K1] [K2].
+unfoldable pub lengthTable : List (List ℕ)
+lengthTable = tabled (lengthBy false) 0 256 ∷ tabled (lengthBy true) 0 256 ∷ []
+
 -- whether bytes begin with 0x10 [K2]
 abbrev pub isExtended : List ℕ → Bool
 isExtended d = eqb (getD d 0 0) 0x10

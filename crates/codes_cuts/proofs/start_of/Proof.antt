@@ -1,4 +1,4 @@
--- The invariant: from `at` on the codes from place `i` on stand; since there is a code at `place`, one begins at every place before it. Assumes nothing.
+-- The invariant: from `start` on the codes from place `i` on stand; since there is a code at `place`, one begins at every place before it. Assumes nothing.
 use mathlib.Core.Path.{_≡_}
 use Prim.Native.Nat.{_+_, _-_, _≤_, _<_}
 use native.Mathlib.Omega.{arith}
@@ -11,13 +11,13 @@ use Rattle.codes_cuts.proofs.start_of.Statement.{statement}
 use Rattle.codes_cuts.proofs.start_of.Tie as tie
 
 abbrev Inv-loop : tie.InvT-loop
-Inv-loop payload place at₀ i₀ at i = (i ≤ place) × (place < length (cutOf payload)) × Reached payload i at
+Inv-loop payload place start₀ i₀ start i = (i ≤ place) × (place < length (cutOf payload)) × Reached payload i start
 
 abbrev μ-loop : tie.MeasureT-loop
-μ-loop payload place at₀ i₀ at i = place - i
+μ-loop payload place start₀ i₀ start i = place - i
 
 -- the code that was met is within the payload
-within : (c : tie.After-known-told Inv-loop μ-loop) → (1 ≤ c .before .code .given .0 .0) × (c .before .before .before .before .before .loop .at + c .before .code .given .0 .0 ≤ length (now (c .before .before .before .before .before .before .before .args .payload)))
+within : (c : tie.After-known-told Inv-loop μ-loop) → (1 ≤ c .before .code .given .0 .0) × (c .before .before .before .before .before .loop .start + c .before .code .given .0 .0 ≤ length (now (c .before .before .before .before .before .before .before .args .payload)))
 within c = code-within _ _ _ (c .before .before .before .code-length-at .ensures) _ (c .before .code .given .1)
 
 loop-holds : tie.Need-loop-holds Inv-loop μ-loop
@@ -35,8 +35,8 @@ enum-told c = search needs
 returns : tie.Need-returns Inv-loop μ-loop
 returns c = absurd (reached-code _ _ _ (c .before .before .before .before .loop .inv .2) (omega (arith, c .before .before .before .before .loop .inv .1)) _ (c .before .before .code-length-at .ensures) _ (c .enum-told .given .1))
 
-add-at : tie.Need-add-at Inv-loop μ-loop
-add-at c = omega (arith, within c)
+add-start : tie.Need-add-start Inv-loop μ-loop
+add-start c = omega (arith, within c)
 
 add-i : tie.Need-add-i Inv-loop μ-loop
 add-i c = omega (arith, within c)
@@ -62,7 +62,7 @@ start-of-spec =
     enum-known-code
     enum-told
     returns
-    add-at
+    add-start
     add-i
     loop-less
     loop-again

@@ -2,8 +2,7 @@
 use mathlib.Core.Path.{refl}
 use mathlib.Core.Bool.{true, false}
 use native.Mathlib.Omega.{arith}
-use Rattle.model.specs.Codes.{firstRanges, extendedRanges, toldIn}
-use Rattle.codes_lengths.specs.Table.{tabled}
+use Rattle.model.specs.Codes.{firstRanges, extendedRanges, toldIn, tabled}
 use Rattle.codes_lengths.proofs.Table.{looked-up}
 use borrow.Author.Needs.{needs}
 use Rattle.codes_lengths.proofs.length_by.Statement.{statement}
