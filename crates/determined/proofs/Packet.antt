@@ -61,7 +61,7 @@ saidPlace-injective = LeftInverse·injective (answerOf placeOf Refused) saidPlac
 
 module _ {A E : Type 0} where
   -- an answer and a packet
-  answers : {o : A → Outcome Packet} {old : A → DTVCCPacket} → Determines (λ (a : A) (r : PacketAnswer) (e : E). Answers (o a) (old a) r)
+  pub answers : {o : A → Outcome Packet} {old : A → DTVCCPacket} → Determines (λ (a : A) (r : PacketAnswer) (e : E). Answers (o a) (old a) r)
   answers = record { result = λ a r q e f h k. one-answer r q h k }
 
   -- a place and the block there

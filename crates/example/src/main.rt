@@ -1,5 +1,6 @@
 // One block's way through both machines: pushed into a packet, the packet into a multiplexer, a frame written, the frame read and the packet
-// drawn again. Then the same where a turn sends nothing, without and with the true count.
+// drawn again. Then the same where a turn sends nothing, without and with the true count; and runs of caption codes, whole and cut.
+use caption::Answer;
 use caption::Cea608;
 use caption::Counted;
 use caption::Framerate;
@@ -54,6 +55,12 @@ fn read_one(frame: &[u8; 95], n: usize) -> Item {
     drawn.item
 }
 
+// What the profile that knows how long codes are answers to a run for service 1.
+fn push_whole(run: &[u8]) -> Answer {
+    let pushed = codes::push_codes(one_block(), 1, run);
+    pushed.answer
+}
+
 // How many bytes there are, and none where the call was refused.
 fn bytes_of(counted: Counted) -> usize {
     match counted {
@@ -74,6 +81,18 @@ fn tell(item: Item) {
     }
 }
 
+// Says what a run is.
+fn tell_run(answer: Answer) {
+    match answer {
+        Answer::Accepted => {
+            io::write_all(STDOUT_FILENO, b"whole codes\n");
+        }
+        Answer::Refused(_) => {
+            io::write_all(STDOUT_FILENO, b"not whole codes\n");
+        }
+    }
+}
+
 fn main() {
     let mut frame = [0u8; 95];
     let n = bytes_of(write_one(&mut frame));
@@ -84,4 +103,8 @@ fn main() {
     io::write_all(STDOUT_FILENO, b"behind two pairs, with the true count: ");
     let second = bytes_of(write_pairs(&mut frame, true));
     tell(read_one(&frame, second));
+    io::write_all(STDOUT_FILENO, b"a code of three bytes: ");
+    tell_run(push_whole(b"\x92\x01\x02"));
+    io::write_all(STDOUT_FILENO, b"its first two: ");
+    tell_run(push_whole(b"\x92\x01"));
 }
