@@ -10,7 +10,7 @@ use lib.ListN.{getD, replicate}
 use borrow.Author.Tests.{eq-eqb}
 use Rattle.model.specs.Said.{Said, accepted, badValue, measured}
 use Rattle.model.specs.Said as model
-use Rattle.model.proofs.Cases.{Refuses}
+use Rattle.model.proofs.Cases.{NotAccepted, Refuses}
 use Rattle.caption.specs.Answers.{saidRefusal, saidAnswer, saidCounted, saidTruth}
 use Rattle.caption.specs.declared.Refusal.{Refusal}
 use Rattle.caption.specs.declared.Refusal.the-variants.{Cea608AfterCea708, WouldOverflow, ReadOnly, EmptyService, BadNumber, BadRun, BadRate, OutShort, Full, BadValue, FrameLengthWrong, PacketLengthWrong, BlockHeaderShort, BlockBodyShort, UnknownLength, CodeCutShort}
@@ -66,7 +66,7 @@ module _ {A : Type 0} (given : List ℕ → A) (refused : Refusal → A) where
   refused-again CodeCutShort = refl
 
 -- so none has the number of what is accepted
-pub refusal-numbered : (why : Refusal) → saidRefusal why .number ≡ 0 → ⊥
+pub refusal-numbered : (why : Refusal) → NotAccepted (saidRefusal why)
 refusal-numbered why z =
     let e : answerOf (λ _. true) (λ _. false) (saidRefusal why) ≡ true = rw (eq-eqb _ _ z) in
     true≢false (sym e ∙ refused-again (λ _. true) (λ _. false) why)
@@ -80,7 +80,7 @@ pub refused-as : {A : Type 0} (why : Refusal) (o : model.Outcome A) → saidRefu
 refused-as why o h = refused-with (λ _. []) why o h
 
 -- and one that accepts tells what it gives, if no refusal of it has the number of what is accepted
-pub given-with : {A : Type 0} (values : A → List ℕ) (vs : List ℕ) (o : model.Outcome A) → Refuses (λ why. why .number ≡ 0 → ⊥) o → accepted vs ≡ model.saysWith values o
+pub given-with : {A : Type 0} (values : A → List ℕ) (vs : List ℕ) (o : model.Outcome A) → Refuses NotAccepted o → accepted vs ≡ model.saysWith values o
     → (x : A) × (o ≡ model.gave x) × (vs ≡ values x)
 given-with values vs (model.gave x) n h = (x, refl, ap (λ (s : Said). s .values) h)
 given-with values vs (model.refused why) n h = absurd (n (sym (ap (λ (s : Said). s .number) h)))

@@ -58,7 +58,7 @@ pub enum Refusal {
         actual: usize,
         offset: usize,
     },
-    // No code has a length that these bytes tell.
+    // The byte that would tell the length of a code tells none.
     UnknownLength,
     // The bytes end within a code.
     CodeCutShort,

@@ -13,10 +13,10 @@ use Rattle.model.specs.Said.{Outcome, gave, refused, says, isGiven, checked}
 use Rattle.model.specs.Block.{Block, validBlock}
 use Rattle.model.specs.Packet.{Packet, newPacket, pushBlock}
 use Rattle.model.specs.Codes.{codesOf, codesOfBlocks, pushCodesBy}
-use Rattle.model.proofs.Cases.{both, by-cond, Gives, Refuses}
+use Rattle.model.proofs.Cases.{both, by-cond, Gives, NotAccepted, Refuses}
 use Rattle.model.proofs.Packets.{Valid}
 use Rattle.model.proofs.Pushing.{block-valid}
-use Rattle.model.proofs.Codes.{Numbered, codes-numbered}
+use Rattle.model.proofs.Codes.{codes-numbered}
 use Rattle.model.proofs.CodedPackets.{isCut, allCut, blocks-exactly, blocks-first, codes-kept, codes-valid, each-numbered}
 use Rattle.model.proofs.CodedPackets as coded
 use Rattle.caption.specs.declared.Answer.{Answer}
@@ -29,7 +29,7 @@ use Rattle.service.specs.declared.Service.{Service}
 use Rattle.service.specs.Service.{blockOf, validService}
 use Rattle.packet.specs.declared.DTVCCPacket.{DTVCCPacket}
 use Rattle.packet.specs.declared.PacketAnswer.{PacketAnswer}
-use Rattle.packet.specs.Packet.{Answers, packetOf, validDTVCC, over, blank}
+use Rattle.packet.specs.Packet.{Answers, packetOf, validDTVCC, blank}
 use Rattle.packet.proofs.DTVCCPacket.new.Reads as new
 use Rattle.packet.proofs.DTVCCPacket.push_service.Reads as push_service
 use Rattle.packet_entries.specs.Fields.{blocksHeld}
@@ -72,7 +72,7 @@ accepts Accepted = true
 accepts (Refused why) = false
 
 -- an answer about a value accepts exactly if the value breaks no limit and the outcome gives something
-accepts-as : {A : Type 0} (r : Answer) (v : Bool) (o : Outcome A) → Refuses Numbered o → saidAnswer r ≡ says (checked v o) → accepts r ≡ v && isGiven o
+accepts-as : {A : Type 0} (r : Answer) (v : Bool) (o : Outcome A) → Refuses NotAccepted o → saidAnswer r ≡ says (checked v o) → accepts r ≡ v && isGiven o
 accepts-as r true (gave x) n told = ap accepts (saidAnswer-injective r Accepted told)
 accepts-as Accepted true (refused why) n told = absurd (n (sym (ap (λ s. s .number) told)))
 accepts-as (Refused y) true (refused why) n told = refl

@@ -1,3 +1,4 @@
 pub mod Runs
 pub mod Profile
 pub mod Kept
+pub mod Each

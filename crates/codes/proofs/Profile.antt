@@ -6,7 +6,7 @@ use contract.Lifetimes.{Lfts}
 use denote.Ref.{RefT, now}
 use lib.ListN.{length, getD}
 use Rattle.model.specs.Said.{Outcome, after}
-use Rattle.model.proofs.Codes.{CutInto, Leftmost, only-cut, cut-given, refused-leftmost, refused-uncut}
+use Rattle.model.proofs.Codes.{CutInto, Stuck, Leftmost, only-cut, cut-given, refused-leftmost, stuck-refused, refused-uncut}
 use Rattle.caption.specs.declared.Counted.{Counted}
 use Rattle.caption.specs.declared.Counted.the-variants.{Count}
 use Rattle.caption.specs.declared.Answer.{Answer}
@@ -60,3 +60,7 @@ module _ (κs : Lfts 1) (run : Lent) where
       -- and the refusal is that at the leftmost place at which no code begins.
       pub refused-there : Leftmost (now run) (saidRefusal why)
       refused-there = refused-leftmost (now run) (saidRefusal why) (is-not (now run) r told why not)
+
+    -- Where codes go up to such a place the run is refused, as the place has it.
+    pub there-refused : (why : Refusal) → Stuck (now run) (saidRefusal why) → r ≡ Refused why
+    there-refused why s = saidAnswer-injective r (Refused why) (told ∙ rw (stuck-refused (now run) (saidRefusal why) s))

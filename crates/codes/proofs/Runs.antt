@@ -129,9 +129,9 @@ module _ (d : List ℕ) (at k end : ℕ) (is : end ≡ min (at + k) (length d)) 
 -- the payloads from place i on, which begin at `at`
 module _ (count : ℕ) (ss d : List ℕ) (i at : ℕ) (so : checkedFrom count ss d ≡ checkedFrom (count - i) (drop i ss) (drop at d)) where
   -- none is left
-  pub all-cut : count ≤ i → accepted [] ≡ checkedFrom count ss d
+  pub all-checked : count ≤ i → accepted [] ≡ checkedFrom count ss d
   unfolding payloadsHeld codesOfEach
-  all-cut h = let z : count - i ≡ 0 = omega arith in sym (so ∙ rw z)
+  all-checked h = let z : count - i ≡ 0 = omega arith in sym (so ∙ rw z)
 
   module _ (more : i < count) (size end : ℕ) (sized : size ≡ getD ss i 0) (is : end ≡ min (at + size) (length d)) (within : at ≤ length d)
       (r : Answer) (told : saidAnswer r ≡ says (codesOf (take (end - at) (drop at d)))) where

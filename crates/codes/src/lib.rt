@@ -21,7 +21,7 @@ use packet::DTVCCPacket;
 use packet::PacketAnswer;
 use service::Service;
 
-// How many bytes the code has that begins at byte `at` of a payload [K3].
+// How many bytes the code has that begins at byte `at` of a payload; at its end and behind it none begins, and it is 22 [K3].
 pub fn code_length_at(payload: &[u8], at: usize) -> Counted
     ensures { λ r. ⌜ saidCounted r ≡ saysWith theLength (codeIn (drop at (now (payload .entry)))) ⌝ }
 {

@@ -75,8 +75,8 @@ module _ (d : List ℕ) (at : ℕ) where
 -- the codes from a byte on, whose code an answer tells
 module _ (d : List ℕ) (at : ℕ) (r : Counted) (told : saidCounted r ≡ saysWith theLength (codeIn (drop at d))) where
   -- a refusal is that of all
-  pub refused-there : (why : Refusal) → r ≡ Refused why → at < length d → codesOf (drop at d) ≡ refused (saidRefusal why)
-  refused-there why e h =
+  pub refused-from : (why : Refusal) → r ≡ Refused why → at < length d → codesOf (drop at d) ≡ refused (saidRefusal why)
+  refused-from why e h =
       codes-refused (drop at d) (saidRefusal why) (omega (arith, length-drop at d)) (refused-with theLength why (codeIn (drop at d)) (sym (ap saidCounted e) ∙ told))
 
   module _ (k : ℕ) (e : r ≡ Count k) where
@@ -120,20 +120,17 @@ module _ (d : List ℕ) (at n : ℕ) (so : saysWith howMany (codesOf d) ≡ coun
 
     -- or a refusal
     pub counted-not : (why : Refusal) → r ≡ Refused why → at < length d → saidCounted r ≡ saysWith howMany (codesOf d)
-    counted-not why e h = ap saidCounted e ∙ sym (so ∙ rw (refused-there d at r told why e h))
+    counted-not why e h = ap saidCounted e ∙ sym (so ∙ rw (refused-from d at r told why e h))
 
 -- a payload that has codes is cut
-cut-given : (d : List ℕ) (place : ℕ) → place < length (cutOf d) → codesOf d ≡ gave (cutOf d)
-cut-given d place h = by (codesOf d) h
-  where
-    by : (o : Outcome (List (List ℕ))) → place < length (after [] o) → o ≡ gave (after [] o)
-    by (gave cs) l = refl
-    by (refused why) l = absurd (omega arith)
+has-codes : (d : List ℕ) (o : Outcome (List (List ℕ))) (place : ℕ) → codesOf d ≡ o → place < length (after [] o) → codesOf d ≡ gave (after [] o)
+has-codes d (gave cs) place e h = e
+has-codes d (refused why) place e h = absurd (omega arith)
 
 -- the codes from a place on
 module _ (d : List ℕ) where
   pub reached-first : (place : ℕ) → place < length (cutOf d) → Reached d 0 0
-  reached-first place h = record { within = omega arith; codes = cut-given d place h }
+  reached-first place h = record { within = omega arith; codes = has-codes d (codesOf d) place refl h }
 
   module _ (place at : ℕ) (here : Reached d place at) (more : place < length (cutOf d)) where
     -- there are bytes left
@@ -149,7 +146,7 @@ module _ (d : List ℕ) where
       -- a code begins there
       pub reached-code : (why : Refusal) → r ≡ Refused why → ⊥
       reached-code why e =
-          let q = refused-there d at r told why e reached-some in
+          let q = refused-from d at r told why e reached-some in
           let g = here .codes in
           let z : _≡_ {A = ℕ} 0 1 = cc in omega arith
 

@@ -12,8 +12,8 @@ use caption::Counted;
 use caption::Refusal;
 use codes_lengths::length_by;
 
-// The byte behind which another tells the length of a code.
-const EXTENDS: u8 = 0x10;
+// The byte behind which another tells the length of a code: EXT1 in the standard.
+const EXT1: u8 = 0x10;
 
 // What there is of a code of this length where `left` bytes are left: all of it, or not; a length of 0 is that of no code.
 fn whole(length: usize, left: usize) -> Counted
@@ -28,7 +28,7 @@ fn whole(length: usize, left: usize) -> Counted
     Counted::Count(length)
 }
 
-// How many bytes the code has that begins at `at`; behind the payload's end none begins [K3].
+// How many bytes the code has that begins at `at`; at the payload's end and behind it none begins, and it is 22 [K3].
 pub fn code_length_at(payload: &[u8], at: usize) -> Counted
     ensures { λ r. ⌜ saidCounted r ≡ saysWith theLength (codeIn (drop at (now (payload .entry)))) ⌝ }
 {
@@ -38,7 +38,7 @@ pub fn code_length_at(payload: &[u8], at: usize) -> Counted
     }
     let left = len - at;
     let first = payload[at];
-    if first != EXTENDS {
+    if first != EXT1 {
         return whole(wide(length_by(false, first)), left);
     }
     if left == 1 {

@@ -530,12 +530,13 @@ pub fn lengths() -> [[u8; 256]; 2]
 }
 
 // The length that a byte tells, as the first of a code or as the one behind 0x10; 0 for none [K1] [K2].
-pub fn length_by(extended: bool, byte: u8) -> u8
-    ensures { λ r. ⌜ r ≡ lengthBy extended byte ⌝ }
+pub fn length_by(ext1: bool, byte: u8) -> u8
+    ensures { λ r. ⌜ r ≡ lengthBy ext1 byte ⌝ }
 {
+    let table = lengths();
     let b = byte as usize;
-    if extended {
-        return LENGTHS[1][b];
+    if ext1 {
+        return table[1][b];
     }
-    LENGTHS[0][b]
+    table[0][b]
 }

@@ -1,7 +1,7 @@
 -- Reasoning by cases on a test and on an outcome. Assumes nothing.
 use mathlib.Core.Path.{_≡_, refl, ap, subst}
 use mathlib.Core.Bool.{Bool, true, false, cond, _&&_, false≢true}
-use Rattle.model.specs.Said.{Said, Outcome, gave, refused, andThen, mapped}
+use Rattle.model.specs.Said.{Said, Outcome, gave, refused, isGiven, andThen, mapped}
 
 -- what holds under either outcome of a test holds
 pub by-test : {P : Type 0} (b : Bool) → (b ≡ true → P) → (b ≡ false → P) → P
@@ -41,6 +41,15 @@ module _ {A B : Type 0} where
 -- an outcome that gives x
 pub gives-at : {A : Type 0} (P : A → Type 0) {x : A} (o : Outcome A) → o ≡ gave x → Gives P o → P x
 gives-at P o e g = subst (Gives P) e g
+
+-- a call that gives something, and what that is
+pub given-is : {A : Type 0} (o : Outcome A) → isGiven o ≡ true → (x : A) × (o ≡ gave x)
+given-is (gave x) e = (x, refl)
+given-is (refused why) e = absurd (false≢true e)
+
+-- a refusal: its number is not that of what is accepted
+abbrev pub NotAccepted : Said → Type 0
+NotAccepted why = why .number ≡ 0 → ⊥
 
 -- P holds of what an outcome is refused with, if it is refused
 abbrev pub Refuses : {A : Type 0} → (Said → Type 0) → Outcome A → Type 0

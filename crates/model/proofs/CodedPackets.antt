@@ -14,11 +14,11 @@ use Rattle.model.specs.Said.{Said, Outcome, gave, refused, isGiven, andT
 use Rattle.model.specs.Block.{Block, blockLength, blockRoom, withRun}
 use Rattle.model.specs.Packet.{Packet, packetRoom, latest, noBlock, blockAt, pushBlock, pushNew, pushAt, pushRunAt, pushRunBy}
 use Rattle.model.specs.Codes.{codesOf, codesOfEach, codesOfBlocks, pushCodesBy}
-use Rattle.model.proofs.Cases.{by-test, by-cond, both, and-both, Gives, Refuses, refuses-then, refuses-mapped}
+use Rattle.model.proofs.Cases.{by-test, by-cond, both, and-both, Gives, given-is, NotAccepted, Refuses, refuses-then, refuses-mapped}
 use Rattle.model.proofs.Lists.{every-append, every-set, every-at}
 use Rattle.model.proofs.Packets.{Valid}
 use Rattle.model.proofs.Pushing.{latest-within, run-valid}
-use Rattle.model.proofs.Codes.{Numbered, codes-none, codes-joined, codes-numbered}
+use Rattle.model.proofs.Codes.{codes-none, codes-joined, codes-numbered}
 
 -- whether the payload of a block is cut without remainder
 abbrev pub isCut : Block → Bool
@@ -43,11 +43,6 @@ pub blocks-exactly : (bs : List Block) → isGiven (codesOfBlocks bs) ≡ every 
 unfolding codesOfEach every
 blocks-exactly [] = refl
 blocks-exactly (b ∷ bs) = then-given (codesOf (b .payload)) (λ cs css. cs ∷ css) (codesOfBlocks bs) ∙ ap (λ t. isCut b && t) (blocks-exactly bs)
-
--- what an outcome that gives is
-given-is : {A : Type 0} (o : Outcome A) → isGiven o ≡ true → (x : A) × (o ≡ gave x)
-given-is (gave x) e = (x, refl)
-given-is (refused why) e = let z : _≡_ {A = ℕ} 0 1 = cc in absurd (omega arith)
 
 -- The first block that is refused tells the refusal [K6].
 pub blocks-first : (front : List Block) (b : Block) (behind : List Block) (why : Said) → every isCut front ≡ true → codesOf (b .payload) ≡ refused why
@@ -143,7 +138,7 @@ codes-valid p v needsRoom n run = by (codesOf run) refl
     by (refused why) e = rw (refused-pushed needsRoom n run p why e) (by-cond (Gives Valid) (ltb 63 n) (λ _. tt) (λ _. tt))
 
 -- no refusal of several payloads has the number of what is accepted
-pub each-numbered : (ds : List (List ℕ)) → Refuses Numbered (codesOfEach ds)
+pub each-numbered : (ds : List (List ℕ)) → Refuses NotAccepted (codesOfEach ds)
 unfolding codesOfEach
 each-numbered [] = tt
-each-numbered (d ∷ ds) = refuses-then Numbered (codesOf d) _ (codes-numbered d) (λ cs. refuses-mapped Numbered _ (codesOfEach ds) (each-numbered ds))
+each-numbered (d ∷ ds) = refuses-then NotAccepted (codesOf d) _ (codes-numbered d) (λ cs. refuses-mapped NotAccepted _ (codesOfEach ds) (each-numbered ds))

@@ -11,8 +11,8 @@ use lib.Seq.{drop-nil, drop-at, take-at, getD-take, length-take-le}
 use borrow.Author.Tests.{eq-eqb, ne-eqb, eqb-true, eqb-false, lt-leb, leb-true, leb-false, lt-ltb, le-ltb, ltb-true, ltb-false}
 use Rattle.model.specs.Lists.{every}
 use Rattle.model.specs.Said.{Said, Outcome, gave, refused, mapped, unknownLength, codeCutShort}
-use Rattle.model.specs.Codes.{Range, firstRanges, extendedRanges, within, tabled, toldIn, lengthBy, isExtended, tellingPlace, toldLength, isUntold, codeIn, codesFrom, codesOf, isCode}
-use Rattle.model.proofs.Cases.{by-test, by-cond, both, and-both, Gives, gives-at, Refuses, refuses-weaker, mapped-mapped, mapped-same}
+use Rattle.model.specs.Codes.{Range, firstRanges, ext1Ranges, within, tabled, toldIn, lengthBy, isExt1, tellingPlace, toldLength, isUntold, codeIn, codesFrom, codesOf, isCode}
+use Rattle.model.proofs.Cases.{by-test, by-cond, both, and-both, Gives, gives-at, NotAccepted, Refuses, refuses-weaker, mapped-mapped, mapped-same}
 
 -- how many of the ranges a byte is in
 unfoldable pub heldIn : List Range → ℕ → ℕ
@@ -20,8 +20,8 @@ heldIn [] b = 0
 heldIn (r ∷ rs) b = cond (within r b) (1 + heldIn rs b) (heldIn rs b)
 
 -- Each byte is in one of the ranges and in no other, as the first of a code and as the one behind 0x10: all 512 in one equation.
-pub each-once : tabled (heldIn firstRanges) 0 256 ++ tabled (heldIn extendedRanges) 0 256 ≡ replicate 512 1
-unfolding tabled heldIn firstRanges extendedRanges
+pub each-once : tabled (heldIn firstRanges) 0 256 ++ tabled (heldIn ext1Ranges) 0 256 ≡ replicate 512 1
+unfolding tabled heldIn firstRanges ext1Ranges
 each-once = refl
 
 -- an entry of a table that a rule has made
@@ -48,9 +48,9 @@ none-or-two (r ∷ rs) b h =
 
 -- so the byte behind 0x10 tells a code that it is a part of, or none
 extended-two : (b : ℕ) → 1 ≤ lengthBy true b → 2 ≤ lengthBy true b
-unfolding extendedRanges every
+unfolding ext1Ranges every
 extended-two b h =
-    let t = none-or-two extendedRanges b refl in
+    let t = none-or-two ext1Ranges b refl in
     let n : ℕ = lengthBy true b in
     leb-true 2 n (sym (rw (ne-eqb n 0 (λ z. omega arith))) ∙ t)
 
@@ -67,7 +67,7 @@ pub data Fault (d : List ℕ) : Said → Type 0 where
   untold : isUntold d ≡ true → Fault d codeCutShort
   short : isUntold d ≡ false → length d < toldLength d → Fault d codeCutShort
 
--- the first
+-- what is given is such a code,
 given-coded : (d : List ℕ) → Gives (Coded d) (codeIn d)
 unfolding codeIn
 given-coded d =
@@ -85,7 +85,7 @@ coded-given d k c =
     let e = c .is in
     rw (c .told, e, ne-eqb k 0 (λ z. omega (arith, c .some)), le-ltb (length d) k (c .fits))
 
--- and else the second
+-- and what is refused has such a fault
 refused-fault : (d : List ℕ) → Refuses (Fault d) (codeIn d)
 unfolding codeIn
 refused-fault d =
@@ -103,15 +103,12 @@ fault-refused d _ (untold u) = rw u
 fault-refused d _ (short u l) = rw (u, ne-eqb (toldLength d) 0 (λ z. omega arith), lt-ltb _ _ l)
 
 -- neither of the two refusals has the number of what is accepted
-abbrev pub Numbered : Said → Type 0
-Numbered why = why .number ≡ 0 → ⊥
-
-fault-numbered : (d : List ℕ) (why : Said) → Fault d why → Numbered why
+fault-numbered : (d : List ℕ) (why : Said) → Fault d why → NotAccepted why
 fault-numbered d _ (unknown u z) n = omega arith
 fault-numbered d _ (untold u) n = omega arith
 fault-numbered d _ (short u l) n = omega arith
 
-pub code-numbered : (d : List ℕ) → Refuses Numbered (codeIn d)
+pub code-numbered : (d : List ℕ) → Refuses NotAccepted (codeIn d)
 code-numbered d = refuses-weaker (fault-numbered d) (codeIn d) (refused-fault d)
 
 -- a whole code tells its own length, whatever follows it
@@ -128,7 +125,7 @@ module _ (c : List ℕ) (code : isCode c ≡ true) where
   code-some = omega (arith, told-there)
 
   module _ (rest : List ℕ) where
-    same-mark : isExtended (c ++ rest) ≡ isExtended c
+    same-mark : isExt1 (c ++ rest) ≡ isExt1 c
     same-mark = rw (List·getD-append c rest 0 0 code-some)
 
     same-length : toldLength (c ++ rest) ≡ length c
@@ -151,11 +148,11 @@ module _ (d : List ℕ) (k : ℕ) (c : Coded d k) where
   place-within : tellingPlace d < k
   unfolding toldLength
   place-within =
-      by-cond (λ n. n < k) (isExtended d)
+      by-cond (λ n. n < k) (isExt1 d)
       (λ e. let t : lengthBy true (getD d 1 0) ≡ k = sym (rw e) ∙ c .is in omega (arith, extended-two (getD d 1 0) (omega (arith, c .some))))
       (λ _. c .some)
 
-  taken-mark : isExtended (take k d) ≡ isExtended d
+  taken-mark : isExt1 (take k d) ≡ isExt1 d
   taken-mark = rw (getD-take k d 0 0 (c .some))
 
   taken-length : length (take k d) ≡ k
@@ -333,9 +330,9 @@ codes-joined d e cs ds p q =
     rw (← c .bytes) (codes-then cs e (c .codes) ∙ rw q)
 
 -- no payload is refused with what is accepted
-pub codes-numbered : (d : List ℕ) → Refuses Numbered (codesOf d)
+pub codes-numbered : (d : List ℕ) → Refuses NotAccepted (codesOf d)
 codes-numbered d = by (codesOf d) refl
   where
-    by : (o : Outcome (List (List ℕ))) → codesOf d ≡ o → Refuses Numbered o
+    by : (o : Outcome (List (List ℕ))) → codesOf d ≡ o → Refuses NotAccepted o
     by (gave cs) e = tt
     by (refused why) e = let s = refused-stuck d why e in fault-numbered (s .rest) why (s .fault)

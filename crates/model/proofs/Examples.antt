@@ -9,7 +9,7 @@ use Rattle.model.specs.Said.{Said, Outcome, gave, refused, andThen, mapp
 use Rattle.model.specs.Block.{Block, headerLength, numberIn, isHeaderShort, needed, isShort, blockIn, shortAt, readBlockAt, readBlock, writtenHeader, writtenBlock, blockLength}
 use Rattle.model.specs.Packet.{Packet, sequenceIn, packetSize, plainMove, tidyMove, isNullHeader, blocksFrom, readBy, readPacket, reads, readTidy, blocksLength, packetLength, writtenBlocks, packetHeader, fill, writtenPacket}
 use Rattle.model.specs.Services.{among, once, bitsOf, servicesOf, distinctServices}
-use Rattle.model.specs.Codes.{firstRanges, extendedRanges, toldIn, toldLength, isUntold, codeIn, codesFrom, codesOf, codesOfEach, codesOfBlocks}
+use Rattle.model.specs.Codes.{firstRanges, ext1Ranges, toldIn, toldLength, isUntold, codeIn, codesFrom, codesOf, codesOfEach, codesOfBlocks}
 use Rattle.model.specs.Frame.{pair, Cea608, field1, field2, seen, seenAll, flat, triplesIn, flagged, frameBytes}
 use Rattle.model.specs.Demux.{turn608On, freshDemux, pairsIn, lateAfter, lateFrom, carries708, closed, packetsOf, kept, wants, gather, ended, gathered, takeGathered, takeTriples, unread, takeFrame}
 use Rattle.model.specs.Rate.{rounded, budgets, goingOn, carriedBudget, leftOver, carriedOn, carriedShare, shareBy}
@@ -163,7 +163,7 @@ unfolding table
     headerLength numberIn isHeaderShort needed isShort blockIn shortAt readBlockAt writtenHeader writtenBlock blockLength
     packetSize plainMove tidyMove isNullHeader blocksFrom readBy readPacket reads readTidy blocksLength packetLength writtenBlocks packetHeader fill writtenPacket
     among once bitsOf servicesOf distinctServices
-    firstRanges extendedRanges toldIn toldLength isUntold codeIn codesFrom codesOfEach
+    firstRanges ext1Ranges toldIn toldLength isUntold codeIn codesFrom codesOfEach
     seen seenAll flat triplesIn flagged frameBytes
     pairsIn lateAfter lateFrom carries708 closed packetsOf kept wants gather ended gathered takeGathered takeTriples unread takeFrame
     rounded budgets goingOn carriedBudget leftOver carriedOn carriedShare shareBy

@@ -9,7 +9,7 @@ use Rattle.model.specs.Said.{Said, gave, checked, putInto}
 use Rattle.model.specs.Said as said
 use Rattle.model.specs.Block.{Block, headerLength, numberIn, isHeaderShort, needed, isShort, blockIn, shortAt, readBlockAt, readBlock, newBlock, pushToBlock, writtenHeader, writtenBlock, blockLength}
 use Rattle.model.specs.Packet.{Packet, packetSize, plainMove, blocksFrom, readBy, readPacket, reads, blocksLength, packetLength, pushBlock, latestOf, pushNew, pushAt, pushRunAt, pushRunBy, pushRun, pushRunSingle}
-use Rattle.model.specs.Codes.{firstRanges, extendedRanges, toldIn, toldLength, isUntold, codeIn, codesFrom, codesOf, pushCodesBy, pushCodes}
+use Rattle.model.specs.Codes.{firstRanges, ext1Ranges, toldIn, toldLength, isUntold, codeIn, codesFrom, codesOf, pushCodesBy, pushCodes}
 use Rattle.model.specs.Frame.{pair, field1, seen, seenAll, triplesIn, flagged}
 use Rattle.model.specs.Demux.{turn608On, freshDemux, pairsIn, lateAfter, lateFrom, carries708, closed, packetsOf, kept, wants, gather, ended, gathered, takeGathered, takeTriples, unread, takeFrame}
 use Rattle.model.specs.Rate.{rounded, budgets}
@@ -62,7 +62,7 @@ full-block = refl
 
 -- a run that is no whole codes, pushed under the profile: refused with 6 before, and with its own number before 4 and 3 [K7]
 pub profile-order : map (λ (n : ℕ). said.says (pushCodes n (0x10 ∷ 0x90 ∷ run 31) bare)) (64 ∷ 0 ∷ 1 ∷ []) ≡ says 6 [] ∷ says 21 [] ∷ says 21 [] ∷ []
-unfolding firstRanges extendedRanges toldIn toldLength isUntold codeIn codesFrom pushCodesBy
+unfolding firstRanges ext1Ranges toldIn toldLength isUntold codeIn codesFrom pushCodesBy
 profile-order = refl
 
 -- Each refusal [A1], by one call that gives it.
@@ -91,6 +91,6 @@ pub refusals-told : refusals
     ≡ says 2 (3 ∷ []) ∷ says 3 (2 ∷ []) ∷ says 4 [] ∷ says 5 [] ∷ says 6 [] ∷ says 7 [] ∷ says 8 [] ∷ says 9 (3 ∷ []) ∷ says 10 [] ∷ says 11 []
     ∷ says 12 (8 ∷ 5 ∷ []) ∷ says 13 (1 ∷ 0 ∷ 0 ∷ []) ∷ says 14 (1 ∷ 0 ∷ 0 ∷ []) ∷ says 15 (3 ∷ 2 ∷ 0 ∷ []) ∷ says 21 [] ∷ says 22 [] ∷ []
 unfolding
-    refusals firstRanges extendedRanges toldIn toldLength isUntold codeIn codesFrom headerLength isHeaderShort needed isShort shortAt readBlockAt readBy readPacket packetSize seen seenAll triplesIn flagged pairsIn lateAfter lateFrom takeTriples unread takeFrame
+    refusals firstRanges ext1Ranges toldIn toldLength isUntold codeIn codesFrom headerLength isHeaderShort needed isShort shortAt readBlockAt readBy readPacket packetSize seen seenAll triplesIn flagged pairsIn lateAfter lateFrom takeTriples unread takeFrame
     pushToBlock blockLength blocksLength packetLength pushBlock newBlock rounded budgets putInto isNull queued pushPair
 refusals-told = refl

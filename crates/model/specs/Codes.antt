@@ -17,7 +17,7 @@ pub record Range : Type 0 where
 abbrev pub range : ℕ → ℕ → ℕ → Range
 range from upTo bytes = record { from = from; upTo = upTo; bytes = bytes }
 
--- By the first byte of a code [K1]. 0x10 tells no length itself: the byte behind it does.
+-- By the first byte of a code [K1]. 0x10, which the standard calls EXT1, tells no length itself: the byte behind it does.
 unfoldable pub firstRanges : List Range
 firstRanges =
     range 0x00 0x0F 1
@@ -36,9 +36,9 @@ firstRanges =
     ∷ range 0xA0 0xFF 1
     ∷ []
 
--- By the byte behind 0x10, the whole code counted [K2]; 0x90 to 0x9F tell none.
-unfoldable pub extendedRanges : List Range
-extendedRanges =
+-- By the byte behind 0x10, the whole code counted [K2]; 0x90 to 0x9F are not taken up.
+unfoldable pub ext1Ranges : List Range
+ext1Ranges =
     range 0x00 0x07 2
     ∷ range 0x08 0x0F 3
     ∷ range 0x10 0x17 4
@@ -62,7 +62,7 @@ toldIn (r ∷ rs) b = cond (within r b) (r .bytes) (toldIn rs b)
 -- The length that a byte tells, as a code's first byte or as the one behind 0x10; 0 for none [K1] [K2].
 abbrev pub lengthBy : Bool → ℕ → ℕ
 lengthBy false b = toldIn firstRanges b
-lengthBy true b = toldIn extendedRanges b
+lengthBy true b = toldIn ext1Ranges b
 
 -- what a rule says of so many numbers, the first of which is `from`
 unfoldable pub tabled : (ℕ → ℕ) → ℕ → ℕ → List ℕ
@@ -74,16 +74,16 @@ unfoldable pub lengthTable : List (List ℕ)
 lengthTable = tabled (lengthBy false) 0 256 ∷ tabled (lengthBy true) 0 256 ∷ []
 
 -- whether bytes begin with 0x10 [K2]
-abbrev pub isExtended : List ℕ → Bool
-isExtended d = eqb (getD d 0 0) 0x10
+abbrev pub isExt1 : List ℕ → Bool
+isExt1 d = eqb (getD d 0 0) 0x10
 
 -- where the byte stands that tells the length of the code at the head of bytes: first, or behind 0x10 [K1] [K2]
 abbrev pub tellingPlace : List ℕ → ℕ
-tellingPlace d = cond (isExtended d) 1 0
+tellingPlace d = cond (isExt1 d) 1 0
 
 -- the length that it tells
 unfoldable pub toldLength : List ℕ → ℕ
-toldLength d = lengthBy (isExtended d) (getD d (tellingPlace d) 0)
+toldLength d = lengthBy (isExt1 d) (getD d (tellingPlace d) 0)
 
 -- whether it is missing: the bytes end before it
 unfoldable pub isUntold : List ℕ → Bool

@@ -73,7 +73,7 @@ blockHeaderShort expected actual offset = record { number = 14; values = expecte
 abbrev pub blockBodyShort : ℕ → ℕ → ℕ → Said
 blockBodyShort expected actual offset = record { number = 15; values = expected ∷ actual ∷ offset ∷ [] }
 
--- 21: no code has the length that is asked for [R21]
+-- 21: the byte that would tell the length of a code tells none [R21]
 abbrev pub unknownLength : Said
 unknownLength = record { number = 21; values = [] }
 

@@ -16,7 +16,7 @@ use Rattle.model.specs.Packet.{Packet, readPacket, reads}
 use Rattle.model.specs.Frame.{Cea608, field1, field2, pair}
 use Rattle.model.specs.Demux as model
 use Rattle.model.specs.Demux.{Demux, closed, packetsOf}
-use Rattle.model.proofs.Cases.{by-test, both}
+use Rattle.model.proofs.Cases.{by-test, both, given-is}
 use Rattle.slots.specs.Slot.{noSlot}
 use Rattle.slots.specs.declared.Slot.{Slot}
 use Rattle.parser_lists.specs.Pairs.{placedAll, pairAt, pairsOf}
@@ -95,15 +95,10 @@ module _ (first waited n : ℕ) where
       (λ t. let z : n ≡ 0 = eqb-true _ _ t in let o : waited ≡ 1 = omega arith in rw (z, o))
       (λ t. rw (t, ne-eqb waited 1 (λ o. omega (arith, eqb-false n 0 t)))))
 
--- bytes that read are a packet
-given : (o : Outcome Packet) → isGiven o ≡ true → (q : Packet) × (o ≡ gave q)
-given (gave q) e = (q, refl)
-given (refused why) e = absurd (false≢true e)
-
 -- a slot within the limits is a packet
 pub slot-read : (s : Slot) → slotFine s ≡ true → (q : Packet) × (readPacket (slotRun s) ≡ gave q)
 unfolding slotFine reads
-slot-read s e = given _ (both (leb (s .len) 128) _ e .1)
+slot-read s e = given-is _ (both (leb (s .len) 128) _ e .1)
 
 -- drawing an item leaves the slots behind it
 module _ (p : CCDataParser) (v : Fine p) (s : Shaped p) where

@@ -11,7 +11,7 @@ use Rattle.model.specs.Lists.{every}
 use Rattle.model.specs.Said.{Outcome, gave, refused, isGiven, says, saysWith, after, checked}
 use Rattle.model.specs.Block.{Block}
 use Rattle.model.specs.Codes.{codesOf, codesOfEach, codesOfBlocks}
-use Rattle.model.proofs.Cases.{both}
+use Rattle.model.proofs.Cases.{both, given-is}
 use Rattle.model.proofs.Codes.{codes-numbered}
 use Rattle.model.proofs.CodedPackets.{isCut, allCut}
 use Rattle.caption.specs.declared.Counted.{Counted}
@@ -81,15 +81,15 @@ module _ {out after : List ℕ} {at r : ℕ} where
 
   -- the lengths of the codes of some bytes, by what was counted
   module _ (d : List ℕ) (k : Counted) (told : saidCounted k ≡ saysWith howMany (codesOf d)) where
-    pub cut-given : (n : ℕ) → k ≡ counted.Count n → Laid (givenLine (lengthsOf (cutOf d))) out at r after → Laid (cutLine d) out at r after
+    pub lengths-told : (n : ℕ) → k ≡ counted.Count n → Laid (givenLine (lengthsOf (cutOf d))) out at r after → Laid (cutLine d) out at r after
     unfolding cutLine givenLine answerLine answerText
-    cut-given n e l =
+    lengths-told n e l =
         let g = given-with howMany (n ∷ []) (codesOf d) (codes-numbered d) (sym (ap saidCounted e) ∙ told) in
         rw (g .1) (rw (g .1) at l)
 
-    pub cut-refused : (why : Refusal) → k ≡ counted.Refused why → Laid (answerLine (saidRefusal why)) out at r after → Laid (cutLine d) out at r after
+    pub lengths-refused : (why : Refusal) → k ≡ counted.Refused why → Laid (answerLine (saidRefusal why)) out at r after → Laid (cutLine d) out at r after
     unfolding cutLine
-    cut-refused why e l = rw (refused-with howMany why (codesOf d) (sym (ap saidCounted e) ∙ told)) l
+    lengths-refused why e l = rw (refused-with howMany why (codesOf d) (sym (ap saidCounted e) ∙ told)) l
 
   -- a line of the counts of several blocks, in its parts
   pub counts-parts : {m₁ m₂ : List ℕ} {p q : ℕ} (bs : List Block) → Laid (word "ok") out at p m₁ → Laid (eachText countText bs) m₁ p q m₂ → Laid (word "\n") m₂ q r after → Laid (countsLine bs) out at r after
@@ -100,16 +100,13 @@ module _ {out after : List ℕ} {at r : ℕ} where
 abbrev cutsOf : List Block → List (List (List ℕ))
 cutsOf bs = map (λ (b : Block). cutOf (b .payload)) bs
 
-all-cut : (bs : List Block) → every isCut bs ≡ true → codesOfBlocks bs ≡ gave (cutsOf bs)
+cuts-given : (bs : List Block) → every isCut bs ≡ true → codesOfBlocks bs ≡ gave (cutsOf bs)
 unfolding every codesOfEach
-all-cut [] h = refl
-all-cut (b ∷ bs) h =
+cuts-given [] h = refl
+cuts-given (b ∷ bs) h =
     let t = both (isCut b) (every isCut bs) h in
-    rw (is-given (codesOf (b .payload)) (t .0), all-cut bs (t .1))
-  where
-    is-given : (o : Outcome (List (List ℕ))) → isGiven o ≡ true → o ≡ gave (after [] o)
-    is-given (gave cs) e = refl
-    is-given (refused why) e = let z : _≡_ {A = ℕ} 0 1 = cc in absurd (omega arith)
+    let g = given-is (codesOf (b .payload)) (t .0) in
+    rw (g .1, cuts-given bs (t .1))
 
 -- the text of how many codes they have
 counts-text : (bs : List Block) → valuesText (lengthsOf (cutsOf bs)) ≡ eachText countText bs
@@ -123,7 +120,7 @@ module _ {out after : List ℕ} {at r : ℕ} (p : DTVCCPacket) (t : Answer) (tol
   unfolding countedLine countsLine blocksIn answerLine answerText
   counts-given e l =
       let f = both (validDTVCC p) (allCut (packetOf p)) (sym (packet-exactly p t told) ∙ rw e) in
-      rw (f .0, all-cut (packetOf p .blocks) (f .1), counts-text (packetOf p .blocks)) (rw (f .0) at l)
+      rw (f .0, cuts-given (packetOf p .blocks) (f .1), counts-text (packetOf p .blocks)) (rw (f .0) at l)
 
   pub counts-refused : (why : Refusal) → t ≡ answer.Refused why → Laid (answerLine (saidRefusal why)) out at r after → Laid (countedLine p) out at r after
   unfolding countedLine

@@ -5,7 +5,7 @@ use native.Mathlib.Omega.{arith}
 use borrow.Author.Needs.{needs}
 use denote.Ref.{now}
 use lib.ListN.{length, drop}
-use Rattle.codes.proofs.Runs.{checkedFrom, all-cut, one-cut, one-not}
+use Rattle.codes.proofs.Runs.{checkedFrom, all-checked, one-cut, one-not}
 use Rattle.codes.proofs.check_payloads.Statement.{statement}
 use Rattle.codes.proofs.check_payloads.Tie as tie
 
@@ -71,7 +71,7 @@ loop-again c = let l = c .before .before .before .before .before .before .before
 
 returns-2 : tie.Need-returns-2 Inv-loop μ-loop
 returns-2 c = let l = c .before .loop in let s = c .before .before .before in
-    all-cut (s .args .count) (now (s .args .sizes)) (now (s .args .payload)) (l .i) (l .at) (l .inv .4) (c .loop-test .left)
+    all-checked (s .args .count) (now (s .args .sizes)) (now (s .args .payload)) (l .i) (l .at) (l .inv .4) (c .loop-test .left)
 
 pub check-payloads-spec : {M : Type 1} → statement M
 check-payloads-spec =

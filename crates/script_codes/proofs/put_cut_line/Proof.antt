@@ -1,6 +1,6 @@
 -- What was counted decides between the line of the lengths and that of a refusal. Assumes nothing.
 use borrow.Author.Needs.{needs}
-use Rattle.script_codes.proofs.Lines.{count-given, cut-given, cut-refused}
+use Rattle.script_codes.proofs.Lines.{count-given, lengths-told, lengths-refused}
 use Rattle.script_codes.proofs.put_cut_line.Statement.{statement}
 use Rattle.script_codes.proofs.put_cut_line.Tie as tie
 
@@ -23,13 +23,13 @@ same-length : tie.Need-same-length
 same-length c = search needs
 
 returns : tie.Need-returns
-returns c = cut-given _ _ (c .before .before .before .before .before .before .before .code-count .ensures) _ (c .before .before .before .before .before .n .given .1) (c .before .before .put-lengths-line .ensures)
+returns c = lengths-told _ _ (c .before .before .before .before .before .before .before .code-count .ensures) _ (c .before .before .before .before .before .n .given .1) (c .before .before .put-lengths-line .ensures)
 
 same-length-2 : tie.Need-same-length-2
 same-length-2 c = search needs
 
 returns-2 : tie.Need-returns-2
-returns-2 c = cut-refused _ _ (c .before .before .before .before .before .before .before .code-count .ensures) _ (c .before .before .before .before .before .why .given .1) (c .before .before .put-refusal-line .ensures)
+returns-2 c = lengths-refused _ _ (c .before .before .before .before .before .before .before .code-count .ensures) _ (c .before .before .before .before .before .why .given .1) (c .before .before .put-refusal-line .ensures)
 
 pub put-cut-line-spec : {M : Type 1} → statement M
 put-cut-line-spec =
