@@ -55,12 +55,6 @@ fn read_one(frame: &[u8; 95], n: usize) -> Item {
     drawn.item
 }
 
-// What the profile that knows how long codes are answers to a run for service 1.
-fn push_whole(run: &[u8]) -> Answer {
-    let pushed = codes::push_codes(one_block(), 1, run);
-    pushed.answer
-}
-
 // How many bytes there are, and none where the call was refused.
 fn bytes_of(counted: Counted) -> usize {
     match counted {
@@ -104,7 +98,7 @@ fn main() {
     let second = bytes_of(write_pairs(&mut frame, true));
     tell(read_one(&frame, second));
     io::write_all(STDOUT_FILENO, b"a code of three bytes: ");
-    tell_run(push_whole(b"\x92\x01\x02"));
+    tell_run(codes::check_run(b"\x92\x01\x02"));
     io::write_all(STDOUT_FILENO, b"its first two: ");
-    tell_run(push_whole(b"\x92\x01"));
+    tell_run(codes::check_run(b"\x92\x01"));
 }
