@@ -95,65 +95,65 @@ first-refused p r told v front behind b is cut why e =
     saidAnswer-injective r (Refused why) (told ∙ rw (v, is, blocks-first front b behind (saidRefusal why) cut e))
 
 -- a packet within the limits, in its places, each of whose blocks is cut
-pub record Whole (p : DTVCCPacket) : Type 0 where
+pub record Profiled (p : DTVCCPacket) : Type 0 where
   pub places : Places p
   pub valid : validDTVCC p ≡ true
   pub cut : allCut (packetOf p) ≡ true
 
 -- is what the profile accepts
-pub whole-accepted : (p : DTVCCPacket) → Whole p → (r : Answer) → CheckPacket p r → r ≡ Accepted
-whole-accepted p w r told = is-accepted r (packet-exactly p r told ∙ rw (w .valid, w .cut))
+pub profiled-accepted : (p : DTVCCPacket) → Profiled p → (r : Answer) → CheckPacket p r → r ≡ Accepted
+profiled-accepted p w r told = is-accepted r (packet-exactly p r told ∙ rw (w .valid, w .cut))
   where
     is-accepted : (a : Answer) → accepts a ≡ true → a ≡ Accepted
     is-accepted Accepted e = refl
     is-accepted (Refused why) e = let z : _≡_ {A = ℕ} 0 1 = cc in absurd (omega arith)
 
 -- and of arrays of the lengths that their types give them nothing else is
-pub accepted-whole : (p : DTVCCPacket) → Places p → (r : Answer) → CheckPacket p r → r ≡ Accepted → Whole p
-accepted-whole p places r told e =
+pub accepted-profiled : (p : DTVCCPacket) → Places p → (r : Answer) → CheckPacket p r → r ≡ Accepted → Profiled p
+accepted-profiled p places r told e =
     let t = both (validDTVCC p) (allCut (packetOf p)) (sym (packet-exactly p r told) ∙ rw e) in
     record { places = places; valid = t .0; cut = t .1 }
 
 -- what a push leaves of one: what it gives, laid over the places, or the packet as it was
-left-whole : (p : DTVCCPacket) → Whole p → (o : Outcome Packet) → Gives Valid o → Gives (λ q. allCut q ≡ true) o → (r : PacketAnswer) → Answers o p r → Whole (r .packet)
-left-whole p w (gave q) v c r a =
+left-profiled : (p : DTVCCPacket) → Profiled p → (o : Outcome Packet) → Gives Valid o → Gives (λ q. allCut q ≡ true) o → (r : PacketAnswer) → Answers o p r → Profiled (r .packet)
+left-profiled p w (gave q) v c r a =
     let l = laid-over p (w .places) q v in
     rw (a .places) (record { places = l .places; valid = l .valid; cut = ap allCut (l .holds) ∙ c })
-left-whole p w (refused why) v c r a = rw (a .places) w
+left-profiled p w (refused why) v c r a = rw (a .places) w
 
 -- a run pushed under the profile, in either form
 pub data PushesRun (p : DTVCCPacket) (r : PacketAnswer) : Type 0 where
   by-codes : (κs : Lfts 1) (n : ℕ) (run : Lent) → PushCodes κs p n run r → PushesRun p r
   into-single : (κs : Lfts 1) (n : ℕ) (run : Lent) → PushCodesSingle κs p n run r → PushesRun p r
 
-module _ (p : DTVCCPacket) (w : Whole p) where
+module _ (p : DTVCCPacket) (w : Profiled p) where
   held : Valid (packetOf p)
   held = held-valid p (within-facts p (w .valid))
 
-  run-left : (needsRoom : Bool) (n : ℕ) (run : List ℕ) (r : PacketAnswer) → Answers (checked (validDTVCC p) (pushCodesBy needsRoom n run (packetOf p))) p r → Whole (r .packet)
+  run-left : (needsRoom : Bool) (n : ℕ) (run : List ℕ) (r : PacketAnswer) → Answers (checked (validDTVCC p) (pushCodesBy needsRoom n run (packetOf p))) p r → Profiled (r .packet)
   run-left needsRoom n run r a =
-      left-whole p w (pushCodesBy needsRoom n run (packetOf p)) (codes-valid (packetOf p) held needsRoom n run) (codes-kept (packetOf p) (w .cut) needsRoom n run) r (rw (w .valid) at a)
+      left-profiled p w (pushCodesBy needsRoom n run (packetOf p)) (codes-valid (packetOf p) held needsRoom n run) (codes-kept (packetOf p) (w .cut) needsRoom n run) r (rw (w .valid) at a)
 
   -- such a push, accepted or refused, leaves what the profile accepts
-  runs-left : (r : PacketAnswer) → PushesRun p r → Whole (r .packet)
+  runs-left : (r : PacketAnswer) → PushesRun p r → Profiled (r .packet)
   runs-left r (by-codes κs n run a) = run-left true n (now run) r a
   runs-left r (into-single κs n run a) = run-left false n (now run) r a
 
   -- and so does one of a block that the profile accepts
-  block-left : (s : Service) (t : Answer) → CheckService s t → t ≡ Accepted → (r : PacketAnswer) → PushService p s r → Whole (r .packet)
+  block-left : (s : Service) (t : Answer) → CheckService s t → t ≡ Accepted → (r : PacketAnswer) → PushService p s r → Profiled (r .packet)
   unfolding validService
   block-left s t told e r a =
       let f = both (validService s) (isCut (blockOf s)) (sym (block-exactly s t told) ∙ rw e) in
-      left-whole p w (pushBlock (blockOf s) (packetOf p)) (block-valid (packetOf p) held (blockOf s) (both (leb (s .len) 31) (validBlock (blockOf s)) (f .0) .1))
+      left-profiled p w (pushBlock (blockOf s) (packetOf p)) (block-valid (packetOf p) held (blockOf s) (both (leb (s .len) 31) (validBlock (blockOf s)) (f .0) .1))
       (coded.block-kept (packetOf p) (w .cut) (blockOf s) (f .1)) r (rw (w .valid, f .0) at a)
 
 -- A packet that the profile accepts is accepted after every push of a run under it, in either form, and after that of a block that it accepts [K7].
 module _ (p : DTVCCPacket) (places : Places p) (q : Answer) (told : CheckPacket p q) (e : q ≡ Accepted) (r : PacketAnswer) (t : Answer) (then : CheckPacket (r .packet) t) where
   pub run-kept : PushesRun p r → t ≡ Accepted
-  run-kept a = whole-accepted (r .packet) (runs-left p (accepted-whole p places q told e) r a) t then
+  run-kept a = profiled-accepted (r .packet) (runs-left p (accepted-profiled p places q told e) r a) t then
 
   pub block-kept : (s : Service) (u : Answer) → CheckService s u → u ≡ Accepted → PushService p s r → t ≡ Accepted
-  block-kept s u told-s f a = whole-accepted (r .packet) (block-left p (accepted-whole p places q told e) s u told-s f r a) t then
+  block-kept s u told-s f a = profiled-accepted (r .packet) (block-left p (accepted-profiled p places q told e) s u told-s f r a) t then
 
 -- a packet made by `new` and such pushes
 pub data Built : DTVCCPacket → Type 0 where
@@ -162,21 +162,21 @@ pub data Built : DTVCCPacket → Type 0 where
   with-block : (p : DTVCCPacket) (s : Service) (t : Answer) (r : PacketAnswer) → Built p → CheckService s t → t ≡ Accepted → PushService p s r → Built (r .packet)
 
 -- nothing stands in a blank one
-blank-whole : Whole blank
+blank-profiled : Profiled blank
 unfolding every blocksHeld
-blank-whole = record { places = blank-places; valid = blank-valid; cut = refl }
+blank-profiled = record { places = blank-places; valid = blank-valid; cut = refl }
 
-new-whole : (q : ℕ) (r : PacketAnswer) → NewPacket q r → Whole (r .packet)
+new-profiled : (q : ℕ) (r : PacketAnswer) → NewPacket q r → Profiled (r .packet)
 unfolding newPacket every
-new-whole q r a =
-    left-whole blank blank-whole (newPacket q) (by-cond (Gives Valid) (ltb 3 q) (λ _. tt) (λ e. new-valid q (ltb-false 3 q e)))
+new-profiled q r a =
+    left-profiled blank blank-profiled (newPacket q) (by-cond (Gives Valid) (ltb 3 q) (λ _. tt) (λ e. new-valid q (ltb-false 3 q e)))
     (by-cond (Gives (λ x. allCut x ≡ true)) (ltb 3 q) (λ _. tt) (λ _. refl)) r a
 
-built-whole : (p : DTVCCPacket) → Built p → Whole p
-built-whole _ (begun q r a) = new-whole q r a
-built-whole _ (with-run p r b a) = runs-left p (built-whole p b) r a
-built-whole _ (with-block p s t r b told e a) = block-left p (built-whole p b) s t told e r a
+built-profiled : (p : DTVCCPacket) → Built p → Profiled p
+built-profiled _ (begun q r a) = new-profiled q r a
+built-profiled _ (with-run p r b a) = runs-left p (built-profiled p b) r a
+built-profiled _ (with-block p s t r b told e a) = block-left p (built-profiled p b) s t told e r a
 
 -- is accepted at any time, whatever was refused on the way: its blocks are cut only between codes.
 pub built-accepted : (p : DTVCCPacket) → Built p → (r : Answer) → CheckPacket p r → r ≡ Accepted
-built-accepted p b r told = whole-accepted p (built-whole p b) r told
+built-accepted p b r told = profiled-accepted p (built-profiled p b) r told

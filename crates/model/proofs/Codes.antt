@@ -11,13 +11,13 @@ use lib.Seq.{drop-nil, drop-at, take-at, getD-take, length-take-le}
 use borrow.Author.Tests.{eq-eqb, ne-eqb, eqb-true, eqb-false, lt-leb, leb-true, leb-false, lt-ltb, le-ltb, ltb-true, ltb-false}
 use Rattle.model.specs.Lists.{every}
 use Rattle.model.specs.Said.{Said, Outcome, gave, refused, mapped, unknownLength, codeCutShort}
-use Rattle.model.specs.Codes.{Range, firstRanges, ext1Ranges, within, tabled, toldIn, lengthBy, isExt1, tellingPlace, toldLength, isUntold, codeIn, codesFrom, codesOf, isCode}
+use Rattle.model.specs.Codes.{Range, firstRanges, ext1Ranges, inRange, tabled, toldIn, lengthBy, isExt1, tellingPlace, toldLength, isUntold, codeIn, codesFrom, codesOf, isCode}
 use Rattle.model.proofs.Cases.{by-test, by-cond, both, and-both, Gives, gives-at, NotAccepted, Refuses, refuses-weaker, mapped-mapped, mapped-same}
 
 -- how many of the ranges a byte is in
 unfoldable pub heldIn : List Range → ℕ → ℕ
 heldIn [] b = 0
-heldIn (r ∷ rs) b = cond (within r b) (1 + heldIn rs b) (heldIn rs b)
+heldIn (r ∷ rs) b = cond (inRange r b) (1 + heldIn rs b) (heldIn rs b)
 
 -- Each byte is in one of the ranges and in no other, as the first of a code and as the one behind 0x10: all 512 in one equation.
 pub each-once : tabled (heldIn firstRanges) 0 256 ++ tabled (heldIn ext1Ranges) 0 256 ≡ replicate 512 1
@@ -44,12 +44,12 @@ unfolding every toldIn
 none-or-two [] b h = refl
 none-or-two (r ∷ rs) b h =
     let t = both (noneOrTwo (r .bytes)) (every (λ q. noneOrTwo (q .bytes)) rs) h in
-    by-cond (λ n. noneOrTwo n ≡ true) (within r b) (λ _. t .0) (λ _. none-or-two rs b (t .1))
+    by-cond (λ n. noneOrTwo n ≡ true) (inRange r b) (λ _. t .0) (λ _. none-or-two rs b (t .1))
 
 -- so the byte behind 0x10 tells a code that it is a part of, or none
-extended-two : (b : ℕ) → 1 ≤ lengthBy true b → 2 ≤ lengthBy true b
+ext1-two : (b : ℕ) → 1 ≤ lengthBy true b → 2 ≤ lengthBy true b
 unfolding ext1Ranges every
-extended-two b h =
+ext1-two b h =
     let t = none-or-two ext1Ranges b refl in
     let n : ℕ = lengthBy true b in
     leb-true 2 n (sym (rw (ne-eqb n 0 (λ z. omega arith))) ∙ t)
@@ -149,7 +149,7 @@ module _ (d : List ℕ) (k : ℕ) (c : Coded d k) where
   unfolding toldLength
   place-within =
       by-cond (λ n. n < k) (isExt1 d)
-      (λ e. let t : lengthBy true (getD d 1 0) ≡ k = sym (rw e) ∙ c .is in omega (arith, extended-two (getD d 1 0) (omega (arith, c .some))))
+      (λ e. let t : lengthBy true (getD d 1 0) ≡ k = sym (rw e) ∙ c .is in omega (arith, ext1-two (getD d 1 0) (omega (arith, c .some))))
       (λ _. c .some)
 
   taken-mark : isExt1 (take k d) ≡ isExt1 d

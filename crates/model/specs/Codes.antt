@@ -51,13 +51,13 @@ ext1Ranges =
     ∷ []
 
 -- whether a byte is in a range
-abbrev pub within : Range → ℕ → Bool
-within r b = leb (r .from) b && leb b (r .upTo)
+abbrev pub inRange : Range → ℕ → Bool
+inRange r b = leb (r .from) b && leb b (r .upTo)
 
 -- what the range tells that a byte is in; 0 where it is in none
 unfoldable pub toldIn : List Range → ℕ → ℕ
 toldIn [] b = 0
-toldIn (r ∷ rs) b = cond (within r b) (r .bytes) (toldIn rs b)
+toldIn (r ∷ rs) b = cond (inRange r b) (r .bytes) (toldIn rs b)
 
 -- The length that a byte tells, as a code's first byte or as the one behind 0x10; 0 for none [K1] [K2].
 abbrev pub lengthBy : Bool → ℕ → ℕ
