@@ -8,7 +8,7 @@ use native.Mathlib.Omega.{arith}
 use lib.ListN.{length, getD, take, drop}
 use lib.Seq.{take-all}
 use Rattle.model.specs.Lists.{every}
-use Rattle.model.specs.Said.{Outcome, gave, refused, isGiven, says, saysWith, after, checked}
+use Rattle.model.specs.Said.{gave, says, saysWith, after, checked}
 use Rattle.model.specs.Block.{Block}
 use Rattle.model.specs.Codes.{codesOf, codesOfEach, codesOfBlocks}
 use Rattle.model.proofs.Cases.{both, given-is}
