@@ -176,7 +176,9 @@ pub codes-next : (d : List ℕ) (k : ℕ) → codeIn d ≡ gave k → codesOf d 
 unfolding codesFrom
 codes-next [] k e = let c = coded [] k e in absurd (omega (arith, c .some, c .fits))
 codes-next (x ∷ d) zero e = absurd (omega (arith, coded (x ∷ d) 0 e .some))
-codes-next (x ∷ d) (suc k) e = let one : suc k - 1 ≡ k = omega arith in rw (e, one, codes-after k d)
+codes-next (x ∷ d) (suc k) e =
+    let behind : codesFrom (suc k - 1) d ≡ codesOf (drop k d) = let one : suc k - 1 ≡ k = omega arith in rw one (codes-after k d) in
+    rw e (ap (mapped (λ cs. take (suc k) (x ∷ d) ∷ cs)) behind)
 
 -- or a refusal of the code at the head, which is that of all
 pub codes-refused : (d : List ℕ) (why : Said) → 1 ≤ length d → codeIn d ≡ refused why → codesOf d ≡ refused why
