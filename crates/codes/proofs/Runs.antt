@@ -22,6 +22,8 @@ use Rattle.caption.specs.declared.Answer.the-variants as answer
 use Rattle.caption.specs.declared.Refusal.{Refusal}
 use Rattle.caption.specs.Answers.{saidRefusal, saidAnswer, saidCounted}
 use Rattle.caption.proofs.Answers.{refused-with, given-with}
+use Rattle.service.specs.declared.Service.{Service}
+use Rattle.service.specs.Service.{blockOf}
 use Rattle.packet_entries.specs.Fields.{blocksHeld}
 use Rattle.packet.specs.declared.DTVCCPacket.{DTVCCPacket}
 use Rattle.packet.specs.declared.PacketAnswer.{PacketAnswer}
@@ -44,6 +46,10 @@ module _ (d : List ℕ) (r : Answer) (told : saidAnswer r ≡ says (codesOf d)) 
 
   pub is-not : (why : Refusal) → r ≡ answer.Refused why → codesOf d ≡ refused (saidRefusal why)
   is-not why e = refused-with (λ _. []) why (codesOf d) (sym (ap saidAnswer e) ∙ told)
+
+-- the payload of a block, which is a part of its places
+pub block-part : (s : Service) (said : Said) → said ≡ says (codesOf (take (s .len - 0) (drop 0 (s .payload)))) → said ≡ says (codesOf (blockOf s .payload))
+block-part s said h = let none : s .len - 0 ≡ s .len = omega arith in rw none at h
 
 -- 11 where a limit is broken, and else what is told
 module _ {A : Type 0} (o : Outcome A) (valid v : Bool) (is : v ≡ valid) where

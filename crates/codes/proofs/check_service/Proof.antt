@@ -7,7 +7,7 @@ use borrow.Author.Needs.{needs}
 use lib.ListN.{length}
 use Rattle.service.specs.Service.{validService}
 use Rattle.service.proofs.Services.{valid-len}
-use Rattle.codes.proofs.Runs.{broken, unbroken}
+use Rattle.codes.proofs.Runs.{broken, unbroken, block-part}
 use Rattle.codes.proofs.check_service.Statement.{statement}
 use Rattle.codes.proofs.check_service.Tie as tie
 
@@ -39,9 +39,9 @@ check-run-requires : tie.Need-check-run-requires
 check-run-requires c κs = search needs
 
 returns-2 : tie.Need-returns-2
-returns-2 c = let s = c .before .before .before .before .before .before .args .service in
-    let none : s .len - 0 ≡ s .len = omega arith in
-    unbroken _ (validService s) _ (c .before .before .before .before .is-valid .ensures) _ (not-false _ (c .before .before .before .if1 .left)) (rw none at (c .check-run .ensures))
+returns-2 c =
+    let s = c .before .before .before .before .before .before .args .service in
+    unbroken _ (validService s) _ (c .before .before .before .before .is-valid .ensures) _ (not-false _ (c .before .before .before .if1 .left)) (block-part s _ (c .check-run .ensures))
 
 pub check-service-spec : {M : Type 1} → statement M
 check-service-spec =
