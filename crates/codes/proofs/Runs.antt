@@ -93,7 +93,7 @@ module _ (needsRoom valid : Bool) (n : ℕ) (run : List ℕ) (p : DTVCCPacket) (
 pub held-payloads : (k : ℕ) (ns ss d : List ℕ) → map (λ (b : Block). b .payload) (blocksHeld k ns ss d) ≡ payloadsHeld k ss d
 unfolding blocksHeld payloadsHeld
 held-payloads zero ns ss d = refl
-held-payloads (suc k) ns ss d = rw (held-payloads k (drop 1 ns) (drop 1 ss) (drop (getD ss 0 0) d))
+held-payloads (suc k) ns ss d = ap (λ (ps : List (List ℕ)). take (getD ss 0 0) d ∷ ps) (held-payloads k (drop 1 ns) (drop 1 ss) (drop (getD ss 0 0) d))
 
 -- what is left to be checked
 abbrev pub checkedFrom : ℕ → List ℕ → List ℕ → Said
@@ -101,7 +101,7 @@ checkedFrom k ss d = says (codesOfEach (payloadsHeld k ss d))
 
 -- one of them, that is cut
 pub each-next : (k : ℕ) (ss d : List ℕ) → 1 ≤ k → (cs : List (List ℕ)) → codesOf (take (getD ss 0 0) d) ≡ gave cs → checkedFrom k ss d ≡ checkedFrom (k - 1) (drop 1 ss) (drop (getD ss 0 0) d)
-unfolding payloadsHeld codesOfEach
+unfolding payloadsHeld blocksHeld codesOfEach
 each-next zero ss d h cs e = absurd (omega arith)
 each-next (suc k) ss d h cs e = let one : suc k - 1 ≡ k = omega arith in rw (e, one) (mapped-says (codesOfEach (payloadsHeld k (drop 1 ss) (drop (getD ss 0 0) d))))
   where
@@ -111,7 +111,7 @@ each-next (suc k) ss d h cs e = let one : suc k - 1 ≡ k = omega arith in rw (e
 
 -- or refused
 pub each-refused : (k : ℕ) (ss d : List ℕ) → 1 ≤ k → (why : Said) → codesOf (take (getD ss 0 0) d) ≡ refused why → checkedFrom k ss d ≡ why
-unfolding payloadsHeld codesOfEach
+unfolding payloadsHeld blocksHeld codesOfEach
 each-refused zero ss d h why e = absurd (omega arith)
 each-refused (suc k) ss d h why e = rw e
 
@@ -136,7 +136,7 @@ module _ (d : List ℕ) (at k end : ℕ) (is : end ≡ min (at + k) (length d)) 
 module _ (count : ℕ) (ss d : List ℕ) (i at : ℕ) (so : checkedFrom count ss d ≡ checkedFrom (count - i) (drop i ss) (drop at d)) where
   -- none is left
   pub all-checked : count ≤ i → accepted [] ≡ checkedFrom count ss d
-  unfolding payloadsHeld codesOfEach
+  unfolding payloadsHeld blocksHeld codesOfEach
   all-checked h = let z : count - i ≡ 0 = omega arith in sym (so ∙ rw z)
 
   module _ (more : i < count) (size end : ℕ) (sized : size ≡ getD ss i 0) (is : end ≡ min (at + size) (length d)) (within : at ≤ length d)
