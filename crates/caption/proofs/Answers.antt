@@ -2,18 +2,18 @@
 -- Assumes nothing.
 use mathlib.Core.Path.{_≡_, refl, sym, ap, subst, _∙_}
 use mathlib.Core.Bool.{Bool, true, false, cond, true≢false}
-use mathlib.Core.List.{List, [], _∷_, _++_}
+use mathlib.Core.List.{List, [], _∷_}
 use mathlib.Mathlib.Logic.Function.Defs.{id, Injective, LeftInverse, LeftInverse·injective}
 use Prim.Native.Nat.{ℕ, _-_}
 use lib.Dec.{eqb}
-use lib.ListN.{getD, replicate}
+use lib.ListN.{getD}
 use borrow.Author.Tests.{eq-eqb}
 use Rattle.model.specs.Said.{Said, accepted, badValue, measured}
 use Rattle.model.specs.Said as model
 use Rattle.model.proofs.Cases.{NotAccepted, Refuses}
 use Rattle.caption.specs.Answers.{saidRefusal, saidAnswer, saidCounted, saidTruth}
 use Rattle.caption.specs.declared.Refusal.{Refusal}
-use Rattle.caption.specs.declared.Refusal.the-variants.{Cea608AfterCea708, WouldOverflow, ReadOnly, EmptyService, BadNumber, BadRun, BadRate, OutShort, Full, BadValue, FrameLengthWrong, PacketLengthWrong, BlockHeaderShort, BlockBodyShort, UnknownLength, CodeCutShort}
+use Rattle.caption.specs.declared.Refusal.the-variants.{Cea608AfterCea708, WouldOverflow, ReadOnly, EmptyService, BadNumber, BadRun, BadRate, OutShort, Full, BadValue, FrameLengthWrong, PacketLengthWrong, BlockHeaderShort, BlockBodyShort, BadMark, BadSection, BadSum, CountersDiffer, NotNewer, UnknownLength, CodeCutShort}
 use Rattle.caption.specs.declared.Answer.{Answer}
 use Rattle.caption.specs.declared.Answer.the-variants as answer
 use Rattle.caption.specs.declared.Counted.{Counted}
@@ -21,7 +21,7 @@ use Rattle.caption.specs.declared.Counted.the-variants as counted
 use Rattle.caption.specs.declared.Truth.{Truth}
 use Rattle.caption.specs.declared.Truth.the-variants as truth
 
--- the table's rows from 2 on, with the values that they carry; 16 to 20 have no row
+-- the table's rows from 2 on, with the values that they carry
 abbrev refusals : List ℕ → List Refusal
 refusals v =
     Cea608AfterCea708 (getD v 0 0)
@@ -38,7 +38,14 @@ refusals v =
     ∷ PacketLengthWrong (getD v 0 0) (getD v 1 0) (getD v 2 0)
     ∷ BlockHeaderShort (getD v 0 0) (getD v 1 0) (getD v 2 0)
     ∷ BlockBodyShort (getD v 0 0) (getD v 1 0) (getD v 2 0)
-    ∷ (replicate 5 BadValue ++ (UnknownLength ∷ CodeCutShort ∷ []))
+    ∷ BadMark
+    ∷ BadSection
+    ∷ BadSum
+    ∷ CountersDiffer
+    ∷ NotNewer
+    ∷ UnknownLength
+    ∷ CodeCutShort
+    ∷ []
 
 -- Every answer that gives values or refuses is taken back from what it says in the same way.
 module _ {A : Type 0} (given : List ℕ → A) (refused : Refusal → A) where
@@ -62,6 +69,11 @@ module _ {A : Type 0} (given : List ℕ → A) (refused : Refusal → A) where
   refused-again (PacketLengthWrong expected actual offset) = refl
   refused-again (BlockHeaderShort expected actual offset) = refl
   refused-again (BlockBodyShort expected actual offset) = refl
+  refused-again BadMark = refl
+  refused-again BadSection = refl
+  refused-again BadSum = refl
+  refused-again CountersDiffer = refl
+  refused-again NotNewer = refl
   refused-again UnknownLength = refl
   refused-again CodeCutShort = refl
 

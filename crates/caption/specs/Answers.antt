@@ -1,9 +1,9 @@
 -- What the shared answers say [A1]: the number of a refusal in the table R, and the values that it carries. Assumes nothing.
 use mathlib.Core.Bool.{cond}
 use mathlib.Core.List.{[], _∷_}
-use Rattle.model.specs.Said.{Said, accepted, cea608AfterCea708, wouldOverflow, readOnly, emptyService, badNumber, badRun, badRate, outShort, full, badValue, frameLengthWrong, packetLengthWrong, blockHeaderShort, blockBodyShort, unknownLength, codeCutShort}
+use Rattle.model.specs.Said.{Said, accepted, cea608AfterCea708, wouldOverflow, readOnly, emptyService, badNumber, badRun, badRate, outShort, full, badValue, frameLengthWrong, packetLengthWrong, blockHeaderShort, blockBodyShort, badMark, badSection, badSum, countersDiffer, notNewer, unknownLength, codeCutShort}
 use Rattle.caption.specs.declared.Refusal.{Refusal}
-use Rattle.caption.specs.declared.Refusal.the-variants.{Cea608AfterCea708, WouldOverflow, ReadOnly, EmptyService, BadNumber, BadRun, BadRate, OutShort, Full, BadValue, FrameLengthWrong, PacketLengthWrong, BlockHeaderShort, BlockBodyShort, UnknownLength, CodeCutShort}
+use Rattle.caption.specs.declared.Refusal.the-variants.{Cea608AfterCea708, WouldOverflow, ReadOnly, EmptyService, BadNumber, BadRun, BadRate, OutShort, Full, BadValue, FrameLengthWrong, PacketLengthWrong, BlockHeaderShort, BlockBodyShort, BadMark, BadSection, BadSum, CountersDiffer, NotNewer, UnknownLength, CodeCutShort}
 use Rattle.caption.specs.declared.Answer.{Answer}
 use Rattle.caption.specs.declared.Answer.the-variants as answer
 use Rattle.caption.specs.declared.Counted.{Counted}
@@ -27,6 +27,11 @@ saidRefusal (FrameLengthWrong expected actual) = frameLengthWrong expected actua
 saidRefusal (PacketLengthWrong expected actual offset) = packetLengthWrong expected actual offset
 saidRefusal (BlockHeaderShort expected actual offset) = blockHeaderShort expected actual offset
 saidRefusal (BlockBodyShort expected actual offset) = blockBodyShort expected actual offset
+saidRefusal BadMark = badMark
+saidRefusal BadSection = badSection
+saidRefusal BadSum = badSum
+saidRefusal CountersDiffer = countersDiffer
+saidRefusal NotNewer = notNewer
 saidRefusal UnknownLength = unknownLength
 saidRefusal CodeCutShort = codeCutShort
 

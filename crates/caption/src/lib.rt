@@ -58,6 +58,16 @@ pub enum Refusal {
         actual: usize,
         offset: usize,
     },
+    // What is read does not begin as a distribution packet does.
+    BadMark,
+    // A length, a section or the rate of a distribution packet is wrong, or a frame that is to become one has another length than its count asks for.
+    BadSection,
+    // The sum of the bytes of a distribution packet is not 0.
+    BadSum,
+    // The two numbers of a distribution packet differ.
+    CountersDiffer,
+    // A distribution packet is not newer than the last one.
+    NotNewer,
     // The byte that would tell the length of a code tells none.
     UnknownLength,
     // The bytes end within a code.

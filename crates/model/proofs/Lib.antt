@@ -13,6 +13,7 @@ pub mod Rates
 pub mod Carrying
 pub mod Durations
 pub mod Frames
+pub mod Distribution
 pub mod Sends
 pub mod Pushing
 pub mod CodedPackets

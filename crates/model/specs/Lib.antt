@@ -8,5 +8,6 @@ pub mod Frame
 pub mod Demux
 pub mod Rate
 pub mod Mux
+pub mod Distribution
 pub mod Duration
 pub mod Run

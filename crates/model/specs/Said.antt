@@ -73,6 +73,26 @@ blockHeaderShort expected actual offset = record { number = 14; values = expecte
 abbrev pub blockBodyShort : ℕ → ℕ → ℕ → Said
 blockBodyShort expected actual offset = record { number = 15; values = expected ∷ actual ∷ offset ∷ [] }
 
+-- 16: what is read does not begin as a distribution packet does [R16]
+abbrev pub badMark : Said
+badMark = record { number = 16; values = [] }
+
+-- 17: the length, a section or the rate of a distribution packet is wrong [R17]
+abbrev pub badSection : Said
+badSection = record { number = 17; values = [] }
+
+-- 18: the sum of its bytes is wrong [R18]
+abbrev pub badSum : Said
+badSum = record { number = 18; values = [] }
+
+-- 19: its two numbers differ [R19]
+abbrev pub countersDiffer : Said
+countersDiffer = record { number = 19; values = [] }
+
+-- 20: it is not newer than the last one [R20]
+abbrev pub notNewer : Said
+notNewer = record { number = 20; values = [] }
+
 -- 21: the byte that would tell the length of a code tells none [R21]
 abbrev pub unknownLength : Said
 unknownLength = record { number = 21; values = [] }

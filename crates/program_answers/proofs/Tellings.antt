@@ -46,6 +46,11 @@ few-refusal (refusal.FrameLengthWrong e a) = omega arith
 few-refusal (refusal.PacketLengthWrong e a o) = omega arith
 few-refusal (refusal.BlockHeaderShort e a o) = omega arith
 few-refusal (refusal.BlockBodyShort e a o) = omega arith
+few-refusal refusal.BadMark = omega arith
+few-refusal refusal.BadSection = omega arith
+few-refusal refusal.BadSum = omega arith
+few-refusal refusal.CountersDiffer = omega arith
+few-refusal refusal.NotNewer = omega arith
 few-refusal refusal.UnknownLength = omega arith
 few-refusal refusal.CodeCutShort = omega arith
 

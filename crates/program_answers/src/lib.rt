@@ -74,6 +74,11 @@ pub fn tell_refusal(why: Refusal) -> Numbers
             actual,
             offset,
         } => telling(15, 3, expected, actual, offset),
+        Refusal::BadMark => bare(16),
+        Refusal::BadSection => bare(17),
+        Refusal::BadSum => bare(18),
+        Refusal::CountersDiffer => bare(19),
+        Refusal::NotNewer => bare(20),
         Refusal::UnknownLength => bare(21),
         Refusal::CodeCutShort => bare(22),
     }

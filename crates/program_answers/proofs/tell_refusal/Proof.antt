@@ -101,6 +101,36 @@ enum-told-9 c = search needs
 bare-requires-9 : tie.Need-bare-requires-9
 bare-requires-9 c κs = search needs
 
+enum-told-10 : tie.Need-enum-told-10
+enum-told-10 c = search needs
+
+bare-requires-10 : tie.Need-bare-requires-10
+bare-requires-10 c κs = search needs
+
+enum-told-11 : tie.Need-enum-told-11
+enum-told-11 c = search needs
+
+bare-requires-11 : tie.Need-bare-requires-11
+bare-requires-11 c κs = search needs
+
+enum-told-12 : tie.Need-enum-told-12
+enum-told-12 c = search needs
+
+bare-requires-12 : tie.Need-bare-requires-12
+bare-requires-12 c κs = search needs
+
+enum-told-13 : tie.Need-enum-told-13
+enum-told-13 c = search needs
+
+bare-requires-13 : tie.Need-bare-requires-13
+bare-requires-13 c κs = search needs
+
+enum-told-14 : tie.Need-enum-told-14
+enum-told-14 c = search needs
+
+bare-requires-14 : tie.Need-bare-requires-14
+bare-requires-14 c κs = search needs
+
 returns : tie.Need-returns
 returns c = search (needs, told-as saidRefusal)
 
@@ -149,6 +179,21 @@ returns-15 c = search (needs, told-as saidRefusal)
 returns-16 : tie.Need-returns-16
 returns-16 c = search (needs, told-as saidRefusal)
 
+returns-17 : tie.Need-returns-17
+returns-17 c = search (needs, told-as saidRefusal)
+
+returns-18 : tie.Need-returns-18
+returns-18 c = search (needs, told-as saidRefusal)
+
+returns-19 : tie.Need-returns-19
+returns-19 c = search (needs, told-as saidRefusal)
+
+returns-20 : tie.Need-returns-20
+returns-20 c = search (needs, told-as saidRefusal)
+
+returns-21 : tie.Need-returns-21
+returns-21 c = search (needs, told-as saidRefusal)
+
 pub tell-refusal-spec : {M : Type 1} → statement M
 tell-refusal-spec =
     tie.close
@@ -185,6 +230,16 @@ tell-refusal-spec =
     bare-requires-8
     enum-told-9
     bare-requires-9
+    enum-told-10
+    bare-requires-10
+    enum-told-11
+    bare-requires-11
+    enum-told-12
+    bare-requires-12
+    enum-told-13
+    bare-requires-13
+    enum-told-14
+    bare-requires-14
     returns
     returns-2
     returns-3
@@ -200,4 +255,9 @@ tell-refusal-spec =
     returns-13
     returns-14
     returns-15
-    returns-16)
+    returns-16
+    returns-17
+    returns-18
+    returns-19
+    returns-20
+    returns-21)
