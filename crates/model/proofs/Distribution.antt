@@ -193,6 +193,19 @@ flat-triples (h ∷ []) n e = absurd (omega arith)
 flat-triples (h ∷ a ∷ []) n e = absurd (omega arith)
 flat-triples (h ∷ a ∷ b ∷ d) n e = ap (λ (l : List ℕ). h ∷ a ∷ b ∷ l) (flat-triples d (n - 1) (omega arith))
 
+-- the triples of bytes that are in order
+module _ (s : List ℕ) (o : Ordered s) where
+  captions-length : length (take (3 * countOf s) (drop 9 s)) ≡ 3 * countOf s
+  captions-length = length-take-le (3 * countOf s) (drop 9 s) (omega (arith, length-drop 9 s, o .count))
+
+  -- they are all of the bytes between the count and the footer,
+  pub held-bytes : flat (heldIn s .triples) ≡ take (3 * countOf s) (drop 9 s)
+  held-bytes = flat-triples (take (3 * countOf s) (drop 9 s)) (countOf s) captions-length
+
+  -- and as many as the count says
+  pub held-count : length (heldIn s .triples) ≡ countOf s
+  held-count = omega (arith, flat-length (heldIn s .triples), ap length held-bytes, captions-length)
+
 -- the packet that bytes are read as, and what they have to pass for it
 record Passed (s : List ℕ) (d : Distribution) : Type 0 where
   mark : hasMark s ≡ true
@@ -235,14 +248,11 @@ module _ (s : List ℕ) (bytes : every isByte s ≡ true) (p : Passed s (heldIn 
   counted : length s ≡ 13 + 3 * n
   counted = o .count
 
-  triples-bytes : length (take (3 * n) (drop 9 s)) ≡ 3 * n
-  triples-bytes = length-take-le (3 * n) (drop 9 s) (omega (arith, length-drop 9 s, counted))
-
   triples-these : flat (heldIn s .triples) ≡ take (3 * n) (drop 9 s)
-  triples-these = flat-triples (take (3 * n) (drop 9 s)) n triples-bytes
+  triples-these = held-bytes s o
 
   triples-count : length (heldIn s .triples) ≡ n
-  triples-count = omega (arith, flat-length (heldIn s .triples), ap length triples-these, triples-bytes)
+  triples-count = held-count s o
 
   -- the counter is a number of 16 bits, and its two bytes are those of head and footer
   high : heldIn s .counter / 256 ≡ getD s 5 0
@@ -365,7 +375,7 @@ onward-newer last h = newer-steps last 1 h (omega arith)
 
 -- a frame that is whole is as many triples as its first byte says, and those are its bytes
 module _ (f : List ℕ) (whole : isWhole f ≡ true) where
-  whole-length : length f ≡ 3 * countIn (getD f 0 0) + 2
+  pub whole-length : length f ≡ 3 * countIn (getD f 0 0) + 2
   unfolding isWhole
   whole-length = eqb-true _ _ whole
 
