@@ -38,9 +38,13 @@ module _ (counter code : ℕ) (f : List ℕ) (whole : isWhole f ≡ true) where
 
   sections-length : length (sectionsOf counter code f) ≡ length f + 10
   sections-length =
-      omega
-      (arith, ap length (sym sections-are), length-append (headOf counter code (countIn (getD f 0 0))) (drop 2 f ++ (0x74 ∷ twoBytes counter)),
-      length-append (drop 2 f) (0x74 ∷ twoBytes counter), triples-length)
+      omega (
+        arith,
+        ap length (sym sections-are),
+        length-append (headOf counter code (countIn (getD f 0 0))) (drop 2 f ++ (0x74 ∷ twoBytes counter)),
+        length-append (drop 2 f) (0x74 ∷ twoBytes counter),
+        triples-length,
+      )
 
   -- three pieces, one behind the other
   three-laid : (o : List ℕ)

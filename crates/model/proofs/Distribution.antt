@@ -14,7 +14,7 @@ use Rattle.model.specs.Lists.{every}
 use Rattle.model.specs.Said.{Outcome, gave, refused, mapped, putInto, badSection}
 use Rattle.model.specs.Frame.{Triple, tri, flat, triplesIn, countIn, frameBytes}
 use Rattle.model.specs.Distribution.{Distribution, isCoded, lengthWith, twoBytes, sumOf, closing, Unread, asWritten, sections, laidOut, distributionBytes, hasMark, announcesMore, countOf, inOrder, counterAt, sumsUp, countersAgree, heldIn, opened, ahead, newer, frameOf, onward, isWhole, packed, Sent, sentInto, distribute}
-use Rattle.model.proofs.Cases.{by-cond, both, and-both, Gives, gives-at, gives-then, gives-made}
+use Rattle.model.proofs.Cases.{by-cond, both, and-both, Gives, gives-at, gives-then, gives-made, NotAccepted, Refuses, refuses-then, refuses-mapped}
 use Rattle.model.proofs.Lists.{every-at}
 use Rattle.model.proofs.Frames.{unflat, flat-length}
 
@@ -207,14 +207,14 @@ module _ (s : List ℕ) (o : Ordered s) where
   held-count = omega (arith, flat-length (heldIn s .triples), ap length held-bytes, captions-length)
 
 -- the packet that bytes are read as, and what they have to pass for it
-record Passed (s : List ℕ) (d : Distribution) : Type 0 where
-  mark : hasMark s ≡ true
-  order : inOrder s ≡ true
-  sum : sumsUp s ≡ true
-  counters : countersAgree s ≡ true
-  held : d ≡ heldIn s
+pub record Passed (s : List ℕ) (d : Distribution) : Type 0 where
+  pub mark : hasMark s ≡ true
+  pub order : inOrder s ≡ true
+  pub sum : sumsUp s ≡ true
+  pub counters : countersAgree s ≡ true
+  pub held : d ≡ heldIn s
 
-opened-passed : (s : List ℕ) → Gives (Passed s) (opened s)
+pub opened-passed : (s : List ℕ) → Gives (Passed s) (opened s)
 unfolding opened
 opened-passed s =
     by-cond (Gives (Passed s)) (hasMark s)
@@ -226,6 +226,18 @@ opened-passed s =
     (λ _. tt))
     (λ _. tt))
     (λ _. tt)
+
+-- no refusal of bytes has the number of what is accepted
+pub opened-numbered : (s : List ℕ) → Refuses NotAccepted (opened s)
+unfolding opened
+opened-numbered s =
+    by-cond (Refuses NotAccepted) (hasMark s)
+    (λ _. by-cond (Refuses NotAccepted) (inOrder s)
+    (λ _. by-cond (Refuses NotAccepted) (sumsUp s)
+    (λ _. by-cond (Refuses NotAccepted) (countersAgree s) (λ _. tt) (λ _ e. omega (arith, e)))
+    (λ _ e. omega (arith, e)))
+    (λ _ e. omega (arith, e)))
+    (λ _ e. omega (arith, e))
 
 -- what stands in bytes where a reader does not look
 abbrev pub unreadIn : List ℕ → Unread
@@ -406,6 +418,23 @@ packed-fits counter code f h e =
 sent-bytes : (P : List ℕ → Type 0) (out : List ℕ) (d : Distribution) → P (distributionBytes d) → Gives (λ (x : Sent). P (x .bytes)) (sentInto out d)
 unfolding sentInto
 sent-bytes P out d r = gives-made (λ (x : Sent). P (x .bytes)) _ (putInto out (distributionBytes d)) (λ o. r)
+
+-- no refusal of a frame has the number of what is accepted,
+pub sent-numbered : (counter code : ℕ) (f out : List ℕ) → Refuses NotAccepted (distribute counter code f out)
+unfolding distribute packed sentInto putInto
+sent-numbered counter code f out =
+    refuses-then NotAccepted (packed counter code f) (sentInto out)
+    (by-cond (Refuses NotAccepted) (isWhole f && isCoded code) (λ _. tt) (λ _ e. omega (arith, e)))
+    (λ d. refuses-mapped NotAccepted _ (putInto out (distributionBytes d))
+    (by-cond (Refuses NotAccepted) (ltb (length out) (length (distributionBytes d))) (λ _ e. omega (arith, e)) (λ _. tt)))
+
+-- and a frame that is written moves the number on [L5]
+pub sent-next : (counter code : ℕ) (f out : List ℕ) → Gives (λ (x : Sent). x .next ≡ onward counter) (distribute counter code f out)
+unfolding distribute packed sentInto
+sent-next counter code f out =
+    gives-then (λ (x : Sent). x .next ≡ onward counter) (λ (e : Distribution). e .counter ≡ counter) (packed counter code f) (sentInto out)
+    (by-cond (Gives (λ (e : Distribution). e .counter ≡ counter)) (isWhole f && isCoded code) (λ _. refl) (λ _. tt))
+    (λ e r. gives-made (λ (x : Sent). x .next ≡ onward counter) _ (putInto out (distributionBytes e)) (λ o. ap onward r))
 
 -- A frame written as a packet is read as that packet: its code, its number and the frame's own triples.
 pub sent-opened : (counter code : ℕ) (f out : List ℕ) → counter < 2 ^ 16

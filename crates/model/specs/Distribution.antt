@@ -136,16 +136,17 @@ takes (some last) counter = newer last counter
 abbrev pub frameOf : Distribution → List ℕ
 frameOf d = frameBytes (record { count = length (d .triples); triples = d .triples })
 
--- a packet that is read, and the lent output with its frame
+-- a packet that is read, the lent output with its frame, and the number accepted last
 pub record Received : Type 0 where
   pub packet : Distribution
   pub out : List ℕ
+  pub last : Option ℕ
 
 -- a packet that is taken, its frame written to a lent output
 unfoldable pub receivedInto : List ℕ → Distribution → Outcome Received
-receivedInto out d = mapped (λ o. record { packet = d; out = o }) (putInto out (frameOf d))
+receivedInto out d = mapped (λ o. record { packet = d; out = o; last = some (d .counter) }) (putInto out (frameOf d))
 
--- A packet read: 16 to 19, then 20, then 9 [A4] [L6]. Its number is the last accepted one then.
+-- A packet read: 16 to 19, then 20, then 9 [A4] [L5] [L6].
 unfoldable pub receive : Option ℕ → List ℕ → List ℕ → Outcome Received
 receive last s out = andThen (opened s) (λ d. cond (takes last (d .counter)) (receivedInto out d) (refused notNewer))
 

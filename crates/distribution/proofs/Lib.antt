@@ -1,0 +1,3 @@
+pub mod Rates
+pub mod Reading
+pub mod Writing

@@ -1,0 +1,4 @@
+pub mod Rates
+pub mod States
+pub mod Calls
+pub mod Frames
