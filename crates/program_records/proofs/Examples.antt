@@ -23,17 +23,26 @@ inputs =
     ∷ (0xCC ∷ 0x5C ∷ [])
     ∷ []
 
--- records of two kinds
-mark : List (List ℕ)
-mark = (0xCC ∷ []) ∷ (0xDA ∷ 0xCD ∷ []) ∷ []
+-- a mark of one kind, and one of two
+one : List (List ℕ)
+one = (0xCC ∷ []) ∷ (0xDA ∷ []) ∷ []
+
+two : List (List ℕ)
+two = (0xCC ∷ []) ∷ (0xDA ∷ 0xCD ∷ []) ∷ []
 
 -- where the input goes on, and where it ends
-goes-on : map (foundIn mark false 7) inputs
-    ≡ More ∷ More ∷ More ∷ More ∷ Record 10 0 10 ∷ Record 10 1 11 ∷ Record 10 0 10 ∷ Record 10 1 11 ∷ WrongMark ∷ WrongMark ∷ []
-unfolding inputs mark foundIn canBe among
+goes-on : map (foundIn one false 7) inputs
+    ≡ More ∷ More ∷ More ∷ More ∷ Record 10 0 10 ∷ Record 10 1 11 ∷ WrongMark ∷ WrongMark ∷ WrongMark ∷ WrongMark ∷ []
+unfolding inputs one foundIn canBe among
 goes-on = refl
 
-ends : map (foundIn mark true 7) inputs
-    ≡ End ∷ Short ∷ Short ∷ Short ∷ Record 10 0 10 ∷ Record 10 1 11 ∷ Record 10 0 10 ∷ Record 10 1 11 ∷ WrongMark ∷ WrongMark ∷ []
-unfolding inputs mark foundIn canBe among
+ends : map (foundIn one true 7) inputs
+    ≡ End ∷ Short ∷ Short ∷ Short ∷ Record 10 0 10 ∷ Record 10 1 11 ∷ WrongMark ∷ WrongMark ∷ WrongMark ∷ WrongMark ∷ []
+unfolding inputs one foundIn canBe among
 ends = refl
+
+-- where it ends, with records of both kinds
+ends-of-two : map (foundIn two true 7) inputs
+    ≡ End ∷ Short ∷ Short ∷ Short ∷ Record 10 0 10 ∷ Record 10 1 11 ∷ Record 10 0 10 ∷ Record 10 1 11 ∷ WrongMark ∷ WrongMark ∷ []
+unfolding inputs two foundIn canBe among
+ends-of-two = refl

@@ -71,7 +71,8 @@ module _ {S : Type 0} where
   ifRecord found.Short w none = none
   ifRecord found.End w none = none
 
--- records of a mark, of each of which something is told by its number, what the program has, its kind and its bytes; `ended` says that no more bytes follow
+-- records of a mark, of each of which something is told by its number, what the program has, its kind and its bytes; `ended` says that no more
+-- bytes follow
 module _ {S : Type 0} (mark : List (List ℕ)) (tell : ℕ → S → ℕ → List ℕ → Told S) (ended : Bool) where
   -- at most k records
   unfoldable pub walked : ℕ → List ℕ → ℕ → ℕ → S → Walked S
