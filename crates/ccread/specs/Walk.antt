@@ -12,12 +12,12 @@ use Rattle.ccread.specs.declared.Stand.{Stand}
 use Rattle.ccread.specs.declared.State.{State}
 
 -- the mark of a frame [C1]
-abbrev pub mark : List ℕ
-mark = 0xCC ∷ 0xDA ∷ []
+abbrev pub mark : List (List ℕ)
+mark = (0xCC ∷ []) ∷ (0xDA ∷ []) ∷ []
 
 -- the lines of a record's frame, and the demultiplexer after it
-abbrev pub tell : ℕ → CCDataParser → List ℕ → Told CCDataParser
-tell n p frame = record { text = frameLines n frame p; next = settled p frame }
+abbrev pub tell : ℕ → CCDataParser → ℕ → List ℕ → Told CCDataParser
+tell n p kind frame = record { text = frameLines n frame p; next = settled p frame }
 
 -- what a buffer tells from where the program stands, and what it tells still
 abbrev pub toTell : Bool → List ℕ → Stand → Walked CCDataParser

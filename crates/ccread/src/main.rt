@@ -4,6 +4,7 @@ ghost use mathlib.Core.Bool.{true, false};
 ghost use Prim.Native.Nat.{_+_, _≤_, _<_};
 ghost use lib.ListN.{length, take};
 ghost use Rattle.program_text.specs.Laid.{Whole};
+ghost use Rattle.program_streams.specs.Ahead.{aheadOf};
 ghost use Rattle.program_streams.specs.Walk.{before, told, silent, doneAt, Kept, Follow};
 ghost use Rattle.ccread.specs.Walk.{mark, tell, toTell, stillToTell, Steps, Ran, freshState};
 ghost use Rattle.ccread_report.specs.Report.{frameLines, settled};
@@ -14,6 +15,7 @@ use parser::CCDataParser;
 use program_records::part;
 use program_streams::Ahead;
 use program_streams::Held;
+use program_streams::Place;
 
 // The lines of a frame have at most 32768 bytes, and the last line has fewer.
 const ROOM: usize = 32768;
@@ -31,12 +33,26 @@ struct State {
 }
 
 // The lines of a record's frame: none of them is cut.
-fn put_record(out: &mut [u8], at: usize, number: u64, frame: &[u8], parser: CCDataParser) -> Told
+fn put_record(
+    out: &mut [u8],
+    at: usize,
+    number: u64,
+    kind: u8,
+    frame: &[u8],
+    parser: CCDataParser,
+) -> Told
     requires { ⌜ at + 32768 ≤ length (now out) ⌝ }
     ensures { λ r. ⌜ Whole (frameLines number (now (frame .entry)) parser) (now (out .entry)) at (r .laid) (now (out .exit)) ⌝ }
     ensures { λ r. ⌜ r .parser ≡ settled parser (now (frame .entry)) ⌝ }
 {
     ccread_report::put_frame(out, at, number, frame, parser)
+}
+
+// What is ahead of a place in a buffer of records; there is room for what one tells where no more than `most` bytes are laid.
+fn look(buf: &[u8], place: Place, ended: bool, most: usize) -> Ahead
+    ensures { λ r. ⌜ r ≡ aheadOf mark ended most (now (buf .entry)) place ⌝ }
+{
+    program_streams::look(buf, place, ended, &[0xDA], most)
 }
 
 // Lays the lines of the records that are whole in the buffer, as long as there is room for those of one more, and the last line.
@@ -49,12 +65,13 @@ fn drain(buf: &[u8], ended: bool, out: &mut [u8], from: Stand) -> Stand
     let mut place = program_streams::onward(from.ahead, 0);
     let mut parser = from.parser;
     loop {
-        let ahead = program_streams::look(buf, place, ended, 0xDA, most);
+        let ahead = look(buf, place, ended, most);
         if ahead.whole {
             let told = put_record(
                 out,
                 place.laid,
                 place.records,
+                program_streams::kind_at(buf, place.at),
                 program_streams::body_at(buf, place.at),
                 parser,
             );

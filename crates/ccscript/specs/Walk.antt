@@ -12,16 +12,16 @@ use Rattle.program_streams.specs.Walk.{Told, Walked, toldFrom, leftToTell, Step
 use Rattle.ccscript.specs.declared.Stand.{Stand}
 use Rattle.ccscript.specs.declared.State.{State}
 
-abbrev pub mark : List ℕ
-mark = 0xCC ∷ 0x5C ∷ []
+abbrev pub mark : List (List ℕ)
+mark = (0xCC ∷ []) ∷ (0x5C ∷ []) ∷ []
 
 -- the line of a record, if it has fewer than 600 bytes
 abbrev pub lineOf : Machine → List ℕ → List ℕ
 lineOf m bytes = cond (ltb (length (ran m bytes .line)) 600) (ran m bytes .line) []
 
 -- the line of a record, and what it leaves
-abbrev pub tell : ℕ → Machine → List ℕ → Told Machine
-tell n m bytes = record { text = lineOf m bytes; next = ran m bytes .next }
+abbrev pub tell : ℕ → Machine → ℕ → List ℕ → Told Machine
+tell n m kind bytes = record { text = lineOf m bytes; next = ran m bytes .next }
 
 -- what a buffer tells from where the program stands, and what it tells still
 abbrev pub toTell : Bool → List ℕ → Stand → Walked Machine

@@ -6,6 +6,7 @@ ghost use mathlib.Core.Bool.{true, false};
 ghost use mathlib.Core.List.{_++_};
 ghost use Prim.Native.Nat.{_+_, _≤_, _<_};
 ghost use lib.ListN.{length, take};
+ghost use Rattle.program_streams.specs.Ahead.{aheadOf};
 ghost use Rattle.program_streams.specs.Walk.{before, told, silent, doneAt, Kept, Follow};
 ghost use Rattle.script_operations.specs.Ran.{ran};
 ghost use Rattle.ccscript.specs.Walk.{mark, lineOf, tell, toTell, stillToTell, Steps, Ran, freshState};
@@ -14,6 +15,7 @@ use libc::STDOUT_FILENO;
 use program_records::part;
 use program_streams::Ahead;
 use program_streams::Held;
+use program_streams::Place;
 use script_operations::Machine;
 use script_operations::Stepped;
 
@@ -50,6 +52,13 @@ fn put_record(out: &mut [u8], at: usize, record: &[u8], machine: Machine) -> Ste
     }
 }
 
+// What is ahead of a place in a buffer of records; there is room for what one tells where no more than `most` bytes are laid.
+fn look(buf: &[u8], place: Place, ended: bool, most: usize) -> Ahead
+    ensures { λ r. ⌜ r ≡ aheadOf mark ended most (now (buf .entry)) place ⌝ }
+{
+    program_streams::look(buf, place, ended, &[0x5C], most)
+}
+
 // Lays the lines of the records that are whole in the buffer, as long as there is room for one more, and the last line.
 fn drain(buf: &[u8], ended: bool, out: &mut [u8], from: Stand) -> Stand
     requires { ⌜ 600 ≤ length (now out) ⌝ }
@@ -60,7 +69,7 @@ fn drain(buf: &[u8], ended: bool, out: &mut [u8], from: Stand) -> Stand
     let mut place = program_streams::onward(from.ahead, 0);
     let mut machine = from.machine;
     loop {
-        let ahead = program_streams::look(buf, place, ended, 0x5C, most);
+        let ahead = look(buf, place, ended, most);
         if ahead.whole {
             let told = put_record(
                 out,

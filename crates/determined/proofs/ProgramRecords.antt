@@ -18,8 +18,8 @@ module _ {A E : Type 0} {lent : E → List ℕ} where
   moves : {kept before : A → List ℕ} → DeterminesLent lent (λ (a : A) (r : ℕ) (e : E). Moved (kept a) (before a) r (lent e))
   moves = record { result = λ a r q e f h k. h .count ∙ sym (k .count); contents = λ a r q e f h k. h .bytes ∙ sym (k .bytes) }
 
--- `next_record(bytes, at, ended, first, second)`
-pub next-record : (κs : Lfts 1) → Determines («next_record».Post κs)
+-- `next_record(bytes, at, ended, first, kinds)`
+pub next-record : (κs : Lfts 2) → Determines («next_record».Post κs)
 next-record κs = equal
 
 -- `part(bytes, start, len)`

@@ -12,6 +12,7 @@ use Rattle.program_streams.specs.declared.Held.{Held}
 use Rattle.program_streams.proofs.unread.Reads as Unread
 use Rattle.program_streams.proofs.front.Reads as Front
 use Rattle.program_streams.proofs.look.Reads as Look
+use Rattle.program_streams.proofs.kind_at.Reads as kind_at
 use Rattle.program_streams.proofs.body_at.Reads as body_at
 use Rattle.program_streams.proofs.onward.Reads as Onward
 use Rattle.program_streams.proofs.put_last.Reads as put_last
@@ -45,9 +46,13 @@ unread = equal
 pub front : Determines (Front.Post (tt {0}))
 front = equal
 
--- `look(buf, place, ended, second, most)`
-pub look : (κs : Lfts 1) → Determines (Look.Post κs)
+-- `look(buf, place, ended, kinds, most)`
+pub look : (κs : Lfts 2) → Determines (Look.Post κs)
 look κs = equal
+
+-- `kind_at(buf, at)`
+pub kind-at : (κs : Lfts 1) → Determines (kind_at.Post κs)
+kind-at κs = equal
 
 -- `body_at(buf, at)`
 pub body-at : (κs : Lfts 1) → DeterminesPart (body_at.Post κs)

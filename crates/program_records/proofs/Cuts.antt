@@ -8,6 +8,7 @@ use native.Mathlib.Omega.{arith}
 use lib.Dec.{eqb, ltb}
 use lib.ListN.{length, getD, length-append, List·getD-append}
 use borrow.Author.Tests.{eq-eqb, ne-eqb, ltb-false, eqb-false}
+use Rattle.model.specs.Services.{among}
 use Rattle.model.proofs.Cases.{by-test}
 use Rattle.program_records.specs.declared.Found.{Found}
 use Rattle.program_records.specs.declared.Found.the-variants.{Record, More, WrongMark, Short, End}
@@ -23,7 +24,7 @@ kind Short = 3
 kind End = 4
 
 -- a record that was found is there
-pub record Whole (s : List ℕ) (mark : List ℕ) (at start len next : ℕ) : Type 0 where
+pub record Whole (s : List ℕ) (mark : List (List ℕ)) (at start len next : ℕ) : Type 0 where
   pub marked : canBe mark s ≡ true
   pub begins : start ≡ at + 3
   pub says : len ≡ getD s 2 0
@@ -41,7 +42,7 @@ whole-parts false false c e h = absurd (omega (arith, ap kind h))
 whole-parts false true true true h = absurd (omega (arith, ap kind h))
 whole-parts false true true false h = absurd (omega (arith, ap kind h))
 
-module _ (mark : List ℕ) (ended : Bool) (at : ℕ) (s : List ℕ) where
+module _ (mark : List (List ℕ)) (ended : Bool) (at : ℕ) (s : List ℕ) where
   pub whole : {start len next : ℕ} → foundIn mark ended at s ≡ Record start len next → Whole s mark at start len next
   unfolding foundIn
   whole e =
@@ -49,25 +50,25 @@ module _ (mark : List ℕ) (ended : Bool) (at : ℕ) (s : List ℕ) where
       let k = ltb-false (length s) (recordLength s) (w .1) in
       record { marked = w .0; begins = sym (w .2); says = sym (w .3); ends = omega (arith, w .2, w .3, w .4); there = omega (arith, w .3) }
 
--- what is written is read: a mark, a length byte, and as many bytes as it says
-pub found-written : (a b at : ℕ) (ended : Bool) (body rest : List ℕ)
-    → foundIn (a ∷ b ∷ []) ended at (a ∷ b ∷ length body ∷ (body ++ rest)) ≡ Record (at + 3) (length body) (at + (3 + length body))
-unfolding canBe
-found-written a b at ended body rest =
-    is-record (a ∷ b ∷ []) ended at (a ∷ b ∷ length body ∷ (body ++ rest)) (rw (eq-eqb a a refl, eq-eqb b b refl)) (omega (arith, length-append body rest))
+-- what is written is read: a mark of one of the kinds, a length byte, and as many bytes as it says
+pub found-written : (a b at : ℕ) (kinds : List ℕ) (ended : Bool) (body rest : List ℕ) → among kinds b ≡ true
+    → foundIn ((a ∷ []) ∷ kinds ∷ []) ended at (a ∷ b ∷ length body ∷ (body ++ rest)) ≡ Record (at + 3) (length body) (at + (3 + length body))
+unfolding canBe among
+found-written a b at kinds ended body rest e =
+    is-record ((a ∷ []) ∷ kinds ∷ []) ended at (a ∷ b ∷ length body ∷ (body ++ rest)) (rw (eq-eqb a a refl, e)) (omega (arith, length-append body rest))
 
 -- Bytes that follow change nothing of a record or a wrong mark that was found, however the input is cut:
-can-be-more : (mark s t : List ℕ) → length mark ≤ length s → canBe mark (s ++ t) ≡ canBe mark s
+can-be-more : (mark : List (List ℕ)) (s t : List ℕ) → length mark ≤ length s → canBe mark (s ++ t) ≡ canBe mark s
 unfolding canBe
 can-be-more [] s t h = refl
-can-be-more (m ∷ mark) [] t h = absurd (omega arith)
-can-be-more (m ∷ mark) (x ∷ s) t h = rw (can-be-more mark s t (omega arith))
+can-be-more (ms ∷ mark) [] t h = absurd (omega arith)
+can-be-more (ms ∷ mark) (x ∷ s) t h = rw (can-be-more mark s t (omega arith))
 
-cannot-more : (mark s t : List ℕ) → canBe mark s ≡ false → canBe mark (s ++ t) ≡ false
+cannot-more : (mark : List (List ℕ)) (s t : List ℕ) → canBe mark s ≡ false → canBe mark (s ++ t) ≡ false
 unfolding canBe
 cannot-more [] s t e = e
-cannot-more (m ∷ mark) [] t e = absurd (let z : true ≡ false = e in false≢true (sym z))
-cannot-more (m ∷ mark) (x ∷ s) t e = by-test (eqb x m) (λ q. rw q (cannot-more mark s t (rw q at e))) (λ q. rw q)
+cannot-more (ms ∷ mark) [] t e = absurd (let z : true ≡ false = e in false≢true (sym z))
+cannot-more (ms ∷ mark) (x ∷ s) t e = by-test (among ms x) (λ q. rw q (cannot-more mark s t (rw q at e))) (λ q. rw q)
 
 -- the tests on the way to a wrong mark
 wrong-parts : (a b c e : Bool) (p q n : ℕ) → cond a (missing e End) (cond b (cond c (missing e Short) (Record p q n)) WrongMark) ≡ WrongMark
@@ -79,7 +80,7 @@ wrong-parts false true false e p q n h = absurd (omega (arith, ap kind h))
 wrong-parts false true true true p q n h = absurd (omega (arith, ap kind h))
 wrong-parts false true true false p q n h = absurd (omega (arith, ap kind h))
 
-module _ (mark : List ℕ) (ended later : Bool) (at : ℕ) (s t : List ℕ) where
+module _ (mark : List (List ℕ)) (ended later : Bool) (at : ℕ) (s t : List ℕ) where
   pub stays-record : {start len next : ℕ} → length mark ≤ 3 → foundIn mark ended at s ≡ Record start len next
       → foundIn mark later at (s ++ t) ≡ Record start len next
   stays-record {start} {len} {next} short e =

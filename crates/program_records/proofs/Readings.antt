@@ -9,6 +9,7 @@ use lib.Dec.{eqb}
 use lib.ListN.{length, getD, take, drop, length-drop, drop-of-length-le, List·getD-eq-default}
 use lib.Seq.{drop-cons, getD-drop, getD-take}
 use borrow.Author.Tests.{eq-eqb, ne-eqb, lt-ltb, le-ltb}
+use Rattle.model.specs.Services.{among}
 use Rattle.program_records.specs.declared.Found.{Found}
 use Rattle.program_records.specs.declared.Found.the-variants.{Record, More, WrongMark, Short, End}
 use Rattle.program_records.specs.Reading.{canBe, missing, foundIn, highestFirst}
@@ -33,36 +34,52 @@ and-true : (b : Bool) → b && true ≡ b
 and-true true = refl
 and-true false = refl
 
+-- a byte looked up among some: what is left to look through tells as much as the whole
+module _ (l : List ℕ) (x i : ℕ) {whole : Bool} (e : whole ≡ among (drop i l) x) where
+  pub not-among : length l ≤ i → false ≡ whole
+  unfolding among
+  not-among h = sym (rw (drop-of-length-le l h) at e)
+
+  module _ (h : i < length l) where
+    pub found-among : getD l i 0 ≡ x → true ≡ whole
+    unfolding among
+    found-among q = sym (rw (drop-cons l i 0 h, eq-eqb _ _ q) at e)
+
+    pub look-on : (getD l i 0 ≡ x → ⊥) → whole ≡ among (drop (i + 1) l) x
+    unfolding among
+    look-on n = simp add-one (rw (drop-cons l i 0 h, ne-eqb _ _ n) at e)
+
 -- the mark, as far as the bytes go
-module _ (l : List ℕ) (at a b : ℕ) where
-  pub mark-none : length l ≤ at → true ≡ canBe (a ∷ b ∷ []) (drop at l)
+module _ (l : List ℕ) (at a : ℕ) (kinds : List ℕ) where
+  pub mark-none : length l ≤ at → true ≡ canBe ((a ∷ []) ∷ kinds ∷ []) (drop at l)
   unfolding canBe
   mark-none h = rw (drop-of-length-le l h)
 
   module _ (h : at < length l) where
-    pub mark-wrong : (getD l at 0 ≡ a → ⊥) → false ≡ canBe (a ∷ b ∷ []) (drop at l)
-    unfolding canBe
-    mark-wrong n = rw (drop-cons l at 0 h, ne-eqb _ _ n)
+    pub mark-wrong : (getD l at 0 ≡ a → ⊥) → false ≡ canBe ((a ∷ []) ∷ kinds ∷ []) (drop at l)
+    unfolding canBe among
+    mark-wrong n = rw (drop-cons l at 0 h, ne-eqb a _ (λ e. n (sym e)))
 
-    pub mark-half : getD l at 0 ≡ a → length l - at ≡ 1 → true ≡ canBe (a ∷ b ∷ []) (drop at l)
-    unfolding canBe
-    mark-half e k = let m : length l ≤ suc at = omega arith in rw (drop-cons l at 0 h, eq-eqb _ _ e, drop-of-length-le l m)
+    pub mark-half : getD l at 0 ≡ a → length l - at ≡ 1 → true ≡ canBe ((a ∷ []) ∷ kinds ∷ []) (drop at l)
+    unfolding canBe among
+    mark-half e k = let m : length l ≤ suc at = omega arith in rw (drop-cons l at 0 h, eq-eqb a _ (sym e), drop-of-length-le l m)
 
-    pub mark-whole : getD l at 0 ≡ a → (length l - at ≡ 1 → ⊥) → eqb (getD l (at + 1) 0) b ≡ canBe (a ∷ b ∷ []) (drop at l)
-    unfolding canBe
-    mark-whole e k =
+    pub mark-whole : {r : Bool} → getD l at 0 ≡ a → (length l - at ≡ 1 → ⊥) → r ≡ among kinds (getD l (at + 1) 0)
+        → r ≡ canBe ((a ∷ []) ∷ kinds ∷ []) (drop at l)
+    unfolding canBe among
+    mark-whole e k q =
         let n : suc at < length l = omega arith in
-        rw (drop-cons l at 0 h, eq-eqb _ _ e, drop-cons l (suc at) 0 n, add-one) (sym (and-true _))
+        q ∙ rw (drop-cons l at 0 h, eq-eqb a _ (sym e), drop-cons l (suc at) 0 n, add-one) (sym (and-true _))
 
 -- a record: the mark, and all the bytes that the length byte says
-pub is-record : (mark : List ℕ) (ended : Bool) (at : ℕ) (s : List ℕ) → canBe mark s ≡ true → 3 + getD s 2 0 ≤ length s
+pub is-record : (mark : List (List ℕ)) (ended : Bool) (at : ℕ) (s : List ℕ) → canBe mark s ≡ true → 3 + getD s 2 0 ≤ length s
     → foundIn mark ended at s ≡ Record (at + 3) (getD s 2 0) (at + (3 + getD s 2 0))
 unfolding foundIn
 is-record mark ended at s m h =
     let some : eqb (length s) 0 ≡ false = ne-eqb (length s) 0 (λ e. omega (arith, e)) in rw (some, m, le-ltb (length s) (3 + getD s 2 0) h)
 
 -- the ways out
-module _ (mark : List ℕ) (ended : Bool) (l : List ℕ) (at : ℕ) where
+module _ (mark : List (List ℕ)) (ended : Bool) (l : List ℕ) (at : ℕ) where
   pub found-end : length l ≤ at → ended ≡ true → End ≡ foundIn mark ended at (drop at l)
   unfolding foundIn
   found-end h e = rw (drop-of-length-le l h, e)

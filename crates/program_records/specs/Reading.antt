@@ -1,17 +1,19 @@
--- Records: a mark of two bytes, a length byte, and so many bytes [C1]; what stands where no whole record does [C4]. Assumes nothing.
+-- Records: a mark of two bytes, a length byte, and so many bytes [C1]; what stands where no whole record does [C4]. A mark says for each of its
+-- places which bytes may stand there. Assumes nothing.
 use mathlib.Core.Bool.{Bool, true, cond, _&&_}
 use mathlib.Core.List.{List, [], _∷_}
 use Prim.Native.Nat.{ℕ, _+_, _*_, _^_}
 use lib.Dec.{eqb, ltb}
 use lib.ListN.{length, getD}
+use Rattle.model.specs.Services.{among}
 use Rattle.program_records.specs.declared.Found.{Found}
 use Rattle.program_records.specs.declared.Found.the-variants.{Record, More, WrongMark, Short, End}
 
 -- whether the bytes that are there can be the mark
-unfoldable pub canBe : List ℕ → List ℕ → Bool
+unfoldable pub canBe : List (List ℕ) → List ℕ → Bool
 canBe [] s = true
-canBe (m ∷ mark) [] = true
-canBe (m ∷ mark) (x ∷ s) = eqb x m && canBe mark s
+canBe (ms ∷ mark) [] = true
+canBe (ms ∷ mark) (x ∷ s) = among ms x && canBe mark s
 
 -- how many bytes the record at the front of s takes: mark, length byte, and as many as it says (3 where it is not there)
 abbrev pub recordLength : List ℕ → ℕ
@@ -22,7 +24,7 @@ abbrev pub missing : Bool → Found → Found
 missing ended atEnd = cond ended atEnd More
 
 -- what is found at the front of the bytes s, which begin at `at`
-unfoldable pub foundIn : List ℕ → Bool → ℕ → List ℕ → Found
+unfoldable pub foundIn : List (List ℕ) → Bool → ℕ → List ℕ → Found
 foundIn mark ended at s =
     cond (eqb (length s) 0) (missing ended End)
     (cond (canBe mark s)

@@ -2,6 +2,7 @@
 ghost use mathlib.Core.Path.{_≡_};
 ghost use mathlib.Core.List.{[], _∷_};
 ghost use lib.ListN.{getD, take, drop};
+ghost use Rattle.model.specs.Services.{among};
 ghost use Rattle.program_records.specs.Reading.{canBe, foundIn, missing, highestFirst};
 ghost use Rattle.program_records.specs.Moved.{Moved, between};
 use basics::lesser;
@@ -24,9 +25,23 @@ pub enum Found {
     End,
 }
 
-// Whether the bytes from `at` on, as far as they go, are the mark `first`, `second`.
-fn can_be_mark(bytes: &[u8], at: usize, first: u8, second: u8) -> bool
-    ensures { λ r. ⌜ r ≡ canBe (first ∷ second ∷ []) (drop at (now (bytes .entry))) ⌝ }
+// Whether a byte is one of `kinds`.
+fn is_among(kinds: &[u8], byte: u8) -> bool
+    ensures { λ r. ⌜ r ≡ among (now (kinds .entry)) byte ⌝ }
+{
+    let mut i = 0;
+    while i < kinds.len() {
+        if kinds[i] == byte {
+            return true;
+        }
+        i += 1;
+    }
+    false
+}
+
+// Whether the bytes from `at` on, as far as they go, are a mark: `first`, and then one of `kinds`.
+fn can_be_mark(bytes: &[u8], at: usize, first: u8, kinds: &[u8]) -> bool
+    ensures { λ r. ⌜ r ≡ canBe ((first ∷ []) ∷ now (kinds .entry) ∷ []) (drop at (now (bytes .entry))) ⌝ }
 {
     let n = bytes.len();
     if n <= at {
@@ -38,7 +53,7 @@ fn can_be_mark(bytes: &[u8], at: usize, first: u8, second: u8) -> bool
     if n - at == 1 {
         return true;
     }
-    bytes[at + 1] == second
+    is_among(kinds, bytes[at + 1])
 }
 
 // What is found where a record is begun and bytes of it are missing.
@@ -51,9 +66,9 @@ fn unfinished(ended: bool) -> Found
     Found::More
 }
 
-// What stands in `bytes` from `at` on, where a record's mark is `first`, `second`; `ended` says that no more bytes follow these.
-pub fn next_record(bytes: &[u8], at: usize, ended: bool, first: u8, second: u8) -> Found
-    ensures { λ r. ⌜ r ≡ foundIn (first ∷ second ∷ []) ended at (drop at (now (bytes .entry))) ⌝ }
+// What stands in `bytes` from `at` on, where a record's mark is `first` and then one of `kinds`; `ended` says that no more bytes follow these.
+pub fn next_record(bytes: &[u8], at: usize, ended: bool, first: u8, kinds: &[u8]) -> Found
+    ensures { λ r. ⌜ r ≡ foundIn ((first ∷ []) ∷ now (kinds .entry) ∷ []) ended at (drop at (now (bytes .entry))) ⌝ }
 {
     let n = bytes.len();
     if n <= at {
@@ -62,7 +77,7 @@ pub fn next_record(bytes: &[u8], at: usize, ended: bool, first: u8, second: u8) 
         }
         return Found::More;
     }
-    if can_be_mark(bytes, at, first, second) {
+    if can_be_mark(bytes, at, first, kinds) {
         let left = n - at;
         if left < 3 {
             return unfinished(ended);

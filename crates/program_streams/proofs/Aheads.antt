@@ -15,7 +15,7 @@ use Rattle.program_records.specs.declared.Found.{Found}
 use Rattle.program_records.specs.declared.Found.the-variants as found
 use Rattle.program_streams.specs.Ahead.{pastRecord, standing, waiting, byFound, aheadOf}
 use Rattle.program_streams.specs.Ends.{leftAt}
-use Rattle.program_streams.specs.Walk.{body}
+use Rattle.program_streams.specs.Walk.{kind, body}
 use Rattle.program_streams.specs.declared.Ahead.{Ahead}
 use Rattle.program_streams.specs.declared.Left.{Left}
 use Rattle.program_streams.specs.declared.Left.the-variants.{More}
@@ -49,7 +49,7 @@ module _ (p : Place) where
   one-whole found.Short e = absurd (false≢true e)
   one-whole found.End e = absurd (false≢true e)
 
-module _ (mark : List ℕ) (ended : Bool) (buf : List ℕ) (p : Place) where
+module _ (mark : List (List ℕ)) (ended : Bool) (buf : List ℕ) (p : Place) where
   -- where there is no room
   pub room-wanting : {most : ℕ} → most < p .laid → waiting p ≡ aheadOf mark ended most buf p
   unfolding aheadOf
@@ -103,10 +103,13 @@ module _ (mark : List ℕ) (ended : Bool) (buf : List ℕ) (p : Place) where
       by-room false r e = absurd (false≢true e)
       by-room true r e = by-what (leb-true _ _ r) (one-whole p (foundIn mark ended (p .at) (drop (p .at) buf)) e)
 
--- the bytes of a record, behind the head at the front of what is behind its place
-pub record-taken : (buf : List ℕ) (at : ℕ) {rest bytes : List ℕ} {len : ℕ} → rest ≡ take (length buf) (drop at buf) → len ≡ getD rest 2 0 → bytes ≡ take len (drop 3 rest)
-    → bytes ≡ body (drop at buf)
-record-taken buf at {rest} h k e =
-    let d = length-drop at buf in
-    let all : rest ≡ drop at buf = h ∙ take-all (length buf) (drop at buf) (omega arith) in
-    e ∙ rw (k, all)
+-- a record stands at the front of what is behind its place: its kind, and the bytes behind its head
+module _ (buf : List ℕ) (at : ℕ) {rest : List ℕ} (h : rest ≡ take (length buf) (drop at buf)) where
+  all-behind : rest ≡ drop at buf
+  all-behind = let d = length-drop at buf in h ∙ take-all (length buf) (drop at buf) (omega arith)
+
+  pub kind-taken : {which : ℕ} → which ≡ getD rest 1 0 → which ≡ kind (drop at buf)
+  kind-taken e = e ∙ rw all-behind
+
+  pub record-taken : {bytes : List ℕ} {len : ℕ} → len ≡ getD rest 2 0 → bytes ≡ take len (drop 3 rest) → bytes ≡ body (drop at buf)
+  record-taken k e = e ∙ rw (k, all-behind)

@@ -13,7 +13,7 @@ use Rattle.program_records.specs.Reading.{canBe, recordLength, missing, foundIn
 use Rattle.program_records.specs.declared.Found.{Found}
 use Rattle.program_records.specs.declared.Found.the-variants as found
 use Rattle.program_streams.specs.Ends.{leftAt}
-use Rattle.program_streams.specs.Walk.{Told, Walked, body, before, ifRecord, told, resumed}
+use Rattle.program_streams.specs.Walk.{Told, Walked, kind, body, before, ifRecord, told, resumed}
 use Rattle.program_streams.specs.declared.Left.{Left}
 use Rattle.program_streams.specs.declared.Left.the-variants.{More, Stopped, Ended}
 use Rattle.program_streams.proofs.Walks.{by-front, told-on}
@@ -33,11 +33,11 @@ early false false c p q n = refl
 early false true true p q n = refl
 early false true false p q n = refl
 
-not-late : (mark s : List ℕ) → late (foundIn mark false 0 s) ≡ 0
+not-late : (mark : List (List ℕ)) (s : List ℕ) → late (foundIn mark false 0 s) ≡ 0
 unfolding foundIn
 not-late mark s = early (eqb (length s) 0) (canBe mark s) (ltb (length s) (recordLength s)) (0 + 3) (getD s 2 0) (0 + recordLength s)
 
-module _ {S : Type 0} (mark : List ℕ) (tell : ℕ → S → List ℕ → Told S) (later : Bool) (c : List ℕ) where
+module _ {S : Type 0} (mark : List (List ℕ)) (tell : ℕ → S → ℕ → List ℕ → Told S) (later : Bool) (c : List ℕ) where
   -- a text stands before what follows, wherever the cut is
   resumed-before : (t : List ℕ) (w : Walked S) → before t (resumed mark tell later c w (w .left)) ≡ resumed mark tell later c (before t w) (w .left)
   resumed-before t w = by-left (w .left)
@@ -54,25 +54,25 @@ module _ {S : Type 0} (mark : List ℕ) (tell : ℕ → S → List ℕ → Told 
   -- a cut behind the bytes of a record and some more
   module _ (s : List ℕ) (b n : ℕ) (x : S) {start len next : ℕ} (e : foundIn mark false 0 s ≡ found.Record start len next)
       (g : foundIn mark later 0 (s ++ c) ≡ found.Record start len next) where
-    same-record : (getD (s ++ c) 2 0 ≡ getD s 2 0) × (drop (recordLength s) (s ++ c) ≡ drop (recordLength s) s ++ c) × (take (getD s 2 0) (drop 3 (s ++ c)) ≡ body s)
+    same-record : (kind (s ++ c) ≡ kind s) × (getD (s ++ c) 2 0 ≡ getD s 2 0) × (drop (recordLength s) (s ++ c) ≡ drop (recordLength s) s ++ c) × (take (getD s 2 0) (drop 3 (s ++ c)) ≡ body s)
     same-record =
         let w = whole mark false 0 s e in
         let d = length-drop 3 s in
         let k : getD s 2 0 ≤ length (drop 3 s) = omega (arith, w .there, w .says) in
         let j : 3 ≤ length s = omega (arith, w .there) in
         let m : recordLength s ≤ length s = omega (arith, w .there, w .says) in
-        (List·getD-append s c 0 2 (omega arith), drop-append-le (recordLength s) s c m, rw (drop-append-le 3 s c j) (take-append-le (getD s 2 0) (drop 3 s) c k))
+        (List·getD-append s c 0 1 (omega arith), List·getD-append s c 0 2 (omega arith), drop-append-le (recordLength s) s c m, rw (drop-append-le 3 s c j) (take-append-le (getD s 2 0) (drop 3 s) c k))
 
     behind-record : ((r : List ℕ) (a m : ℕ) (y : S) → length r < length s → Cut r a m y) → Cut s b n x
     behind-record rest =
         let w = whole mark false 0 s e in
         let q = same-record in
-        let t = tell n x (body s) in
+        let t = tell n x (kind s) (body s) in
         let r = drop (recordLength s) s in
         let fewer : length r < length s = rw length-drop (omega (arith, w .there)) in
         rw (told-on mark tell false 0 s b n x refl e)
         (told-on mark tell later 0 (s ++ c) b n x refl g
-        ∙ rw (q .0, q .1, q .2) (ap (before (t .text)) (rest r ((b + recordLength s) % 2 ^ 64) ((n + 1) % 2 ^ 64) (t .next) fewer))
+        ∙ rw (q .0, q .1, q .2, q .3) (ap (before (t .text)) (rest r ((b + recordLength s) % 2 ^ 64) ((n + 1) % 2 ^ 64) (t .next) fewer))
         ∙ resumed-before (t .text) (told mark tell false r ((b + recordLength s) % 2 ^ 64) ((n + 1) % 2 ^ 64) (t .next)))
 
   module _ (short : length mark ≤ 3) where

@@ -46,11 +46,11 @@ none-waits false false c p q n = refl
 none-waits false true true p q n = refl
 none-waits false true false p q n = refl
 
-no-more : (mark s : List ℕ) → waits (foundIn mark true 0 s) ≡ 0
+no-more : (mark : List (List ℕ)) (s : List ℕ) → waits (foundIn mark true 0 s) ≡ 0
 unfolding foundIn
 no-more mark s = none-waits (eqb (length s) 0) (canBe mark s) (ltb (length s) (recordLength s)) (0 + 3) (getD s 2 0) (0 + recordLength s)
 
-module _ {S : Type 0} (mark : List ℕ) (tell : ℕ → S → List ℕ → Told S) where
+module _ {S : Type 0} (mark : List (List ℕ)) (tell : ℕ → S → ℕ → List ℕ → Told S) where
   ends-by : (s : List ℕ) (b n : ℕ) (x : S) → ((r : List ℕ) (a m : ℕ) (y : S) → length r < length s → goesOn (told mark tell true r a m y .left) ≡ false)
       → (f : Found) → foundIn mark true 0 s ≡ f → waits f ≡ 0 → goesOn (told mark tell true s b n x .left) ≡ false
   unfolding ifRecord leftAt

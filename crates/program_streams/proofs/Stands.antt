@@ -18,7 +18,7 @@ use Rattle.program_records.specs.declared.Found.{Found}
 use Rattle.program_records.specs.declared.Found.the-variants as found
 use Rattle.program_streams.specs.Ends.{leftAt, lastLine}
 use Rattle.program_streams.specs.Ahead.{aheadOf, reached, withLaid}
-use Rattle.program_streams.specs.Walk.{Told, Walked, body, before, toldFrom, leftToTell}
+use Rattle.program_streams.specs.Walk.{Told, Walked, kind, body, before, toldFrom, leftToTell}
 use Rattle.program_streams.specs.declared.Ahead.{Ahead}
 use Rattle.program_streams.specs.declared.Place.{Place}
 use Rattle.program_streams.proofs.Walks.{told-stops, told-on}
@@ -31,7 +31,7 @@ module _ {S : Type 0} where
   before-before t u w = rw (append-assoc t u (w .text))
 
 -- a record that is found lies in the buffer
-pub record-within : (mark : List ℕ) (ended : Bool) (buf : List ℕ) (at : ℕ) {f : Found} {start len next : ℕ} → f ≡ foundIn mark ended at (drop at buf) → f ≡ found.Record start len next
+pub record-within : (mark : List (List ℕ)) (ended : Bool) (buf : List ℕ) (at : ℕ) {f : Found} {start len next : ℕ} → f ≡ foundIn mark ended at (drop at buf) → f ≡ found.Record start len next
     → (at < next) × (next ≤ length buf) × (3 + len ≤ length buf)
 record-within mark ended buf at h e =
     let w = whole mark ended at (drop at buf) (sym h ∙ e) in
@@ -54,14 +54,14 @@ none-laid {out} {after} {laid} {end} w =
     take-all end out e ∙ sym (take-all laid out (omega arith))))
 
 -- what a program has told of a buffer since it stood at the place p₀ and had x₀: it has laid it at the front of another one, and stands at p now
-pub record Stands {S : Type 0} (mark : List ℕ) (tell : ℕ → S → List ℕ → Told S) (ended : Bool) (buf : List ℕ) (p₀ : Place) (x₀ : S) (out : List ℕ) (p : Place) (x : S) : Type 0 where
+pub record Stands {S : Type 0} (mark : List (List ℕ)) (tell : ℕ → S → ℕ → List ℕ → Told S) (ended : Bool) (buf : List ℕ) (p₀ : Place) (x₀ : S) (out : List ℕ) (p : Place) (x : S) : Type 0 where
   pub few : p .passed < 2 ^ 64
   pub fewer : p .records < 2 ^ 64
   pub told-so-far : toldFrom mark tell ended buf p₀ x₀ ≡ before (take (p .laid) out) (toldFrom mark tell ended buf p x)
   pub further : p₀ .at ≤ p .at
   pub within : 0 < p .laid → (p₀ .at < p .at) × (p .at ≤ length buf)
 
-module _ {S : Type 0} (mark : List ℕ) (tell : ℕ → S → List ℕ → Told S) (ended : Bool) (buf : List ℕ) where
+module _ {S : Type 0} (mark : List (List ℕ)) (tell : ℕ → S → ℕ → List ℕ → Told S) (ended : Bool) (buf : List ℕ) where
   -- it has told nothing yet
   pub stands-first : (out : List ℕ) (a : Ahead) (x : S) → a .place .passed < 2 ^ 64 → a .place .records < 2 ^ 64 → Stands mark tell ended buf (reached a 0) x out (reached a 0) x
   stands-first out a x h k = record { few = h; fewer = k; told-so-far = refl; further = omega arith; within = λ z. absurd (omega arith) }
@@ -84,10 +84,10 @@ module _ {S : Type 0} (mark : List ℕ) (tell : ℕ → S → List ℕ → Told 
           let r = record-within mark ended buf (p .at) refl (d .there) in
           rw (g, d .reached) (omega (arith, r))
 
-      pub stands-behind : {bytes after : List ℕ} {end : ℕ} {q : Place} {y : S} → bytes ≡ body (drop (p .at) buf)
-          → take end after ≡ take (p .laid) out ++ tell (p .records) x bytes .text → y ≡ tell (p .records) x bytes .next → q ≡ reached a end
+      pub stands-behind : {bytes after : List ℕ} {which end : ℕ} {q : Place} {y : S} → which ≡ kind (drop (p .at) buf) → bytes ≡ body (drop (p .at) buf)
+          → take end after ≡ take (p .laid) out ++ tell (p .records) x which bytes .text → y ≡ tell (p .records) x which bytes .next → q ≡ reached a end
           → Stands mark tell ended buf p₀ x₀ after q y
-      stands-behind {bytes} {after} {end} {q} {y} h t k g =
+      stands-behind {bytes} {after} {which} {end} {q} {y} v h t k g =
           let d = passed in
           let r = record-within mark ended buf (p .at) refl (d .there) in
           let l = whole mark ended (p .at) (drop (p .at) buf) (d .there) in
@@ -97,7 +97,7 @@ module _ {S : Type 0} (mark : List ℕ) (tell : ℕ → S → List ℕ → Told 
             few = below _;
             fewer = below _;
             told-so-far = s .told-so-far ∙ ap (before (take (p .laid) out)) (told-on mark tell ended (p .at) (drop (p .at) buf) _ _ x refl (d .there))
-                ∙ rw (← h, drop-drop (recordLength (drop (p .at) buf)) (p .at) buf, ← i, ← l .says, before-before, ← t, ← k);
+                ∙ rw (← v, ← h, drop-drop (recordLength (drop (p .at) buf)) (p .at) buf, ← i, ← l .says, before-before, ← t, ← k);
             further = omega (arith, s .further, r);
             within = λ z. (omega (arith, s .further, r), omega (arith, r));
           })

@@ -16,7 +16,7 @@ use Rattle.program_records.specs.Reading.{canBe, recordLength, missing, foundIn
 use Rattle.program_records.specs.declared.Found.{Found}
 use Rattle.program_records.specs.declared.Found.the-variants as found
 use Rattle.program_streams.specs.Ends.{leftAt}
-use Rattle.program_streams.specs.Walk.{Told, Walked, body, before, stop, andOn, ifRecord, walked, told}
+use Rattle.program_streams.specs.Walk.{Told, Walked, kind, body, before, stop, andOn, ifRecord, walked, told}
 
 -- what is found is no whole record: it is one of the four other cases of `Found`
 abbrev pub NoRecord : Found → Type 0
@@ -54,7 +54,7 @@ module _ {S : Type 0} where
   none-missing true w none = refl
   none-missing false w none = refl
 
-module _ {S : Type 0} (mark : List ℕ) (tell : ℕ → S → List ℕ → Told S) (ended : Bool) where
+module _ {S : Type 0} (mark : List (List ℕ)) (tell : ℕ → S → ℕ → List ℕ → Told S) (ended : Bool) where
   -- no bytes hold no record
   none-there : (k : ℕ) (s : List ℕ) (b n : ℕ) (x : S) → length s ≡ 0 → walked mark tell ended (suc k) s b n x ≡ walked mark tell ended zero s b n x
   unfolding walked foundIn
@@ -72,16 +72,16 @@ module _ {S : Type 0} (mark : List ℕ) (tell : ℕ → S → List ℕ → Told 
   enough (suc k) zero s b n x h i = none-there k s b n x (omega arith)
   enough (suc k) (suc j) s b n x h i =
       same-onward (foundIn mark ended 0 s) _ _ _
-      (λ a c d e. ap (before (tell n x (body s) .text)) (enough k j _ _ _ _ (shorter s k a c d e h) (shorter s j a c d e i)))
+      (λ a c d e. ap (before (tell n x (kind s) (body s) .text)) (enough k j _ _ _ _ (shorter s k a c d e h) (shorter s j a c d e i)))
 
   -- by what is found at the front
   pub by-front : (s : List ℕ) (b n : ℕ) (x : S) → told mark tell ended s b n x
-      ≡ ifRecord (foundIn mark ended 0 s) (andOn (told mark tell ended) s b n (tell n x (body s))) (stop s b n x (leftAt (foundIn mark ended 0 s)))
+      ≡ ifRecord (foundIn mark ended 0 s) (andOn (told mark tell ended) s b n (tell n x (kind s) (body s))) (stop s b n x (leftAt (foundIn mark ended 0 s)))
   unfolding told walked
   by-front s b n x =
       enough (length s) (suc (length s)) s b n x (omega arith) (omega arith)
       ∙ same-onward (foundIn mark ended 0 s) _ _ _
-      (λ a c d e. ap (before (tell n x (body s) .text)) (enough (length s) (length (drop (recordLength s) s)) _ _ _ _ (shorter s (length s) a c d e (omega arith)) (omega arith)))
+      (λ a c d e. ap (before (tell n x (kind s) (body s) .text)) (enough (length s) (length (drop (recordLength s) s)) _ _ _ _ (shorter s (length s) a c d e (omega arith)) (omega arith)))
 
   -- at a place of a buffer
   module _ (at : ℕ) (s : List ℕ) (b n : ℕ) (x : S) {f : Found} (h : f ≡ foundIn mark ended at s) where
@@ -91,7 +91,7 @@ module _ {S : Type 0} (mark : List ℕ) (tell : ℕ → S → List ℕ → Told 
         let e : foundIn mark ended 0 s ≡ f = none-shifts (eqb (length s) 0) (canBe mark s) (ltb (length s) (recordLength s)) ended _ _ _ _ _ _ (rw h at none) ∙ sym h in
         by-front s b n x ∙ rw e (no-record f _ _ none)
 
-    pub told-on : {start len next : ℕ} → f ≡ found.Record start len next → told mark tell ended s b n x ≡ andOn (told mark tell ended) s b n (tell n x (body s))
+    pub told-on : {start len next : ℕ} → f ≡ found.Record start len next → told mark tell ended s b n x ≡ andOn (told mark tell ended) s b n (tell n x (kind s) (body s))
     unfolding ifRecord
     told-on e =
         let w = whole mark ended at s (sym h ∙ e) in

@@ -38,7 +38,7 @@ abbrev pub waiting : Place → Ahead
 waiting p = record { whole = false; full = true; left = More; place = p }
 
 -- what is ahead of a place, where records have a mark, and there is room where no more than `most` bytes are laid
-unfoldable pub aheadOf : List ℕ → Bool → ℕ → List ℕ → Place → Ahead
+unfoldable pub aheadOf : List (List ℕ) → Bool → ℕ → List ℕ → Place → Ahead
 aheadOf mark ended most buf p = cond (leb (p .laid) most) (byFound p (foundIn mark ended (p .at) (drop (p .at) buf))) (waiting p)
 
 -- the place ahead, where so many bytes are laid

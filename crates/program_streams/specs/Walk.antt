@@ -30,6 +30,10 @@ pub record Walked (S : Type 0) : Type 0 where
   pub left : Left
   pub state : S
 
+-- the kind of the record at the front, which is the second byte of its mark
+abbrev pub kind : List ℕ → ℕ
+kind s = getD s 1 0
+
 -- the bytes of the record at the front
 abbrev pub body : List ℕ → List ℕ
 body s = take (getD s 2 0) (drop 3 s)
@@ -67,13 +71,14 @@ module _ {S : Type 0} where
   ifRecord found.Short w none = none
   ifRecord found.End w none = none
 
--- records of a mark, of each of which something is told; `ended` says that no more bytes follow
-module _ {S : Type 0} (mark : List ℕ) (tell : ℕ → S → List ℕ → Told S) (ended : Bool) where
+-- records of a mark, of each of which something is told by its number, what the program has, its kind and its bytes; `ended` says that no more
+-- bytes follow
+module _ {S : Type 0} (mark : List (List ℕ)) (tell : ℕ → S → ℕ → List ℕ → Told S) (ended : Bool) where
   -- at most k records
   unfoldable pub walked : ℕ → List ℕ → ℕ → ℕ → S → Walked S
   walked zero s place n x = stop s place n x (leftAt (foundIn mark ended 0 s))
   walked (suc k) s place n x =
-      ifRecord (foundIn mark ended 0 s) (andOn (walked k) s place n (tell n x (body s)))
+      ifRecord (foundIn mark ended 0 s) (andOn (walked k) s place n (tell n x (kind s) (body s)))
       (stop s place n x (leftAt (foundIn mark ended 0 s)))
 
   -- all that some bytes tell: they hold no more records than bytes
@@ -104,7 +109,7 @@ pub record Kept {S : Type 0} (w : Walked S) (buf : List ℕ) (h : Held) (x : S) 
   pub state : x ≡ w .state
   pub goes : h .going ≡ goesOn (w .left)
 
-module _ {S : Type 0} (mark : List ℕ) (tell : ℕ → S → List ℕ → Told S) where
+module _ {S : Type 0} (mark : List (List ℕ)) (tell : ℕ → S → ℕ → List ℕ → Told S) where
   -- some bytes follow those that wait, none only at the end of the input, and all that they complete is told
   abbrev pub Stepped : List ℕ → Held → S → List ℕ → Held → S → Type 0
   Stepped buf h x after k y = (got : List ℕ) × Kept (told mark tell (eqb (length got) 0) (take (h .have) buf ++ got) (h .passed) (h .records) x) after k y

@@ -8,7 +8,7 @@ ghost use Rattle.program_records.specs.Moved.{Moved, between};
 ghost use Rattle.program_text.specs.Laid.{Laid};
 ghost use Rattle.program_streams.specs.Ends.{leftAt, goesOn, lastLine};
 ghost use Rattle.program_streams.specs.Ahead.{pastRecord, waiting, aheadOf, reached, withLaid, frontOf, heldAt, nothingRead};
-ghost use Rattle.program_streams.specs.Walk.{body};
+ghost use Rattle.program_streams.specs.Walk.{kind, body};
 use program_records::Found;
 use program_records::byte_at;
 use program_records::part;
@@ -110,10 +110,10 @@ fn place_behind(place: Place, len: usize, next: usize) -> Place
     }
 }
 
-// What is ahead of a place in a buffer, where a record's mark is CC and `second`; `ended` says that no more bytes follow those of the buffer. There is
-// room for what a record tells where no more than `most` bytes are laid.
-pub fn look(buf: &[u8], place: Place, ended: bool, second: u8, most: usize) -> Ahead
-    ensures { λ r. ⌜ r ≡ aheadOf (0xCC ∷ second ∷ []) ended most (now (buf .entry)) place ⌝ }
+// What is ahead of a place in a buffer, where a record's mark is CC and then one of `kinds`; `ended` says that no more bytes follow those of the
+// buffer. There is room for what a record tells where no more than `most` bytes are laid.
+pub fn look(buf: &[u8], place: Place, ended: bool, kinds: &[u8], most: usize) -> Ahead
+    ensures { λ r. ⌜ r ≡ aheadOf ((0xCC ∷ []) ∷ now (kinds .entry) ∷ []) ended most (now (buf .entry)) place ⌝ }
 {
     if most < place.laid {
         return Ahead {
@@ -123,7 +123,7 @@ pub fn look(buf: &[u8], place: Place, ended: bool, second: u8, most: usize) -> A
             place,
         };
     }
-    let found = program_records::next_record(buf, place.at, ended, 0xCC, second);
+    let found = program_records::next_record(buf, place.at, ended, 0xCC, kinds);
     let Found::Record {
         start: _,
         len,
@@ -145,6 +145,14 @@ pub fn look(buf: &[u8], place: Place, ended: bool, second: u8, most: usize) -> A
         left: Left::More,
         place,
     }
+}
+
+// The kind of the record at a place, which is the second byte of its mark; 0 where that is not there.
+pub fn kind_at(buf: &[u8], at: usize) -> u8
+    ensures { λ r. ⌜ r ≡ kind (drop at (now (buf .entry))) ⌝ }
+{
+    let rest = part(buf, at, buf.len());
+    byte_at(rest, 1)
 }
 
 // The bytes of the record at a place, as far as they are there.

@@ -30,30 +30,34 @@ loop-holds c =
 look-requires : tie.Need-look-requires Inv-loop μ-loop
 look-requires c κs = search needs
 
+kind-at-requires : tie.Need-kind-at-requires Inv-loop μ-loop
+kind-at-requires c κs = search needs
+
 body-at-requires : tie.Need-body-at-requires Inv-loop μ-loop
 body-at-requires c κs = search needs
 
 put-record-requires : tie.Need-put-record-requires Inv-loop μ-loop
-put-record-requires c κs = let r = has-room mark tell _ _ (c .before .before .before .before .loop .inv .1) _ (c .before .before .before .look .ensures) (c .before .before .if1 .taken) in search needs
+put-record-requires c κs = let r = has-room mark tell _ _ (c .before .before .before .before .before .loop .inv .1) _ (c .before .before .before .before .look .ensures) (c .before .before .before .if1 .taken) in search needs
 
 onward-requires-2 : tie.Need-onward-requires-2 Inv-loop μ-loop
 onward-requires-2 c κs = search needs
 
 loop-less : tie.Need-loop-less Inv-loop μ-loop
 loop-less c =
-    let l = c .before .before .before .before .before .before .before .before .before .loop in
-    let e = c .before .before .before .before .before .before .before .before .look .ensures in
-    let w = c .before .before .before .before .before .before .before .if1 .taken in
+    let l = c .before .before .before .before .before .before .before .before .before .before .loop in
+    let e = c .before .before .before .before .before .before .before .before .before .look .ensures in
+    let w = c .before .before .before .before .before .before .before .before .if1 .taken in
     less-left mark tell _ _ (l .inv .1) _ e w (c .onward2 .ensures)
 
 loop-again : tie.Need-loop-again Inv-loop μ-loop
 loop-again c =
-    let l = c .before .before .before .before .before .before .before .before .before .loop in
-    let e = c .before .before .before .before .before .before .before .before .look .ensures in
-    let w = c .before .before .before .before .before .before .before .if1 .taken in
+    let l = c .before .before .before .before .before .before .before .before .before .before .loop in
+    let e = c .before .before .before .before .before .before .before .before .before .look .ensures in
+    let w = c .before .before .before .before .before .before .before .before .if1 .taken in
     let p = c .before .before .before .before .put-record .ensures in
+    let k = c .before .before .before .before .before .before .kind-at .ensures in
     let f = c .before .before .before .before .before .body-at .ensures in
-    (search needs, stands-behind mark tell _ _ (l .inv .1) _ e w f (whole-taken (p .0) (omega (arith, has-room mark tell _ _ (l .inv .1) _ e w))) (p .1) (c .onward2 .ensures))
+    (search needs, stands-behind mark tell _ _ (l .inv .1) _ e w k f (whole-taken (p .0) (omega (arith, has-room mark tell _ _ (l .inv .1) _ e w))) (p .1) (c .onward2 .ensures))
 
 put-last-requires : tie.Need-put-last-requires Inv-loop μ-loop
 put-last-requires c κs = search needs
@@ -82,6 +86,7 @@ drain-spec =
     onward-requires
     loop-holds
     look-requires
+    kind-at-requires
     body-at-requires
     put-record-requires
     onward-requires-2

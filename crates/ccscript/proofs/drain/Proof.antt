@@ -53,7 +53,7 @@ loop-again c =
     let w = c .before .before .before .before .before .before .before .if1 .taken in
     let p = c .before .before .before .before .put-record .ensures in
     let f = c .before .before .before .before .before .body-at .ensures in
-    (search needs, stands-behind mark tell _ _ (l .inv .1) _ e w f (p .0) (p .1) (c .onward2 .ensures))
+    (search needs, stands-behind mark tell _ _ (l .inv .1) _ e w refl f (p .0) (p .1) (c .onward2 .ensures))
 
 put-last-requires : tie.Need-put-last-requires Inv-loop μ-loop
 put-last-requires c κs = search needs

@@ -19,11 +19,14 @@ sub-if3 c = search needs
 returns-3 : tie.Need-returns-3
 returns-3 c = search (needs, mark-half)
 
-add-result : tie.Need-add-result
-add-result c = search needs
+add-is-among : tie.Need-add-is-among
+add-is-among c = search needs
 
-shared-slice-read-result : tie.Need-shared-slice-read-result
-shared-slice-read-result c = search needs
+shared-slice-read-is-among : tie.Need-shared-slice-read-is-among
+shared-slice-read-is-among c = search needs
+
+is-among-requires : tie.Need-is-among-requires
+is-among-requires c κs = search needs
 
 returns-4 : tie.Need-returns-4
 returns-4 c = search (needs, mark-whole)
@@ -37,6 +40,7 @@ can-be-mark-spec =
     returns-2
     sub-if3
     returns-3
-    add-result
-    shared-slice-read-result
+    add-is-among
+    shared-slice-read-is-among
+    is-among-requires
     returns-4)

@@ -31,10 +31,10 @@ shared-slice-read-len : tie.Need-shared-slice-read-len
 shared-slice-read-len c = search needs
 
 cast-len : tie.Need-cast-len
-cast-len c = omega (arith, c .shared-slice-known2 .given (c .before .before .before .before .before .before .args .at + 2))
+cast-len c = omega (arith, c .shared-slice-known3 .given (c .before .before .before .before .before .before .before .args .at + 2))
 
 add-if5 : tie.Need-add-if5
-add-if5 c = omega (arith, c .shared-slice-known2 .given (c .before .before .before .before .before .before .args .at + 2))
+add-if5 c = omega (arith, c .shared-slice-known3 .given (c .before .before .before .before .before .before .before .args .at + 2))
 
 unfinished-requires-2 : tie.Need-unfinished-requires-2
 unfinished-requires-2 c κs = search needs

@@ -22,9 +22,9 @@ returns-2 c = none-ahead _ _ _ _ (c .before .before .before .if1 .left) (c .befo
 
 place-behind-requires : tie.Need-place-behind-requires
 place-behind-requires c κs =
-    let p = c .before .before .before .before .before .before .before .args .place in
+    let p = c .before .before .before .before .before .before .before .before .args .place in
     let w = record-within _ _ _ (p .at) (c .before .before .before .next-record .ensures) (c .before .found .given .1) in
-    search (needs, c .before .before .before .before .before .before .before .good)
+    search (needs, c .before .before .before .before .before .before .before .before .good)
 
 returns-3 : tie.Need-returns-3
 returns-3 c =
