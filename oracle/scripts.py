@@ -905,7 +905,7 @@ def endings():
     """Input whose last record is cut short or has a wrong mark, as bytes."""
     whole = b"".join(map(encode, [("m",), ("b", 7), ("o", 3)]))
     yield "input that ends within a record", [whole[:n] for n in range(len(whole) + 1)]
-    marks = [b"\xCC", b"\xCD", b"\xCC\x5D", b"\xCC\xDA\x00", b"\x5C\xCC\x01m", b"\x00\x00\x00\x00", b"\xCC\x5C\xFFm"]
+    marks = [b"\xCC", b"\xCD", b"\xCC\x5D", b"\xCC\xDA\x00", b"\xCC\xCD\x00", b"\x5C\xCC\x01m", b"\x00\x00\x00\x00", b"\xCC\x5C\xFFm"]
     yield "input with a wrong mark", [before + mark for before in (b"", whole) for mark in marks]
 
 def encode(op):
