@@ -1,5 +1,5 @@
 """Operations with the lines that the rule book (docs/RULES.md) asks for: its examples, the true count, the carrying mode, the services of a
-packet, codes, and raw fields set by `B`, `K`, `Z`, `D`, `Q` and `C`.
+packet, codes, distribution packets, and raw fields set by `B`, `K`, `Z`, `D`, `Q` and `C`.
 
 What follows a raw field is derived from the rules and not from the crate, whose fields are private: a value within the
 limits is what its fields say, and every call on another is refused with 11 before anything else.
@@ -497,6 +497,173 @@ CODES_RAW = [
     (("G",), "ok 2"),
 ]
 
+def bare(counter):
+    """A distribution packet of no triples at 30000/1001. Without its counters and its last byte it sums to 868, which is 100 above three times
+    256, so that with 156 and no counter the sum is 0."""
+    high, low = divmod(counter, 256)
+    return [0x96, 0x69, 13, 0x4F, 0x43, high, low, 0x72, 0xE0, 0x74, high, low, (156 - 2 * (high + low)) % 256]
+
+
+def behind(last, *ways):
+    """A fresh reader takes a counter, and then packets that lie so far ahead of it, each beside whether it is newer than what was accepted."""
+    yield ("X",), "ok"
+    yield ("<", bare(last)), f"ok 4 {last} C0FF"
+    for way, newer in ways:
+        counter = (last + way) % 65536
+        yield ("<", bare(counter)), f"ok 4 {counter} C0FF" if newer else "refused 20"
+
+
+PAIR_AND_START = "FC 94 2C FF 02 21"
+TWO = data("C2 FF" + PAIR_AND_START)
+
+DISTRIBUTION = [
+    # written, and the counter moves on; what stands behind the packet stays; read back in order, and once
+    (("X",), "ok"),
+    (("Y", 0, 0), "ok"),
+    ((">", 4, 20, TWO), out("96 69 13 4F 43 00 00 72 E2 FC 94 2C FF 02 21 74 00 00 B6", 20)),
+    ((">", 4, 19, TWO), out("96 69 13 4F 43 00 01 72 E2 FC 94 2C FF 02 21 74 00 01 B4", 19)),
+    ((">", 8, 13, data("C0 FF")), out("96 69 0D 8F 43 00 02 72 E0 74 00 02 58", 13)),
+    ((">", 4, 106, data("DF FF" + "FA 00 00" * 31)), out("96 69 6A 4F 43 00 03 72 FF" + "FA 00 00" * 31 + "74 00 03 D4", 106)),
+    (("<", data("96 69 13 4F 43 00 00 72 E2 FC 94 2C FF 02 21 74 00 00 B6")), "ok 4 0 C2FFFC942CFF0221"),
+    (("<", data("96 69 13 4F 43 00 01 72 E2 FC 94 2C FF 02 21 74 00 01 B4")), "ok 4 1 C2FFFC942CFF0221"),
+    (("<", data("96 69 13 4F 43 00 01 72 E2 FC 94 2C FF 02 21 74 00 01 B4")), "refused 20"),
+    (("<", data("96 69 0D 8F 43 00 02 72 E0 74 00 02 58")), "ok 8 2 C0FF"),
+    (("<", data("96 69 6A 4F 43 00 03 72 FF" + "FA 00 00" * 31 + "74 00 03 D4")), "ok 4 3 DFFF" + "FA0000" * 31),
+    (("<", data("96 69 13 4F 43 00 00 72 E2 FC 94 2C FF 02 21 74 00 00 B6")), "refused 20"),
+    (("X",), "ok"),
+    (("<", data("96 69 13 4F 43 00 00 72 E2 FC 94 2C FF 02 21 74 00 00 B6")), "ok 4 0 C2FFFC942CFF0221"),
+    # 16: no bytes, one, another first or second byte; behind a right mark it is 17
+    (("X",), "ok"),
+    (("<", []), "refused 16"),
+    (("<", data("96")), "refused 16"),
+    (("<", data("96 69")), "refused 17"),
+    (("<", data("97 69 0D 4F 43 00 00 72 E0 74 00 00 9B")), "refused 16"),
+    (("<", data("96 68 0D 4F 43 00 00 72 E0 74 00 00 9D")), "refused 16"),
+    (("<", data("69 96 0D 4F 43 00 00 72 E0 74 00 00 9C")), "refused 16"),
+    # 17, lengths: what the length's byte says, one byte fewer or more; the fewest bytes, and one fewer; a byte that belongs to no triple
+    (("<", data("96 69 0C 4F 43 00 00 72 E0 74 00 00 9D")), "refused 17"),
+    (("<", data("96 69 0E 4F 43 00 00 72 E0 74 00 00 9B")), "refused 17"),
+    (("<", data("96 69 0D 4F 43 00 00 72 E0 74 00 00")), "refused 17"),
+    (("<", data("96 69 0D 4F 43 00 00 72 E0 74 00 00 9C 00")), "refused 17"),
+    (("<", data("96 69 0C 4F 43 00 00 72 74 00 00 7D")), "refused 17"),
+    (("<", data("96 69 0E 4F 43 00 00 72 E0 00 74 00 00 9B")), "refused 17"),
+    # 17, the count: one fewer and one more than there are triples
+    (("<", data("96 69 13 4F 43 00 00 72 E1 FC 94 2C FF 02 21 74 00 00 B7")), "refused 17"),
+    (("<", data("96 69 13 4F 43 00 00 72 E3 FC 94 2C FF 02 21 74 00 00 B5")), "refused 17"),
+    # 17, the rate codes 0, 9 and 15; 1 to 8 are taken
+    (("<", data("96 69 0D 0F 43 00 00 72 E0 74 00 00 DC")), "refused 17"),
+    (("<", data("96 69 0D 9F 43 00 00 72 E0 74 00 00 4C")), "refused 17"),
+    (("<", data("96 69 0D FF 43 00 00 72 E0 74 00 00 EC")), "refused 17"),
+    (("<", data("96 69 0D 1F 43 00 00 72 E0 74 00 00 CC")), "ok 1 0 C0FF"),
+    (("<", data("96 69 0D 2F 43 00 01 72 E0 74 00 01 BA")), "ok 2 1 C0FF"),
+    (("<", data("96 69 0D 3F 43 00 02 72 E0 74 00 02 A8")), "ok 3 2 C0FF"),
+    (("<", data("96 69 0D 4F 43 00 03 72 E0 74 00 03 96")), "ok 4 3 C0FF"),
+    (("<", data("96 69 0D 5F 43 00 04 72 E0 74 00 04 84")), "ok 5 4 C0FF"),
+    (("<", data("96 69 0D 6F 43 00 05 72 E0 74 00 05 72")), "ok 6 5 C0FF"),
+    (("<", data("96 69 0D 7F 43 00 06 72 E0 74 00 06 60")), "ok 7 6 C0FF"),
+    (("<", data("96 69 0D 8F 43 00 07 72 E0 74 00 07 4E")), "ok 8 7 C0FF"),
+    # 17, the flags 80 and 20 alone; a time code section and service information, with their flags and without; the two section marks
+    (("X",), "ok"),
+    (("<", data("96 69 0D 4F C3 00 00 72 E0 74 00 00 1C")), "refused 17"),
+    (("<", data("96 69 0D 4F 63 00 00 72 E0 74 00 00 7C")), "refused 17"),
+    (("<", data("96 69 12 4F C3 00 00 71 C1 82 03 04 72 E0 74 00 00 5C")), "refused 17"),
+    (("<", data("96 69 12 4F 43 00 00 71 C1 82 03 04 72 E0 74 00 00 DC")), "refused 17"),
+    (("<", data("96 69 0F 4F 63 00 00 72 E0 73 80 74 00 00 87")), "refused 17"),
+    (("<", data("96 69 0F 4F 43 00 00 72 E0 73 80 74 00 00 A7")), "refused 17"),
+    (("<", data("96 69 0D 4F 43 00 00 71 E0 74 00 00 9D")), "refused 17"),
+    (("<", data("96 69 0D 4F 43 00 00 73 E0 74 00 00 9B")), "refused 17"),
+    (("<", data("96 69 0D 4F 43 00 00 72 E0 75 00 00 9B")), "refused 17"),
+    # what goes unread: the other flags, all and none of them; the lower half of the rate's byte; the upper three bits beside the count
+    (("<", data("96 69 0D 4F 5F 00 00 72 E0 74 00 00 80")), "ok 4 0 C0FF"),
+    (("X",), "ok"),
+    (("<", data("96 69 0D 4F 00 00 00 72 E0 74 00 00 DF")), "ok 4 0 C0FF"),
+    (("X",), "ok"),
+    (("<", data("96 69 0D 40 43 00 00 72 E0 74 00 00 AB")), "ok 4 0 C0FF"),
+    (("X",), "ok"),
+    (("<", data("96 69 0D 4F 43 00 00 72 00 74 00 00 7C")), "ok 4 0 C0FF"),
+    (("X",), "ok"),
+    (("<", data("96 69 13 4F 43 00 00 72 42 FC 94 2C FF 02 21 74 00 00 56")), "ok 4 0 C2FFFC942CFF0221"),
+    # 18: the last byte is in the sum; one less, one more, 0, and the sum of the others itself; with others that sum to 0 it is 0
+    (("X",), "ok"),
+    (("<", data("96 69 0D 4F 43 00 00 72 E0 74 00 00 9B")), "refused 18"),
+    (("<", data("96 69 0D 4F 43 00 00 72 E0 74 00 00 9D")), "refused 18"),
+    (("<", data("96 69 0D 4F 43 00 00 72 E0 74 00 00 00")), "refused 18"),
+    (("<", data("96 69 0D 4F 43 00 00 72 E0 74 00 00 64")), "refused 18"),
+    (("<", data("96 69 10 4F 43 00 00 72 E1 98 00 00 74 00 00 00")), "ok 4 0 C1FF980000"),
+    (("X",), "ok"),
+    (("<", data("96 69 0D 4F 43 00 00 72 E0 74 00 00 9C")), "ok 4 0 C0FF"),
+    # 19: another counter behind 74, in its lower and in its higher byte, and the two bytes the other way round
+    (("X",), "ok"),
+    (("<", data("96 69 0D 4F 43 00 00 72 E0 74 00 01 9B")), "refused 19"),
+    (("<", data("96 69 0D 4F 43 00 00 72 E0 74 01 00 9B")), "refused 19"),
+    (("<", data("96 69 0D 4F 43 01 00 72 E0 74 00 01 9A")), "refused 19"),
+    (("<", data("96 69 0D 4F 43 01 00 72 E0 74 01 00 9A")), "ok 4 256 C0FF"),
+    # 20: none of the refused ones above was taken for the last; newer is 1 to 32,767 ahead, and a refused one leaves what was last
+    (("X",), "ok"),
+    (("<", data("96 69 0D 4F 43 00 07 72 E0 74 00 08 8D")), "refused 19"),
+    (("<", data("96 69 0D 4F 43 00 07 72 E0 74 00 07 8F")), "refused 18"),
+    (("<", bare(7)), "ok 4 7 C0FF"),
+    *behind(0, (0, False), (32768, False), (32769, False), (65535, False), (32767, True)),
+    *behind(0, (32768, False), (1, True), (32768, True), (1, False), (0, False)),
+    *behind(1, (65535, False), (32768, False), (32767, True)),
+    *behind(32767, (32768, False), (32767, True)),
+    *behind(32768, (0, False), (32768, False), (65535, False), (32767, True)),
+    *behind(65534, (0, False), (1, True), (2, True), (3, True), (2, False), (32771, False), (32770, True)),
+    *behind(65535, (0, False), (65535, False), (32768, False), (1, True), (1, False), (0, False)),
+    *behind(65535, (32767, True)),
+    # the order: all wrong; all but the mark; then the sum, the counters and an old counter; the last two; the last
+    (("X",), "ok"),
+    (("<", bare(5)), "ok 4 5 C0FF"),
+    (("<", data("97 69 0D 0F C3 00 05 72 E0 74 00 06 00")), "refused 16"),
+    (("<", data("96 69 0D 0F C3 00 05 72 E0 74 00 06 00")), "refused 17"),
+    (("<", data("96 69 0D 4F 43 00 05 72 E0 74 00 06 00")), "refused 18"),
+    (("<", data("96 69 0D 4F 43 00 05 72 E0 74 00 06 91")), "refused 19"),
+    (("<", data("96 69 0D 4F 43 00 05 72 E0 74 00 05 00")), "refused 18"),
+    (("<", data("96 69 0D 4F 43 00 05 72 E0 74 00 05 92")), "refused 20"),
+    (("<", bare(6)), "ok 4 6 C0FF"),
+    # writing, 17: no frame, one byte, a byte fewer and more, a count that is not the triples'; the rate codes 0 and 9; before 9
+    (("Y", 0, 7), "ok"),
+    ((">", 4, 2, []), "refused 17 A5A5"),
+    ((">", 4, 2, data("C0")), "refused 17 A5A5"),
+    ((">", 4, 2, TWO[:-1]), "refused 17 A5A5"),
+    ((">", 4, 2, TWO + [0]), "refused 17 A5A5"),
+    ((">", 4, 2, data("C1 FF" + PAIR_AND_START)), "refused 17 A5A5"),
+    ((">", 4, 2, data("C3 FF" + PAIR_AND_START)), "refused 17 A5A5"),
+    ((">", 0, 19, TWO), "refused 17 " + FILL * 19),
+    ((">", 9, 19, TWO), "refused 17 " + FILL * 19),
+    ((">", 0, 0, []), "refused 17 -"),
+    # 9: an output that is one byte too short; none at all
+    ((">", 4, 18, TWO), "refused 9 19 " + FILL * 18),
+    ((">", 4, 0, data("C0 FF")), "refused 9 13 -"),
+    # no refused write has moved the counter; of the frame's first two bytes only the count is looked at
+    ((">", 4, 13, data("C0 FF")), out("96 69 0D 4F 43 00 07 72 E0 74 00 07 8E", 13)),
+    ((">", 4, 13, data("00 00")), out("96 69 0D 4F 43 00 08 72 E0 74 00 08 8C", 13)),
+    ((">", 1, 19, data("22 41" + PAIR_AND_START)), out("96 69 13 1F 43 00 09 72 E2 FC 94 2C FF 02 21 74 00 09 D4", 19)),
+    # behind 65,535 comes 0
+    (("Y", 0xFF, 0xFE), "ok"),
+    ((">", 4, 13, data("C0 FF")), out("96 69 0D 4F 43 FF FE 72 E0 74 FF FE A2", 13)),
+    ((">", 4, 12, data("C0 FF")), "refused 9 13 " + FILL * 12),
+    ((">", 4, 13, data("C0 FF")), out("96 69 0D 4F 43 FF FF 72 E0 74 FF FF A0", 13)),
+    ((">", 4, 13, data("C0 FF")), out("96 69 0D 4F 43 00 00 72 E0 74 00 00 9C", 13)),
+    # a fresh reader leaves the writer, and the writer's counter the reader
+    (("X",), "ok"),
+    ((">", 4, 13, data("C0 FF")), out("96 69 0D 4F 43 00 01 72 E0 74 00 01 9A", 13)),
+    (("<", bare(65534)), "ok 4 65534 C0FF"),
+    (("Y", 0, 0), "ok"),
+    (("<", bare(65534)), "refused 20"),
+    (("<", bare(65535)), "ok 4 65535 C0FF"),
+    # another number of argument bytes
+    (("raw", [0x58, 0]), "bad"),
+    (("raw", [0x59]), "bad"),
+    (("raw", [0x59, 0]), "bad"),
+    (("raw", [0x59, 0, 0, 0]), "bad"),
+    (("raw", [0x3E]), "bad"),
+    (("raw", [0x3E, 4]), "bad"),
+    (("raw", [0x3E, 4, 1]), "refused 17 A5"),
+    (("<", bare(65535)), "refused 20"),
+    ((">", 4, 13, data("C0 FF")), out("96 69 0D 4F 43 00 00 72 E0 74 00 00 9C", 13)),
+]
+
 RAW = [
     # a block: a number above 63, a length above 31, block 0 with payload
     (("b", 1), "ok"),
@@ -620,15 +787,20 @@ RAW = [
 ]
 
 
+# What an accepted operation of those inputs prints, where it is more than `ok`.
+TOLD = {"< 96 69 0D 4F 43 00 07 72 E0 74 00 07 8E": "ok 4 7 C0FF"}
+
+
 def refusals():
     """The inputs of docs/REFUSALS.md, each record with the line that it is answered with: all but the last of an input are accepted."""
     with open(os.path.join(os.path.dirname(os.path.abspath(__file__)), "../docs/REFUSALS.md")) as file:
         inputs = re.findall(r"^- \*\*Input\*\*: (.*) prints `([^`]*)`$", file.read(), re.M)
     for operations, line in inputs:
-        words = [operation.split(" ") for operation in re.findall(r"`([^`]*)`", operations)]
-        for i, (letter, *numbers) in enumerate(words):
+        words = re.findall(r"`([^`]*)`", operations)
+        for i, operation in enumerate(words):
+            letter, *numbers = operation.split(" ")
             record = letter.encode() + bytes(int(number, 16) for number in numbers)
-            yield ("raw", record), line if i == len(words) - 1 else "ok"
+            yield ("raw", record), line if i == len(words) - 1 else TOLD.get(operation, "ok")
 
 
 REFUSALS = list(refusals())

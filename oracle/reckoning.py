@@ -1,9 +1,10 @@
-"""A second reckoning of `ccscript`'s readers of blocks and packets, of its codes and of its multiplexer, with its carrying mode and its true
-count: the lines that a script has to print.
+"""A second reckoning of `ccscript`'s readers of blocks and packets, of its codes, of its multiplexer, with its carrying mode and its true
+count, and of its distribution packets: the lines that a script has to print.
 
 It is written from the rules (docs/RULES.md, whose numbers stand in square brackets), with exact fractions. What a frame
 gets in the carrying mode is the difference of two sums, what is due up to it and what was due before it; no rest is handed
-on from write to write. Codes are found by one pattern, and no length is looked up. A value is never changed: a call that
+on from write to write. Codes are found by one pattern, and no length is looked up. A distribution packet is set beside the one
+that would be written of what it says, and the least of all reasons against it is told. A value is never changed: a call that
 is accepted gives a new one, one that is refused gives none.
 
 `answers(records)` takes the records of a script without mark and length. It knows the operations in OPERATIONS.
@@ -311,15 +312,80 @@ def durations(mux):
     return ceil(len(mux.field1) * pair), ceil(len(mux.field2) * pair), ceil((size + 1) // 2 * two_bytes)
 
 
+# Distribution packets
+
+
+class Distribution(NamedTuple):
+    """The counter that the reader accepted last, if there is one, and the counter that the writer gives next."""
+
+    last: int | None = None
+    following: int = 0
+
+
+MARK = b"\x96\x69"
+RATE_CODES = range(1, 9)
+DISTRIBUTION_SIZES = range(13, 107, 3)
+# The bits of the rate's byte, of the flags and of the count's byte that go unread, as they are written, by the byte's place.
+UNREAD = {3: (0x0F, 0x0F), 4: (0x5F, 0x43), 8: (0xE0, 0xE0)}
+
+
+def distribution_packet(code, counter, triples):
+    """The packet that is written of these."""
+    twice = counter.to_bytes(2, "big")
+    front = MARK + bytes([13 + len(triples), 16 * code + 15, 0x43]) + twice
+    data = front + bytes([0x72, 0xE0 + len(triples) // 3]) + triples + b"\x74" + twice
+    return data + bytes([-sum(data) % 256])
+
+
+def differing(data, code, counter):
+    """The places, but for the last byte, at which a packet of a possible size is not the one that is written of what it says."""
+    written = distribution_packet(code, counter, data[9:-4])
+    seen = bytearray(data)
+    for place, (bits, usual) in UNREAD.items():
+        seen[place] = seen[place] & ~bits | usual
+    return {place for place in range(len(data) - 1) if seen[place] != written[place]}
+
+
+def newer(counter, last):
+    """Whether the way from the last counter, as a signed number of 16 bits, goes ahead."""
+    way = (counter - last) % 2**16
+    return int.from_bytes(way.to_bytes(2, "big"), "big", signed=True) > 0
+
+
+def read_distribution(state, data):
+    """The code, the counter and the frame of a packet, and the state behind it."""
+    refuse_if(data[:2] != MARK, 16)
+    refuse_if(len(data) not in DISTRIBUTION_SIZES or data[3] // 16 not in RATE_CODES, 17)
+    code, counter, behind = data[3] // 16, data[5] * 256 + data[6], {len(data) - 3, len(data) - 2}
+    wrong = differing(data, code, counter)
+    reasons = {17} if wrong - behind else set()
+    reasons |= {19} if wrong & behind else set()
+    reasons |= {18} if sum(data) % 256 else set()
+    reasons |= {20} if state.last is not None and not newer(counter, state.last) else set()
+    refuse_if(reasons, *sorted(reasons)[:1])
+    frame = bytes([0xC0 + len(data[9:-4]) // 3, 0xFF]) + data[9:-4]
+    return code, counter, frame, state._replace(last=counter)
+
+
+def write_distribution(state, code, frame):
+    """The packet of a frame, and the state behind it."""
+    said = [(first % 32, 0) for first in frame[:1]]
+    refuse_if(code not in RATE_CODES or said != [divmod(len(frame) - 2, 3)], 17)
+    return distribution_packet(code, state.following, frame[2:]), state._replace(following=(state.following + 1) % 2**16)
+
+
 # The operations
 
 ANY = range(255)
-# By letter, how many argument bytes: the calls on the multiplexer, those on blocks, packets and payloads, and all. `R` is of the demultiplexer,
-# which is not reckoned.
+# By letter, how many argument bytes: the calls on the multiplexer, those on blocks, packets and payloads, those on distribution packets, and
+# all. `R` is of the demultiplexer, which is not reckoned.
 CALLS = {"S": [1], "q": [0], "1": [2], "2": [2], "w": [9], "u": [0], "x": [0]}
 VALUES = {"b": [1], "c": ANY, "d": ANY, "p": ANY, "t": ANY, "k": [1], "v": [0], "a": ANY[1:], "g": ANY, "G": [0]}
-OPERATIONS = {**VALUES, "R": [0], "W": [0], "C": [16], **CALLS}
-FRESH = Block(1), Packet(0), Multiplexer()
+DISTRIBUTIONS = {"X": [0], "<": ANY, "Y": [2], ">": ANY[2:]}
+OPERATIONS = {**VALUES, "R": [0], "W": [0], "C": [16], **CALLS, **DISTRIBUTIONS}
+FRESH = Block(1), Packet(0), Multiplexer(), Distribution()
+# Where among the arguments the length of a lent output stands.
+LENT = {"w": 8, ">": 1}
 
 
 def numbers(args):
@@ -336,36 +402,50 @@ def output(length):
     return b"\xA5" * length
 
 
+def put(data, length):
+    """What is told of bytes that are written to a lent output of this length."""
+    refuse_if(len(data) > length, 9, len(data))
+    return len(data), hexed(data + output(length - len(data)))
+
+
 def carry_out(state, letter, args):
     """The state behind an operation, and the values that it tells."""
-    s, p, w = state
+    s, p, w, x = state
+    values = ()
     refuse_if(letter in CALLS and not w.sum.within(), 11)
     match letter:
         case "b": s = new_block(args[0])
         case "c": s = push_to_block(s, args)
         case "d":
             s, _ = read_block(args)
-            return (s, p, w), (s.number, hexed(s.payload))
+            values = s.number, hexed(s.payload)
         case "p" | "t":
             p = read_packet(args, letter == "t")
-            return (s, p, w), (p.sequence, *(f"{number}:{hexed(payload)}" for number, payload in p.blocks))
+            values = p.sequence, *(f"{number}:{hexed(payload)}" for number, payload in p.blocks)
         case "k": p = new_packet(args[0])
         case "v": p = push_block(p, s)
         case "a": p = push_run(p, args[0], args[1:])
-        case "g": return state, code_lengths(args)
-        case "G": return state, code_counts(p)
+        case "g": values = code_lengths(args)
+        case "G": values = code_counts(p)
         case "W": w = Multiplexer()
         case "S": w = switch(w, args[0])
         case "q": w = push_packet(w, p)
         case "1" | "2": w = push_pair(w, int(letter), args)
         case "x": w = flush(w)
         case "C": w = w._replace(sum=Sum(*numbers(args)))
-        case "u": return state, durations(w)
+        case "u": values = durations(w)
         case "w":
             frame, w = write(w, *numbers(args[:8]))
-            refuse_if(len(frame) > args[8], 9, len(frame))
-            return (s, p, w), (len(frame), hexed(frame + output(args[8] - len(frame))))
-    return (s, p, w), ()
+            values = put(frame, args[8])
+        case "X": x = x._replace(last=None)
+        case "Y": x = x._replace(following=args[0] * 256 + args[1])
+        case "<":
+            code, counter, frame, x = read_distribution(x, args)
+            values = code, counter, hexed(frame)
+        case ">":
+            packet, x = write_distribution(x, args[0], args[2:])
+            values = put(packet, args[1])
+    return (s, p, w, x), values
 
 
 def answer(state, record):
@@ -378,8 +458,8 @@ def answer(state, record):
         words = ["ok", *values]
     except Refused as refusal:
         words = ["refused", *refusal.args]
-        if letter == "w":
-            words.append(hexed(output(args[8])))
+        if letter in LENT:
+            words.append(hexed(output(args[LENT[letter]])))
     return " ".join(map(str, words)), state
 
 

@@ -8,7 +8,7 @@ CRATE = [os.path.join(HERE, "target/release/ccscript")]
 RUN = os.path.join(ROOT, "run")
 PORT = [RUN, "--built", "ccscript"]
 # Scripts are run many at a time, each behind the operations that make everything fresh.
-FRESH = [("b", 1), ("k", 0), ("R",), ("W",)]
+FRESH = [("b", 1), ("k", 0), ("R",), ("W",), ("X",), ("Y", 0, 0)]
 
 
 def lines(program, script):

@@ -2,8 +2,9 @@
 
 An operation is a tuple of its letter and its arguments, or of "raw" and a record's bytes; a script is a list of operations.
 `generate(seed, written)` gives each kind with its scripts, `generate_reading(seed)` those of reading and `generate_codes(seed)`
-those of codes that the reckoning knows too, and `generate_carrying(seed)` those of the carrying mode, which the crate does not
-have. `generate_counting` and `generate_carrying_counting` give those with writes once more, with the true count.
+those of codes that the reckoning knows too, `generate_distribution(seed)` those of distribution packets, and
+`generate_carrying(seed)` those of the carrying mode, which the crate does not have. `generate_counting` and
+`generate_carrying_counting` give those with writes once more, with the true count.
 """
 import random, itertools
 R = random.Random()
@@ -674,6 +675,226 @@ def read_whole(frames):
     """Frames given to a demultiplexer, which is emptied after each."""
     return [("H",)] + [op for f in frames for op in [("f", list(f))] + [("n",)] * (len(f) // 3 + 1)]
 
+# Caption distribution packets
+
+def two(counter): return [counter >> 8 & 255, counter & 255]
+
+def distribution(counter, triples, code=4, flags=0x43, before=(), behind=(), again=None):
+    """A distribution packet; with other flags, bytes before and behind its section of triples, or another counter behind that."""
+    body = [*before, 0x72, 0xE0 + len(triples) // 3, *triples, *behind]
+    d = [0x96, 0x69, 11 + len(body) & 255, code << 4 | 15, flags, *two(counter), *body, 0x74, *two(counter if again is None else again)]
+    return mended(d + [0])
+
+def mended(d):
+    """The bytes with a last one that makes the sum right."""
+    return d[:-1] + [-sum(d[:-1]) % 256]
+
+def changed(d, at, value): return d[:at] + [value] + d[at + 1:]
+
+def some_triples(n):
+    """Triples of pairs, of packets, or of any bytes."""
+    kind = R.randrange(3)
+    if kind == 0: return R.choices(range(256), k=3 * n)
+    if kind == 1: return [b for _ in range(n) for b in (R.choice([0xFC, 0xFD, 0xFE, 0xFF, 0xFA, 0xF8, 0x72, 0x74]), byte(), byte())]
+    return [b for i in range(n) for b in (0xFE if i else 0xFF, byte(), byte())]
+
+def a_counter(): return R.choice([0, 1, 255, 256, 32767, 32768, 65534, 65535, R.randrange(65536), R.randrange(65536)])
+def a_rate_code(): return R.randrange(1, 9)
+def a_count(): return R.choice([0, 1, 2, 10, 20, 30, 31, R.randrange(32)])
+def good_packet(counter, n=None): return distribution(counter & 65535, some_triples(a_count() if n is None else n), a_rate_code())
+
+def distribution_bytes(mend):
+    """Each byte of a packet changed to every other value, of packets with 0, 2 and 31 triples. Not mended none is accepted, so that the reader is
+    still fresh before each, and behind them takes the packet; where the sum is mended, the reader is made fresh before each."""
+    for n in (0, 2, 31):
+        good = good_packet(a_counter(), n)
+        for at in range(len(good) - mend):
+            others = [changed(good, at, value) for value in range(256) if value != good[at]]
+            if mend: yield [op for d in others for op in (("X",), ("<", mended(d)))]
+            else: yield [("<", d) for d in others] + [("<", good)]
+
+def distribution_lengths():
+    """Every length from 0 to 120 bytes: of a packet that is cut or has bytes behind it, with the length's byte right too, and with all but the
+    length right; with counts around what fits. And lengths up to a whole record."""
+    for k in [*range(121), 127, 128, 139, 253, 254]:
+        s, long = [], good_packet(7, 31) + R.choices(range(256), k=150)
+        forms = [long[:k], changed(long, 2, k)[:k], mended(changed(long, 2, k)[:k]) if k else []]
+        for count in sorted({0, 1, 30, 31, R.randrange(32), *((k - 13) // 3 + e for e in (-1, 0, 1))} & {*range(32)}):
+            front = [0x96, 0x69, k, a_rate_code() << 4 | 15, 0x43, 0, 8, 0x72, 0xE0 + count] + some(max(0, k - 13))
+            d = (front + [0x74, 0, 8, 0])[:k]
+            forms += [mended(d) if k else d, mended((front[:max(0, k - 4)] + [0x74, 0, 8, 0])[:k]) if k else d]
+            if k > 2: forms += [mended(changed(forms[-1], 2, size & 255)) for size in (k - 1, k + 1)]
+        for d in forms: s += [("X",), ("<", d)]
+        yield s
+
+def distribution_values():
+    """Every value of the flags, of the rate's byte and of the count's byte, with all else right; and every count's byte with as many triples as it
+    says."""
+    for n in (0, 1, 2, 31):
+        good = good_packet(a_counter(), n)
+        for at in (3, 4, 8): yield [op for value in range(256) for op in (("X",), ("<", mended(changed(good, at, value))))]
+    yield [op for value in range(256) for op in (("X",), ("<", mended(changed(good_packet(a_counter(), value & 31), 8, value))))]
+
+WAYS = [0, 1, 2, 32766, 32767, 32768, 32769, 65534, 65535]
+def distribution_counters(count):
+    """Counters at every edge and others, and from each every way to a next one; behind that the same once more, and the one behind the first."""
+    for last in [0, 1, *range(32766, 32770), 65534, 65535] + [R.randrange(65536) for _ in range(count)]:
+        s = []
+        for way in WAYS + [R.randrange(65536) for _ in range(count)]:
+            again = good_packet(last + way)
+            s += [("X",), ("<", good_packet(last)), ("<", again), ("<", again), ("<", good_packet(last + 1))]
+        yield s
+
+def distribution_walks(count):
+    """Many packets read one after the other, most of them newer."""
+    for _ in range(count):
+        s, counter = [], a_counter()
+        for _ in range(R.choice([10, 40])):
+            way = R.choice([1, 1, 1, 2, 100, R.randrange(32768), R.choice(WAYS), R.randrange(65536)])
+            s.append(("<", good_packet(counter + way, R.randrange(4))))
+            if way < 32768 or R.random() < .1: counter += way
+        yield s
+
+def distribution_footers(count):
+    """Another counter behind the triples: each bit of it, its bytes the other way round, and any; with the sum right and wrong; newer by one of the
+    two, by both and by none."""
+    for _ in range(count):
+        counter, s = a_counter(), []
+        others = [counter ^ 1 << place for place in range(16)] + [(counter & 255) << 8 | counter >> 8, counter + 1, counter - 1, R.randrange(65536)]
+        for again in others:
+            d = distribution(counter, some_triples(R.randrange(4)), a_rate_code(), again=again & 65535)
+            s += [("X",), ("<", good_packet(R.choice([counter, again, counter - 1, again - 1, counter + 1])))]
+            s += [("<", d), ("<", changed(d, len(d) - 1, R.randrange(256))), ("X",), ("<", d)]
+        yield s
+
+def wrong_section(d):
+    """A packet with one thing wrong in it that is a matter of lengths and sections; its sum is not looked at."""
+    ways = [lambda: changed(d, 2, R.choice([len(d) - 1, len(d) + 1, 0, 255, R.randrange(256)]))]
+    ways += [lambda: changed(d, 3, R.choice([0, 9, 15]) << 4 | R.randrange(16)), lambda: changed(d, 4, d[4] | R.choice([0x80, 0x20, 0xA0]))]
+    ways += [lambda: changed(d, 7, R.choice([0x71, 0x73, 0x74, 0x62])), lambda: changed(d, len(d) - 4, R.choice([0x72, 0x73, 0x75, 0x64]))]
+    ways += [lambda: changed(d, 8, d[8] ^ R.randrange(1, 32)), lambda: d[:R.randrange(2, len(d))], lambda: d + some(R.randrange(1, 4))]
+    return R.choice(ways)()
+
+def distribution_broken(count):
+    """Packets for which every set of the five refusals is true at once, behind one that is accepted, and then one that is newer."""
+    for reasons in itertools.product((0, 1), repeat=5):
+        mark, section, total, footer, old = reasons
+        s = []
+        for _ in range(count):
+            last = a_counter()
+            counter = last + (R.choice([0, 32768, 40000, 65535]) if old else R.choice([1, 2, 32767])) & 65535
+            again = counter ^ 1 << R.randrange(16) if footer else counter
+            d = distribution(counter, some_triples(a_count()), a_rate_code(), again=again)
+            if section: d = wrong_section(d)
+            if mark:
+                at = R.randrange(2)
+                d = changed(d, at, R.choice([value for value in (0x96, 0x69, 0, 255, d[at] ^ 1) if value != d[at]]))
+            if len(d) > 2: d = mended(d)
+            if total: d = changed(d, len(d) - 1, d[-1] ^ R.randrange(1, 256))
+            s += [("X",), ("<", good_packet(last)), ("<", d), ("<", good_packet(last + 3))]
+        yield s
+
+def distribution_sections(count):
+    """Sections of time code and of service information, and others, before and behind the triples, with lengths and sums right, with and without
+    their flags; and counts that take what is behind in."""
+    for _ in range(count):
+        times = [[0x71, 0xC0 | R.randrange(64), 0x80 | R.randrange(128), byte(), byte()] for _ in range(2)]
+        infos = [[0x73, 0x80 | m] + some(7 * m) for m in (0, 1, R.randrange(2, 8))]
+        s = []
+        for section in times + infos + [[R.randrange(0x75, 0xF0), 1, byte()], [0x74, 0, 0], [0x72, 0xE0], [0x72, 0xE1, 0xFC, 0x94, 0x2C]]:
+            for flags in (0x43, 0xC3, 0x63, 0xE3, 0x03):
+                triples, counter = some_triples(R.choice([0, 1, 2, 20, 28, 31])), a_counter()
+                for d in (distribution(counter, triples, 4, flags, before=section), distribution(counter, triples, 4, flags, behind=section)):
+                    s += [("X",), ("<", d)]
+                taken_in = (len(triples) + len(section)) // 3
+                s += [("X",), ("<", mended(changed(d, 8, 0xE0 | taken_in & 31)))]
+        yield s
+
+def a_whole_frame(n): return [R.choice([0xC0, 0xC0, 0, 0x20, 0x40, 0xE0]) | n, R.choice([0xFF, 0xFF, byte()])] + some_triples(n)
+
+def distribution_rates_written():
+    """Every rate code with frames of 0, 2 and 31 triples and with one that has a wrong length."""
+    for n in (0, 2, 31):
+        yield [op for code in range(256) for op in [(">", code, 106, a_whole_frame(n))] + [(">", code, R.choice([0, 20]), a_whole_frame(n)[:-1])] * (n == 2)]
+
+def distribution_frames_written():
+    """Every count with frames of every length near it and others, and every length with some counts; every first and every second byte."""
+    for n in range(32):
+        lengths = sorted({0, 1, 2, 3, 4, 5, *range(max(0, 3 * n - 1), 3 * n + 7), 92, 94, 95, 96, 98, 251, 252})
+        yield [(">", a_rate_code(), R.choice([106, 255, 255, 0]), (a_whole_frame(n) + some(252))[:k]) for k in lengths]
+    lengths = [(k, n) for k in range(121) for n in {0, 1, 31, (k - 2) // 3 % 32, R.randrange(32)}]
+    yield from batch([[(">", a_rate_code(), 255, ([0xC0 | n, 0xFF] + some(252))[:k])] for k, n in lengths], 60)
+    yield [(">", a_rate_code(), 106, changed(a_whole_frame(first & 31), 0, first)) for first in range(256)]
+    yield [(">", a_rate_code(), 20, changed(a_whole_frame(1), 1, second)) for second in range(256)]
+
+def distribution_outputs():
+    """Outputs around what a packet needs, with every count; and every output with one of two triples. Then one that fits."""
+    for n in range(32):
+        size = 13 + 3 * n
+        lengths = sorted({0, 1, 12, *range(size - 3, size + 4), 255})
+        yield [op for length in lengths for op in ((">", a_rate_code(), length, a_whole_frame(n)), (">", 4, 106, a_whole_frame(n)))]
+    yield [(">", a_rate_code(), length, a_whole_frame(2)) for length in range(256)]
+
+def refused_write():
+    """A write that is refused for one reason or several."""
+    n, r = R.randrange(32), R.randrange(1, 8)
+    f = a_whole_frame(n)
+    if r & 2: f = R.choice([f[:-1], f + [0], []])
+    return (">", R.choice([0, 9, 16, 255]) if r & 1 else a_rate_code(), R.randrange(13 + 3 * n) if r & 4 else 255, f)
+
+def distribution_counters_written():
+    """The writer's counter at the edges and anywhere, with writes that are refused between those that are not."""
+    for first in [0, 1, 254, 255, 256, 32767, 32768, 65533, 65534, 65535] + [R.randrange(65536) for _ in range(20)]:
+        s = [("Y", *two(first))]
+        for _ in range(6): s += [refused_write() for _ in range(R.randrange(3))] + [(">", a_rate_code(), R.choice([106, 200]), a_whole_frame(R.randrange(32)))]
+        yield s
+    yield from batch([[("Y", *two(first))] + [(">", 4, 13, [0xC0, 0xFF])] * 3 for first in range(0, 65536, 257)], 16)
+
+def distribution_journeys(count):
+    """Frames written and what is written read, in order, with refused writes and with packets lost, read twice, late or damaged."""
+    for _ in range(count):
+        counter, s, packets = a_counter(), [], []
+        s.append(("Y", *two(counter)))
+        for _ in range(R.choice([4, 12, 30])):
+            if R.random() < .2: s.append(refused_write())
+            code, f = a_rate_code(), a_whole_frame(a_count())
+            s.append((">", code, R.choice([106, 106, 255]), f))
+            packets.append(distribution(counter, f[2:], code))
+            counter = counter + 1 & 65535
+            r = R.random()
+            if r < .8: s.append(("<", packets[-1]))
+            if r < .1: s.append(("<", packets[-1]))
+            elif r < .2: s.append(("<", R.choice(packets)))
+            elif r < .3: s.append(("<", changed(packets[-1], R.randrange(len(packets[-1])), R.randrange(256))))
+        yield s
+
+def distribution_anything(count):
+    """Reads and writes of distribution packets in any order, and other operations between them."""
+    for _ in range(count):
+        s, counter = [], a_counter()
+        for _ in range(30):
+            r = R.random()
+            if r < .3:
+                way = R.choice([1, 1, 1, 2, R.choice(WAYS)])
+                s.append(("<", good_packet(counter + way)))
+                counter += way
+            elif r < .36: s.append(("<", wrong_section(good_packet(counter + 1))))
+            elif r < .4: s.append(("<", R.choices(range(256), k=R.randrange(255))))
+            elif r < .65: s.append((">", a_rate_code(), R.choice([106, 106, 255, R.randrange(107)]), a_whole_frame(a_count())))
+            elif r < .72: s.append(refused_write())
+            elif r < .76: s.append(("X",))
+            elif r < .8: s.append(("Y", *two(a_counter())))
+            elif r < .88: queue_blocks(s)
+            else: s.append(R.choice([("1", byte(), byte()), ("w", 30, 1, 95), ("w", 24, 1, 2), ("S", bit(), bit()), ("u",), ("R",), ("W",), ("b", 3), ("p", [1, 0]), ("x",)]))
+        yield s + [(">", 1, 13, [0xC0, 0xFF]), ("<", good_packet(counter + 1))]
+
+def distribution_records():
+    """The operations of distribution packets with other numbers of argument bytes, and what follows from the counters being as they were."""
+    for letter in b"X<Y>":
+        for n in [*range(16), 253, 254]:
+            s = [("Y", 1, 2), ("<", good_packet(9, 0)), ("raw", [letter] + [R.choice([0, 7])] * n)]
+            yield s + [("<", good_packet(9, 0)), ("<", good_packet(10, 0)), (">", 4, 13, [0xC0, 0xFF])]
+
 def not_there():
     """Every operation byte with every number of argument bytes up to 12, and a record of no bytes."""
     yield [("raw", [])]
@@ -684,15 +905,16 @@ def endings():
     """Input whose last record is cut short or has a wrong mark, as bytes."""
     whole = b"".join(map(encode, [("m",), ("b", 7), ("o", 3)]))
     yield "input that ends within a record", [whole[:n] for n in range(len(whole) + 1)]
-    marks = [b"\xCC", b"\xCD", b"\xCC\x5D", b"\xCC\xDA\x00", b"\x5C\xCC\x01m", b"\x00\x00\x00\x00", b"\xCC\x5C\xFFm"]
+    marks = [b"\xCC", b"\xCD", b"\xCC\x5D", b"\xCC\xDA\x00", b"\xCC\xCD\x00", b"\x5C\xCC\x01m", b"\x00\x00\x00\x00", b"\xCC\x5C\xFFm"]
     yield "input with a wrong mark", [before + mark for before in (b"", whole) for mark in marks]
 
 def encode(op):
     """The record of an operation."""
     k, args = op[0], op[1:]
     if k == "raw": return bytes([0xCC, 0x5C, len(args[0]), *args[0]])
-    if k in "cdyptfg": body = list(args[0])
+    if k in "cdyptfg<": body = list(args[0])
     elif k in "ai": body = [args[0], *args[1]]
+    elif k == ">": body = [args[0], args[1], *args[2]]
     elif k == "S": body = [sum(bit << place for place, bit in enumerate(args))]
     elif k == "C": body = [b for number in args for b in number.to_bytes(4, "big")]
     elif k == "Z": body = list(args[0].to_bytes(8, "big"))
@@ -758,6 +980,27 @@ def generate_codes(seed, scale=1.0):
     yield "codes, every first byte at every cut, by the reckoning", codes_cut()
     yield "codes, random payloads, by the reckoning", codes(c(2000))
     yield "codes of packets, by the reckoning", codes_of_packets(c(2000))
+
+def generate_distribution(seed, scale=1.0):
+    """Kinds of distribution packets, of operations that the reckoning knows."""
+    R.seed(seed + 4)
+    c = lambda n: max(1, int(n * scale))
+    yield "distribution packets, every byte changed", distribution_bytes(False)
+    yield "distribution packets, every byte changed and the sum mended", distribution_bytes(True)
+    yield "distribution packets, every length", distribution_lengths()
+    yield "distribution packets, every rate, flag and count", distribution_values()
+    yield "distribution packets, counters at every edge", distribution_counters(c(10))
+    yield "distribution packets, many in a row", distribution_walks(c(60))
+    yield "distribution packets, another counter behind the triples", distribution_footers(c(15))
+    yield "distribution packets, several refusals at once", distribution_broken(c(40))
+    yield "distribution packets, other sections", distribution_sections(c(15))
+    yield "distribution packets written, every rate code", distribution_rates_written()
+    yield "distribution packets written, every length of a frame", distribution_frames_written()
+    yield "distribution packets written, every output", distribution_outputs()
+    yield "distribution packets written, counters", distribution_counters_written()
+    yield "distribution packets written and read", distribution_journeys(c(100))
+    yield "distribution packets, any order of calls", distribution_anything(c(150))
+    yield "distribution packets, records of other lengths", distribution_records()
 
 def generate_counting(seed, written, scale=1.0):
     """The kinds with writes, with the true count."""

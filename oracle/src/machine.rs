@@ -1,9 +1,10 @@
-//! The block, the packet and the two machines that a script works on, and its operations.
+//! The block, the packet and the machines that a script works on, and its operations.
 
 use cea708_types::{tables::Code, DTVCCPacket, Framerate, Service};
 
 use crate::codes;
 use crate::demux::{Demux, Item};
+use crate::distribution::{Reader, Writer};
 use crate::mux::Mux;
 use crate::raw::{Block, Packet};
 use crate::refusal::Refusal::{self, BadNumber, BadRun, BadValue, OutShort};
@@ -17,6 +18,8 @@ pub struct Machine {
     /// None: its counts break a limit
     r: Option<Demux>,
     w: Option<Mux>,
+    reader: Reader,
+    writer: Writer,
 }
 
 /// What one record prints.
@@ -107,6 +110,8 @@ impl Machine {
             p: Packet::new(DTVCCPacket::new(0)),
             r: Some(Demux::default()),
             w: Some(Mux::default()),
+            reader: Reader::default(),
+            writer: Writer::default(),
         }
     }
 
@@ -205,6 +210,18 @@ impl Machine {
         Ok(row(&counts.collect::<Result<Vec<_>, _>>()?))
     }
 
+    fn read_distribution(&mut self, bytes: &[u8]) -> Answer {
+        let said = self.reader.read(bytes)?;
+        Ok(format!("{} {} {}", said.rate, said.counter, hex(&said.frame)))
+    }
+
+    fn write_distribution(&mut self, rate: u8, frame: &[u8], out: &mut [u8]) -> Answer {
+        let (packet, behind) = self.writer.packet(rate, frame)?;
+        let written = put(out, &packet)?;
+        self.writer = behind;
+        Ok(written)
+    }
+
     /// Operations on the block and the packet, and on payloads.
     fn values(&mut self, op: u8, args: &[u8]) -> Option<Line> {
         Some(match (op, args) {
@@ -300,6 +317,23 @@ impl Machine {
         })
     }
 
+    /// Operations on the reader and the writer of distribution packets.
+    fn distribution(&mut self, op: u8, args: &[u8]) -> Option<Line> {
+        Some(match (op, args) {
+            (b'X', []) => {
+                self.reader = Reader::default();
+                done()
+            }
+            (b'<', bytes) => line(self.read_distribution(bytes)),
+            (b'Y', &[high, low]) => {
+                self.writer.next = u16::from_be_bytes([high, low]);
+                done()
+            }
+            (b'>', [rate, len, frame @ ..]) => lent(*len, |out| self.write_distribution(*rate, frame, out)),
+            _ => return None,
+        })
+    }
+
     pub fn operation(&mut self, record: &[u8]) -> Line {
         let Some((&op, args)) = record.split_first() else {
             return Line::Bad;
@@ -307,6 +341,7 @@ impl Machine {
         self.values(op, args)
             .or_else(|| self.demux(op, args))
             .or_else(|| self.mux(op, args))
+            .or_else(|| self.distribution(op, args))
             .unwrap_or(Line::Bad)
     }
 }

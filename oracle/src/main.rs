@@ -2,12 +2,14 @@
 //!
 //! Where the rule book adds a rule, the rule is applied around the crate's calls: refusals 6 to 11, the
 //! sizes, the draw, the dropping of empty packets, the true count, the set of services, the cut into
-//! codes with refusals 21 and 22, the part handed back, the tidy reader. The crate's fields are private,
-//! so the operations that set raw fields work on places kept beside its values (`B`, `K` and `Z`), or
-//! only tell that a limit is broken (`D` and `Q`).
+//! codes with refusals 21 and 22, the part handed back, the tidy reader. Distribution packets, with
+//! refusals 16 to 20, are read and written beside the crate. Its fields are private, so the operations
+//! that set raw fields work on places kept beside its values (`B`, `K` and `Z`), or only tell that a
+//! limit is broken (`D` and `Q`).
 
 mod codes;
 mod demux;
+mod distribution;
 mod machine;
 mod mux;
 mod raw;

@@ -18,6 +18,11 @@ pub enum Refusal {
     FrameLengthWrong(usize, usize),
     /// Of a packet or a block. The crate tells neither which nor where: 13, 14 or 15, without its offset.
     LengthMismatch(usize, usize),
+    BadMark,
+    BadSection,
+    BadSum,
+    CountersDiffer,
+    NotNewer,
     UnknownLength,
     CodeCutShort,
 }
@@ -71,6 +76,11 @@ impl fmt::Display for Refusal {
             Self::BadValue => write!(f, "11"),
             Self::FrameLengthWrong(expected, actual) => write!(f, "12 {expected} {actual}"),
             Self::LengthMismatch(expected, actual) => write!(f, "13-15 {expected} {actual}"),
+            Self::BadMark => write!(f, "16"),
+            Self::BadSection => write!(f, "17"),
+            Self::BadSum => write!(f, "18"),
+            Self::CountersDiffer => write!(f, "19"),
+            Self::NotNewer => write!(f, "20"),
             Self::UnknownLength => write!(f, "21"),
             Self::CodeCutShort => write!(f, "22"),
         }
