@@ -6,7 +6,7 @@ use lib.ListN.{length}
 use Rattle.model.specs.Said.{Outcome, gave, refused, saysWith, mapped, after}
 use Rattle.model.specs.Distribution.{onward, Sent, distribute}
 use Rattle.model.proofs.Cases.{gives-at}
-use Rattle.model.proofs.Distribution.{sent-numbered, sent-next}
+use Rattle.model.proofs.Distribution.{SentAs, sent-as, sent-numbered}
 use Rattle.caption.specs.Answers.{saidCounted}
 use Rattle.caption.specs.declared.Refusal.{Refusal}
 use Rattle.caption.specs.declared.Counted.{Counted}
@@ -36,7 +36,7 @@ module _ (writer : DistributionWriter) (code : ℕ) (f out : List ℕ) where
     pub writes-done : (n next : ℕ) → answer ≡ Count n → next ≡ onward (writer .next) → Writes writer code f out (record { answer = answer; writer = writerAt next }) end
     writes-done n next e o =
         let g = given-with bytesOf (n ∷ []) said (sent-numbered (writer .next) code f out) (sym (ap saidCounted e) ∙ told) in
-        let m = gives-at (λ (x : Sent). x .next ≡ onward (writer .next)) said (g .1) (sent-next (writer .next) code f out) in
+        let m = gives-at (SentAs (writer .next) code f out) said (g .1) (sent-as (writer .next) code f out) .moved in
         record {
           answer = told;
           places = ap writerAt (o ∙ sym m) ∙ sym (ap (λ (q : Outcome Sent). after writer (mapped (λ x. writerAt (x .next)) q)) (g .1));

@@ -10,11 +10,11 @@ use lib.Dec.{leb}
 use borrow.Author.Tests.{lt-ltb, le-ltb, leb-true}
 use Rattle.model.specs.Frame.{countIn}
 use Rattle.model.specs.Said.{gave, refused, putInto, outShort, badSection}
-use Rattle.model.specs.Distribution.{twoBytes, sumOf, closing, isCoded, asWritten, sections, laidOut, distributionBytes, onward, isWhole, packed, sentInto, distribute}
+use Rattle.model.specs.Distribution.{twoBytes, sumOf, closing, isCoded, asWritten, sections, laidOut, distributionBytes, onward, isWhole, distributionOf, packed, sentInto, distribute}
 use Rattle.model.proofs.Distribution.{laid-length, whole-length, whole-bytes, whole-count}
 use Rattle.model.proofs.Cases.{both}
 use Rattle.basics.proofs.Runs.{sets-append, sets-front}
-use Rattle.distribution_writing.specs.Laid.{headOf, packetOf, sectionsOf, laidIn}
+use Rattle.distribution_writing.specs.Laid.{headOf, sectionsOf, laidIn}
 
 -- an empty frame is not whole
 pub empty-broken : (f : List ℕ) → length f ≡ 0 → false ≡ isWhole f
@@ -83,14 +83,14 @@ module _ (counter code : ℕ) (f : List ℕ) (whole : isWhole f ≡ true) where
       rw (e, last, place) (sym (sets-append these (closing (sumOf these) ∷ []) o 0) ∙ sets-front o (these ++ (closing (sumOf these) ∷ [])) whole)
 
   -- how many bytes the packet has
-  pub bytes-length : length (distributionBytes (packetOf counter code f)) ≡ length f + 11
-  bytes-length = omega (arith, laid-length asWritten (packetOf counter code f), whole-count f whole, whole-length f whole)
+  pub bytes-length : length (distributionBytes (distributionOf counter code f)) ≡ length f + 11
+  bytes-length = omega (arith, laid-length asWritten (distributionOf counter code f), whole-count f whole, whole-length f whole)
 
   -- with a code and with room all of it is written,
   pub wrote-whole : (out : List ℕ) → isCoded code ≡ true → length f + 11 ≤ length out
-      → distribute counter code f out ≡ gave (record { bytes = distributionBytes (packetOf counter code f); out = laidIn counter code f out; next = onward counter })
+      → distribute counter code f out ≡ gave (record { bytes = distributionBytes (distributionOf counter code f); out = laidIn counter code f out; next = onward counter })
   unfolding distribute packed sentInto putInto
-  wrote-whole out coded h = simp (whole, coded, le-ltb (length out) (length (distributionBytes (packetOf counter code f))) (omega (arith, bytes-length)))
+  wrote-whole out coded h = simp (whole, coded, le-ltb (length out) (length (distributionBytes (distributionOf counter code f))) (omega (arith, bytes-length)))
 
   -- and without room none
   pub wrote-short : (out : List ℕ) → isCoded code ≡ true → length out < length f + 11 → distribute counter code f out ≡ refused (outShort (length f + 11))

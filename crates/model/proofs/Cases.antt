@@ -38,11 +38,6 @@ module _ {A B : Type 0} where
   gives-mapped P Q (gave x) f q h = h x q
   gives-mapped P Q (refused why) f q h = tt
 
--- what is made of any value
-pub gives-made : {A B : Type 0} (P : B → Type 0) (f : A → B) (o : Outcome A) → ((x : A) → P (f x)) → Gives P (mapped f o)
-gives-made P f (gave x) h = h x
-gives-made P f (refused why) h = tt
-
 -- an outcome that gives x
 pub gives-at : {A : Type 0} (P : A → Type 0) {x : A} (o : Outcome A) → o ≡ gave x → Gives P o → P x
 gives-at P o e g = subst (Gives P) e g

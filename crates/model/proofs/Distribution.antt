@@ -13,8 +13,8 @@ use lib.Seq.{getD-append-add, take-at, drop-cons, length-take-le, drop-length, d
 use Rattle.model.specs.Lists.{every}
 use Rattle.model.specs.Said.{Outcome, gave, refused, mapped, putInto, badSection}
 use Rattle.model.specs.Frame.{Triple, tri, flat, triplesIn, countIn, frameBytes}
-use Rattle.model.specs.Distribution.{Distribution, isCoded, lengthWith, twoBytes, sumOf, closing, Unread, asWritten, sections, laidOut, distributionBytes, hasMark, announcesMore, countOf, inOrder, counterAt, sumsUp, countersAgree, heldIn, opened, ahead, newer, frameOf, onward, isWhole, packed, Sent, sentInto, distribute}
-use Rattle.model.proofs.Cases.{by-cond, both, and-both, Gives, gives-at, gives-then, gives-made, NotAccepted, Refuses, refuses-then, refuses-mapped}
+use Rattle.model.specs.Distribution.{Distribution, isCoded, lengthWith, twoBytes, sumOf, closing, Unread, asWritten, sections, laidOut, distributionBytes, hasMark, announcesMore, countOf, inOrder, counterAt, sumsUp, countersAgree, heldIn, opened, ahead, newer, frameOf, onward, isWhole, distributionOf, packed, Sent, sentInto, distribute}
+use Rattle.model.proofs.Cases.{by-test, by-cond, both, and-both, Gives, gives-at, gives-mapped, NotAccepted, Refuses, refuses-then, refuses-mapped}
 use Rattle.model.proofs.Lists.{every-at}
 use Rattle.model.proofs.Frames.{unflat, flat-length}
 
@@ -402,24 +402,36 @@ module _ (f : List ℕ) (whole : isWhole f ≡ true) where
 
   -- the frame of the packet that it becomes: its own triples behind C0 and their count, and FF [L6]
   pub whole-frame : (code counter : ℕ)
-      → frameOf (record { code = code; counter = counter; triples = triplesIn (drop 2 f) }) ≡ (0xC0 + countIn (getD f 0 0)) ∷ 0xFF ∷ drop 2 f
+      → frameOf (distributionOf counter code f) ≡ (0xC0 + countIn (getD f 0 0)) ∷ 0xFF ∷ drop 2 f
   unfolding frameBytes
   whole-frame code counter = rw (whole-bytes, whole-count)
 
--- a frame that becomes a packet: it can be laid out
-packed-fits : (counter code : ℕ) (f : List ℕ) → counter < 2 ^ 16 → isWhole f && isCoded code ≡ true
-    → Fits asWritten (record { code = code; counter = counter; triples = triplesIn (drop 2 f) })
-unfolding announcesMore
-packed-fits counter code f h e =
-    let t = both (isWhole f) (isCoded code) e in
-    record { code = t .1; counter = h; few = omega (arith, whole-count f (t .0)); beside = omega arith; alone = refl }
+-- what becomes of a frame that is written: it is whole, the rate has a code, its packet is in the output, and the number has moved on [L3] [L5]
+pub record SentAs (counter code : ℕ) (f out : List ℕ) (x : Sent) : Type 0 where
+  pub whole : isWhole f ≡ true
+  pub coded : isCoded code ≡ true
+  pub packet : x .bytes ≡ distributionBytes (distributionOf counter code f)
+  pub there : x .out ≡ distributionBytes (distributionOf counter code f) ++ drop (length (distributionBytes (distributionOf counter code f))) out
+  pub moved : x .next ≡ onward counter
 
--- what holds of a packet's bytes holds of those that are written
-sent-bytes : (P : List ℕ → Type 0) (out : List ℕ) (d : Distribution) → P (distributionBytes d) → Gives (λ (x : Sent). P (x .bytes)) (sentInto out d)
-unfolding sentInto
-sent-bytes P out d r = gives-made (λ (x : Sent). P (x .bytes)) _ (putInto out (distributionBytes d)) (λ o. r)
+module _ (counter code : ℕ) (f out : List ℕ) where
+  sent-into : isWhole f && isCoded code ≡ true → Gives (SentAs counter code f out) (sentInto out (distributionOf counter code f))
+  unfolding sentInto putInto
+  sent-into e =
+      gives-mapped (SentAs counter code f out)
+      (λ (o : List ℕ). o ≡ distributionBytes (distributionOf counter code f) ++ drop (length (distributionBytes (distributionOf counter code f))) out)
+      (putInto out (distributionBytes (distributionOf counter code f))) _
+      (by-cond (Gives _) (ltb (length out) (length (distributionBytes (distributionOf counter code f)))) (λ _. tt) (λ _. refl))
+      (λ o q. record { whole = both (isWhole f) (isCoded code) e .0; coded = both (isWhole f) (isCoded code) e .1; packet = refl; there = q; moved = refl })
 
--- no refusal of a frame has the number of what is accepted,
+  pub sent-as : Gives (SentAs counter code f out) (distribute counter code f out)
+  unfolding distribute packed
+  sent-as =
+      by-test (isWhole f && isCoded code)
+      (λ e. rw e (sent-into e))
+      (λ e. rw e tt)
+
+-- no refusal of a frame has the number of what is accepted
 pub sent-numbered : (counter code : ℕ) (f out : List ℕ) → Refuses NotAccepted (distribute counter code f out)
 unfolding distribute packed sentInto putInto
 sent-numbered counter code f out =
@@ -428,22 +440,7 @@ sent-numbered counter code f out =
     (λ d. refuses-mapped NotAccepted _ (putInto out (distributionBytes d))
     (by-cond (Refuses NotAccepted) (ltb (length out) (length (distributionBytes d))) (λ _ e. omega (arith, e)) (λ _. tt)))
 
--- and a frame that is written moves the number on [L5]
-pub sent-next : (counter code : ℕ) (f out : List ℕ) → Gives (λ (x : Sent). x .next ≡ onward counter) (distribute counter code f out)
-unfolding distribute packed sentInto
-sent-next counter code f out =
-    gives-then (λ (x : Sent). x .next ≡ onward counter) (λ (e : Distribution). e .counter ≡ counter) (packed counter code f) (sentInto out)
-    (by-cond (Gives (λ (e : Distribution). e .counter ≡ counter)) (isWhole f && isCoded code) (λ _. refl) (λ _. tt))
-    (λ e r. gives-made (λ (x : Sent). x .next ≡ onward counter) _ (putInto out (distributionBytes e)) (λ o. ap onward r))
-
--- A frame written as a packet is read as that packet: its code, its number and the frame's own triples.
-pub sent-opened : (counter code : ℕ) (f out : List ℕ) → counter < 2 ^ 16
-    → Gives (λ (x : Sent). opened (x .bytes) ≡ gave (record { code = code; counter = counter; triples = triplesIn (drop 2 f) })) (distribute counter code f out)
-unfolding distribute packed
-sent-opened counter code f out h =
-    let d : Distribution = record { code = code; counter = counter; triples = triplesIn (drop 2 f) } in
-    gives-then (λ (x : Sent). opened (x .bytes) ≡ gave d) (λ (e : Distribution). opened (distributionBytes e) ≡ gave d) (packed counter code f) (sentInto out)
-    (by-cond (Gives (λ (e : Distribution). opened (distributionBytes e) ≡ gave d)) (isWhole f && isCoded code)
-    (λ t. laid-opened asWritten d (packed-fits counter code f h t))
-    (λ _. tt))
-    (λ e r. sent-bytes (λ (s : List ℕ). opened s ≡ gave d) out e r)
+-- such a packet can be laid out, if its number is one of 16 bits
+pub sent-fits : (counter code : ℕ) (f : List ℕ) → isWhole f ≡ true → isCoded code ≡ true → counter < 2 ^ 16 → Fits asWritten (distributionOf counter code f)
+unfolding announcesMore
+sent-fits counter code f whole coded h = record { code = coded; counter = h; few = omega (arith, whole-count f whole); beside = omega arith; alone = refl }

@@ -3,17 +3,19 @@
 use mathlib.Core.Path.{_≡_, refl}
 use mathlib.Core.Bool.{true, false}
 use mathlib.Core.List.{List, [], _∷_, map}
+use mathlib.Core.Option.{Option, none, some}
 use Prim.Native.Nat.{ℕ}
-use lib.ListN.{length}
-use Rattle.model.specs.Said.{Said, Outcome, gave, refused, andThen, mapped}
+use lib.ListN.{length, replicate}
+use Rattle.model.specs.Said.{Said, Outcome, gave, refused, andThen, mapped, putInto}
 use Rattle.model.specs.Block.{Block, headerLength, numberIn, isHeaderShort, needed, isShort, blockIn, shortAt, readBlockAt, readBlock, writtenHeader, writtenBlock, blockLength}
 use Rattle.model.specs.Packet.{Packet, sequenceIn, packetSize, plainMove, tidyMove, isNullHeader, blocksFrom, readBy, readPacket, reads, readTidy, blocksLength, packetLength, writtenBlocks, packetHeader, fill, writtenPacket}
 use Rattle.model.specs.Services.{among, once, bitsOf, servicesOf, distinctServices}
 use Rattle.model.specs.Codes.{firstRanges, ext1Ranges, toldIn, toldLength, isUntold, codeIn, codesFrom, codesOf, codesOfEach, codesOfBlocks}
-use Rattle.model.specs.Frame.{pair, Cea608, field1, field2, seen, seenAll, flat, triplesIn, flagged, frameBytes}
+use Rattle.model.specs.Frame.{pair, Cea608, field1, field2, seen, seenAll, flat, triplesIn, flagged, mostFrame, frameBytes}
 use Rattle.model.specs.Demux.{turn608On, freshDemux, pairsIn, lateAfter, lateFrom, carries708, closed, packetsOf, kept, wants, gather, ended, gathered, takeGathered, takeTriples, unread, takeFrame}
 use Rattle.model.specs.Rate.{rounded, budgets, goingOn, carriedBudget, leftOver, carriedOn, carriedShare, shareBy}
 use Rattle.model.specs.Mux.{freshMux, paddings, carryingMode, trueCounting, queued, pushPacket, isNull, pushPair, pushCea608, turnsDue, turn1, turn2, turned, continued, started, packetTriples, triplesQueued, turnsSending, turnsCounted, countDue, send, padding, framed, writeFrame, shareAt, writeShare}
+use Rattle.model.specs.Distribution.{isCoded, sumOf, closing, sections, laidOut, distributionBytes, hasMark, announcesMore, inOrder, sumsUp, countersAgree, opened, ahead, newer, takes, frameOf, receivedInto, receive, isWhole, packed}
 use Rattle.model.specs.Run.{Call, pushes, pushes608, sets, call, run, readFrames}
 
 -- what a row asks
@@ -23,6 +25,8 @@ pub data Input : Type 0 where
   plain tidy plainSet tidySet alone codes blockCodes : List ℕ → Input
   frames : List (List ℕ) → Input
   frame readBack : ℕ → ℕ → List Call → Input
+  sent : ℕ → ℕ → List ℕ → Input
+  received : Option ℕ → List ℕ → Input
 
 -- what the rule book says of it
 pub data Result : Type 0 where
@@ -34,6 +38,7 @@ pub data Result : Type 0 where
   counts : List ℕ → Result
   refusal : Said → Result
   items : List Said → List Cea608 → List Packet → Result
+  carried : ℕ → ℕ → List ℕ → Result
 
 -- an answer by its number and its values, as the rule book writes it; 0 is accepted
 abbrev pub says : ℕ → List ℕ → Said
@@ -75,6 +80,8 @@ answer (codes d) = told (λ cs. counts (map length cs)) (codesOf d)
 answer (blockCodes d) = told (λ css. counts (map length css)) (andThen (readPacket d) (λ p. codesOfBlocks (p .blocks)))
 answer (frames fs) = read fs
 answer (frame numer denom calls) = told bytes (afterCalls numer denom calls)
+answer (sent counter code f) = told bytes (mapped (λ x. distributionBytes x) (packed counter code f))
+answer (received last s) = told (λ x. carried (x .packet .code) (x .packet .counter) (frameOf (x .packet))) (receive last s (replicate mostFrame 0))
 answer (readBack numer denom calls) = told (λ f. read (f ∷ [])) (afterCalls numer denom calls)
 
 -- an example of the rule book
@@ -93,6 +100,13 @@ silentTurn = pushes608 (field1 (pair 0x94 0x2C)) ∷ pushes608 (field1 (pair 0x9
 -- service 2 twice and service 1, with a null header before the last
 abbrev twoServices : List ℕ
 twoServices = 0x44 ∷ 0x41 ∷ 0x41 ∷ 0x41 ∷ 0x42 ∷ 0x00 ∷ 0x21 ∷ 0x43 ∷ []
+
+-- a frame of one pair, and its packet of number 0 at 30000/1001 frames a second
+abbrev pub onePair : List ℕ
+onePair = 0xC1 ∷ 0xFF ∷ 0xFC ∷ 0x94 ∷ 0x2C ∷ []
+
+abbrev pub onePairSent : List ℕ
+onePairSent = 0x96 ∷ 0x69 ∷ 0x10 ∷ 0x4F ∷ 0x43 ∷ 0x00 ∷ 0x00 ∷ 0x72 ∷ 0xE1 ∷ 0xFC ∷ 0x94 ∷ 0x2C ∷ 0x74 ∷ 0x00 ∷ 0x00 ∷ 0xDC ∷ []
 
 -- the starred examples, in the rule book's order
 unfoldable pub table : List Row
@@ -155,6 +169,21 @@ table =
     (items (says 0 [] ∷ []) (field1 (pair 0x94 0x2C) ∷ []) (one 2 1 (0x41 ∷ []) ∷ []))
     ∷ row (frame 24 1 (sets (paddings true false) ∷ [])) (bytes (0xC3 ∷ 0xFF ∷ 0xF8 ∷ 0x80 ∷ 0x80 ∷ 0xF9 ∷ 0x80 ∷ 0x80 ∷ 0xF8 ∷ 0x80 ∷ 0x80 ∷ []))
     ∷ row (frame 24 1 (sets (paddings true false) ∷ sets (carryingMode true) ∷ [])) (bytes (0xC2 ∷ 0xFF ∷ 0xF8 ∷ 0x80 ∷ 0x80 ∷ 0xF9 ∷ 0x80 ∷ 0x80 ∷ []))
+    ∷ row (sent 0 4 onePair) (bytes onePairSent)
+    ∷ row (sent 65535 8 (0xC0 ∷ 0xFF ∷ [])) (bytes (0x96 ∷ 0x69 ∷ 0x0D ∷ 0x8F ∷ 0x43 ∷ 0xFF ∷ 0xFF ∷ 0x72 ∷ 0xE0 ∷ 0x74 ∷ 0xFF ∷ 0xFF ∷ 0x60 ∷ []))
+    ∷ row (sent 0 4 (0xC2 ∷ 0xFF ∷ 0xFC ∷ 0x94 ∷ 0x2C ∷ [])) (refusal (says 17 []))
+    ∷ row (sent 0 4 []) (refusal (says 17 []))
+    ∷ row (sent 0 9 onePair) (refusal (says 17 []))
+    ∷ row (received none onePairSent) (carried 4 0 onePair)
+    ∷ row (received none (0x96 ∷ 0x69 ∷ 0x10 ∷ 0x40 ∷ 0x00 ∷ 0x00 ∷ 0x00 ∷ 0x72 ∷ 0x01 ∷ 0xFC ∷ 0x94 ∷ 0x2C ∷ 0x74 ∷ 0x00 ∷ 0x00 ∷ 0x0E ∷ [])) (carried 4 0 onePair)
+    ∷ row (received (some 65535) onePairSent) (carried 4 0 onePair)
+    ∷ row (received (some 32769) onePairSent) (carried 4 0 onePair)
+    ∷ row (received (some 32768) onePairSent) (refusal (says 20 []))
+    ∷ row (received (some 0) onePairSent) (refusal (says 20 []))
+    ∷ row (received none (0x69 ∷ 0x96 ∷ [])) (refusal (says 16 []))
+    ∷ row (received none (0x96 ∷ 0x69 ∷ 0x10 ∷ 0x4F ∷ 0xC3 ∷ 0x00 ∷ 0x00 ∷ 0x72 ∷ 0xE1 ∷ 0xFC ∷ 0x94 ∷ 0x2C ∷ 0x74 ∷ 0x00 ∷ 0x00 ∷ 0x5C ∷ [])) (refusal (says 17 []))
+    ∷ row (received none (0x96 ∷ 0x69 ∷ 0x10 ∷ 0x4F ∷ 0x43 ∷ 0x00 ∷ 0x00 ∷ 0x72 ∷ 0xE1 ∷ 0xFC ∷ 0x94 ∷ 0x2C ∷ 0x74 ∷ 0x00 ∷ 0x00 ∷ 0xDD ∷ [])) (refusal (says 18 []))
+    ∷ row (received none (0x96 ∷ 0x69 ∷ 0x10 ∷ 0x4F ∷ 0x43 ∷ 0x00 ∷ 0x00 ∷ 0x72 ∷ 0xE1 ∷ 0xFC ∷ 0x94 ∷ 0x2C ∷ 0x74 ∷ 0x00 ∷ 0x01 ∷ 0xDB ∷ [])) (refusal (says 19 []))
     ∷ []
 
 -- every row computes to its result
@@ -169,5 +198,6 @@ unfolding table
     rounded budgets goingOn carriedBudget leftOver carriedOn carriedShare shareBy
     queued pushPacket isNull pushPair pushCea608 turnsDue turn1 turn2 turned continued started packetTriples triplesQueued
     turnsSending turnsCounted countDue send padding framed writeFrame
-    call run readFrames
+    call run readFrames putInto
+    isCoded sumOf closing sections laidOut hasMark announcesMore inOrder sumsUp countersAgree opened ahead newer takes receivedInto receive isWhole packed
 examples = refl

@@ -3,6 +3,7 @@
 use mathlib.Core.Path.{_≡_, refl}
 use mathlib.Core.Bool.{true, false}
 use mathlib.Core.List.{List, [], _∷_, map}
+use mathlib.Core.Option.{none, some}
 use Prim.Native.Nat.{ℕ}
 use lib.ListN.{replicate}
 use Rattle.model.specs.Said.{Said, gave, checked, putInto}
@@ -15,8 +16,9 @@ use Rattle.model.specs.Demux.{turn608On, freshDemux, pairsIn, lateAfter,
 use Rattle.model.specs.Rate.{rounded, budgets}
 use Rattle.model.specs.Mux.{freshMux, withPackets, queued, isNull, pushPair}
 use Rattle.model.specs.Duration.{ceil, pairsDuration, lengthsOf, bytesLeft, bytesDuration, packetDuration}
+use Rattle.model.specs.Distribution.{isCoded, sumOf, hasMark, announcesMore, inOrder, sumsUp, countersAgree, opened, ahead, newer, takes, receive, isWhole, packed}
 use Rattle.model.specs.Run.{Read, readFrames}
-use Rattle.model.proofs.Examples.{says, one}
+use Rattle.model.proofs.Examples.{says, one, onePairSent}
 
 -- what a fresh demultiplexer with 608 on gives for frames
 abbrev given : List (List ℕ) → Read
@@ -65,6 +67,11 @@ pub profile-order : map (λ (n : ℕ). said.says (pushCodes n (0x10 ∷ 0x90 ∷
 unfolding firstRanges ext1Ranges toldIn toldLength isUntold codeIn codesFrom pushCodesBy
 profile-order = refl
 
+-- a packet that is wrong in several ways is refused by the first of them; one that is not newer is refused before the output is looked at [L4] [L5]
+pub packet-order : map (λ (d : List ℕ). said.says (receive (some 0) d [])) ((0x95 ∷ 0x69 ∷ []) ∷ (0x96 ∷ 0x69 ∷ 0x03 ∷ []) ∷ onePairSent ∷ []) ≡ says 16 [] ∷ says 17 [] ∷ says 20 [] ∷ []
+unfolding isCoded sumOf hasMark announcesMore inOrder sumsUp countersAgree opened ahead newer takes receive
+packet-order = refl
+
 -- Each refusal [A1], by one call that gives it.
 unfoldable pub refusals : List Said
 refusals =
@@ -82,6 +89,11 @@ refusals =
     ∷ said.says (readPacket [])
     ∷ said.says (readBlock [])
     ∷ said.says (readBlock (0x22 ∷ 0x41 ∷ []))
+    ∷ said.says (receive none [] [])
+    ∷ said.says (packed 0 9 (0xC0 ∷ 0xFF ∷ []))
+    ∷ said.says (opened (0x96 ∷ 0x69 ∷ 0x10 ∷ 0x4F ∷ 0x43 ∷ 0x00 ∷ 0x00 ∷ 0x72 ∷ 0xE1 ∷ 0xFC ∷ 0x94 ∷ 0x2C ∷ 0x74 ∷ 0x00 ∷ 0x00 ∷ 0xDD ∷ []))
+    ∷ said.says (opened (0x96 ∷ 0x69 ∷ 0x10 ∷ 0x4F ∷ 0x43 ∷ 0x00 ∷ 0x00 ∷ 0x72 ∷ 0xE1 ∷ 0xFC ∷ 0x94 ∷ 0x2C ∷ 0x74 ∷ 0x00 ∷ 0x01 ∷ 0xDB ∷ []))
+    ∷ said.says (receive (some 0) onePairSent [])
     ∷ said.says (codesOf (0x10 ∷ 0x90 ∷ []))
     ∷ said.says (codesOf (0x98 ∷ 0x41 ∷ []))
     ∷ []
@@ -89,8 +101,10 @@ refusals =
 -- their numbers, and the values that they carry
 pub refusals-told : refusals
     ≡ says 2 (3 ∷ []) ∷ says 3 (2 ∷ []) ∷ says 4 [] ∷ says 5 [] ∷ says 6 [] ∷ says 7 [] ∷ says 8 [] ∷ says 9 (3 ∷ []) ∷ says 10 [] ∷ says 11 []
-    ∷ says 12 (8 ∷ 5 ∷ []) ∷ says 13 (1 ∷ 0 ∷ 0 ∷ []) ∷ says 14 (1 ∷ 0 ∷ 0 ∷ []) ∷ says 15 (3 ∷ 2 ∷ 0 ∷ []) ∷ says 21 [] ∷ says 22 [] ∷ []
+    ∷ says 12 (8 ∷ 5 ∷ []) ∷ says 13 (1 ∷ 0 ∷ 0 ∷ []) ∷ says 14 (1 ∷ 0 ∷ 0 ∷ []) ∷ says 15 (3 ∷ 2 ∷ 0 ∷ []) ∷ says 16 [] ∷ says 17 [] ∷ says 18 [] ∷ says 19 [] ∷ says 20 []
+    ∷ says 21 [] ∷ says 22 [] ∷ []
 unfolding
     refusals firstRanges ext1Ranges toldIn toldLength isUntold codeIn codesFrom headerLength isHeaderShort needed isShort shortAt readBlockAt readBy readPacket packetSize seen seenAll triplesIn flagged pairsIn lateAfter lateFrom takeTriples unread takeFrame
     pushToBlock blockLength blocksLength packetLength pushBlock newBlock rounded budgets putInto isNull queued pushPair
+    isCoded sumOf hasMark announcesMore inOrder sumsUp countersAgree opened ahead newer takes receive isWhole packed
 refusals-told = refl

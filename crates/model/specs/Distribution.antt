@@ -158,9 +158,13 @@ onward counter = (counter + 1) % 2 ^ 16
 unfoldable pub isWhole : List ℕ → Bool
 isWhole f = eqb (length f) (3 * countIn (getD f 0 0) + 2)
 
+-- the packet of a frame's triples
+abbrev pub distributionOf : ℕ → ℕ → List ℕ → Distribution
+distributionOf counter code f = record { code = code; counter = counter; triples = triplesIn (drop 2 f) }
+
 -- a frame as a packet: 17 if it is not whole or the rate has no such code [L3]
 unfoldable pub packed : ℕ → ℕ → List ℕ → Outcome Distribution
-packed counter code f = cond (isWhole f && isCoded code) (gave (record { code = code; counter = counter; triples = triplesIn (drop 2 f) })) (refused badSection)
+packed counter code f = cond (isWhole f && isCoded code) (gave (distributionOf counter code f)) (refused badSection)
 
 -- the packet's bytes, the lent output with them, and the number of the next
 pub record Sent : Type 0 where
