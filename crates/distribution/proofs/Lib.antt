@@ -1,3 +1,6 @@
 pub mod Rates
 pub mod Reading
 pub mod Writing
+pub mod Told
+pub mod Trips
+pub mod Refused
