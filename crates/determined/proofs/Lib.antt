@@ -29,6 +29,10 @@ pub mod WriterSending
 pub mod WriterStoring
 pub mod WriterBuilding
 pub mod Writer
+pub mod DistributionNumbers
+pub mod DistributionReading
+pub mod DistributionWriting
+pub mod Distribution
 pub mod ProgramText
 pub mod ProgramRecords
 pub mod ProgramAnswers

@@ -1,5 +1,5 @@
 -- What is told of a packet or of a rate tells which it is. Assumes nothing.
-use mathlib.Core.Path.{_≡_, refl}
+use mathlib.Core.Path.{refl}
 use mathlib.Core.List.{List}
 use mathlib.Mathlib.Logic.Function.Defs.{Injective, LeftInverse, LeftInverse·injective}
 use Prim.Native.Nat.{ℕ}
