@@ -181,6 +181,7 @@ impl DistributionWriter {
         ensures { λ r. ⌜ Writes self code (now (frame .entry)) (now (out .entry)) r (now (out .exit)) ⌝ }
     {
         let answer = distribution_writing::write_packet(self.next, code, frame, out);
+        let next = distribution_numbers::onward(self.next);
         let Counted::Count(_) = answer else {
             return DistributionWritten {
                 answer,
@@ -189,9 +190,7 @@ impl DistributionWriter {
         };
         DistributionWritten {
             answer,
-            writer: DistributionWriter {
-                next: distribution_numbers::onward(self.next),
-            },
+            writer: DistributionWriter { next },
         }
     }
 }

@@ -8,6 +8,9 @@ use Rattle.distribution.proofs.DistributionWriter.write.Tie as tie
 write-packet-requires : tie.Need-write-packet-requires
 write-packet-requires c κs = search needs
 
+onward-requires : tie.Need-onward-requires
+onward-requires c κs = search needs
+
 enum-told : tie.Need-enum-told
 enum-told c = search needs
 
@@ -19,12 +22,9 @@ same-length c = search needs
 
 returns : tie.Need-returns
 returns c =
-    let s = c .before .before .before .before .before .before .before .before in
-    let w = c .before .before .before .before .write-packet .ensures in
+    let s = c .before .before .before .before .before .before .before .before .before in
+    let w = c .before .before .before .before .before .write-packet .ensures in
     writes-refused (s .args .self) (s .args .code) (now (s .args .frame)) (now (s .args .out)) _ _ (w .0) (w .1) _ (c .enum-told2 .given .1)
-
-onward-requires : tie.Need-onward-requires
-onward-requires c κs = search needs
 
 same-length-2 : tie.Need-same-length-2
 same-length-2 c = search needs
@@ -33,17 +33,17 @@ returns-2 : tie.Need-returns-2
 returns-2 c =
     let s = c .before .before .before .before .before .before .before .before .before in
     let w = c .before .before .before .before .before .write-packet .ensures in
-    writes-done (s .args .self) (s .args .code) (now (s .args .frame)) (now (s .args .out)) _ _ (w .0) (w .1) _ _ (c .before .enum-told .given .1) (c .onward .ensures)
+    writes-done (s .args .self) (s .args .code) (now (s .args .frame)) (now (s .args .out)) _ _ (w .0) (w .1) _ _ (c .enum-told .given .1) (c .before .before .onward .ensures)
 
 pub write-spec : {M : Type 1} → statement M
 write-spec =
     tie.close
     (tie.spec
     write-packet-requires
+    onward-requires
     enum-told
     enum-told-2
     same-length
     returns
-    onward-requires
     same-length-2
     returns-2)
