@@ -1,9 +1,13 @@
 // One block's way through both machines: pushed into a packet, the packet into a multiplexer, a frame written, the frame read and the packet
-// drawn again. Then the same where a turn sends nothing, without and with the true count; and runs of caption codes, whole and cut.
+// drawn again. Then the same where a turn sends nothing, without and with the true count; runs of caption codes, whole and
+// cut; and the first frame once more, by way of a distribution packet.
 use caption::Answer;
 use caption::Cea608;
 use caption::Counted;
 use caption::Framerate;
+use distribution::DistributionReader;
+use distribution::DistributionWriter;
+use distribution::Received;
 use libc::STDOUT_FILENO;
 use packet::DTVCCPacket;
 use parser::CCDataParser;
@@ -55,6 +59,30 @@ fn read_one(frame: &[u8; 95], n: usize) -> Item {
     drawn.item
 }
 
+// A frame of `n` bytes as a distribution packet, of code 5: 30 frames a second.
+fn send_one(frame: &[u8; 95], n: usize, packet: &mut [u8; 106]) -> Counted {
+    let all = &frame[..];
+    let writer = DistributionWriter::new();
+    let sent = writer.write(5, program_records::part(all, 0, n), packet);
+    sent.answer
+}
+
+// The frame of a distribution packet of `n` bytes: how many it has.
+fn receive_one(packet: &[u8; 106], n: usize, frame: &mut [u8; 95]) -> usize {
+    let all = &packet[..];
+    let reader = DistributionReader::new();
+    let read = reader.read(program_records::part(all, 0, n), frame);
+    let received = read.received;
+    match received {
+        Received::Packet {
+            code: _,
+            counter: _,
+            len,
+        } => len,
+        Received::Refused(_) => 0,
+    }
+}
+
 // How many bytes there are, and none where the call was refused.
 fn bytes_of(counted: Counted) -> usize {
     match counted {
@@ -101,4 +129,10 @@ fn main() {
     tell_run(codes::check_run(b"\x92\x01\x02"));
     io::write_all(STDOUT_FILENO, b"its first two: ");
     tell_run(codes::check_run(b"\x92\x01"));
+    io::write_all(STDOUT_FILENO, b"in a distribution packet: ");
+    let mut packet = [0u8; 106];
+    let third = bytes_of(write_one(&mut frame));
+    let sent = bytes_of(send_one(&frame, third, &mut packet));
+    let received = receive_one(&packet, sent, &mut frame);
+    tell(read_one(&frame, received));
 }
