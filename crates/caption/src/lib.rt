@@ -64,7 +64,7 @@ pub enum Refusal {
     BadSection,
     // The sum of the bytes of a distribution packet is not 0.
     BadSum,
-    // The two numbers of a distribution packet differ.
+    // The two counters of a distribution packet differ.
     CountersDiffer,
     // A distribution packet is not newer than the last one.
     NotNewer,

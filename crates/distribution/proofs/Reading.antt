@@ -5,12 +5,12 @@ use mathlib.Core.List.{List, [], _∷_, _++_}
 use mathlib.Core.Option.{some}
 use Prim.Native.Nat.{ℕ, _+_, _-_, _*_, _≤_, _<_}
 use native.Mathlib.Omega.{arith}
-use lib.ListN.{length, getD, take, drop, set, length-append, length-drop}
+use lib.ListN.{length, getD, take, drop, length-drop}
 use lib.Seq.{sets, length-take-le}
 use borrow.Author.Tests.{lt-ltb, le-ltb}
 use Rattle.model.specs.Said.{Outcome, gave, refused, saysWith, mapped, after, putInto, outShort, notNewer}
 use Rattle.model.specs.Frame.{frameBytes}
-use Rattle.model.specs.Distribution.{countOf, counterAt, heldIn, opened, takes, frameOf, receivedInto, receive}
+use Rattle.model.specs.Distribution.{countOf, heldIn, opened, takes, frameOf, receivedInto, receive}
 use Rattle.model.specs.Distribution as packets
 use Rattle.model.proofs.Cases.{gives-at}
 use Rattle.model.proofs.Distribution.{Ordered, passes-ordered, held-bytes, held-count, Passed, opened-passed, opened-numbered}
@@ -20,7 +20,7 @@ use Rattle.caption.specs.declared.Refusal.{Refusal}
 use Rattle.caption.proofs.Answers.{refused-with, given-with}
 use Rattle.distribution_reading.specs.Opened.{fieldsOf}
 use Rattle.distribution.specs.States.{lastOf, readerAt}
-use Rattle.distribution.specs.Calls.{saidReceived, tellsOf, Reads}
+use Rattle.distribution.specs.Calls.{tellsOf, Reads}
 use Rattle.distribution.specs.Frames.{Opens, frameLaid}
 use Rattle.distribution.specs.declared.Received.the-variants.{Packet, Refused}
 use Rattle.distribution.specs.declared.DistributionReader.{DistributionReader}

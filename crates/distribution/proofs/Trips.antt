@@ -50,7 +50,7 @@ Write κs w code frame out end r = write.Post κs (w, (code, (frame, (out, tt)))
 abbrev pub Read : Lfts 2 → DistributionReader → Lent → Lent → Lent → DistributionRead → Type 0
 Read κs d packet out end r = read.Post κs (d, (packet, (out, tt))) r (d, (packet, (end, tt)))
 
--- A frame was written as a packet: it is whole, the rate has a code, the packet has the layout and is in the output, and the number moves on.
+-- A frame was written as a packet: it is whole, the rate has a code, the packet has the layout and is in the output, and the counter moves on.
 pub record Sends (w : DistributionWriter) (code : ℕ) (f out end : List ℕ) (r : DistributionWritten) (n : ℕ) : Type 0 where
   pub whole : isWhole f ≡ true
   pub coded : isCoded code ≡ true
@@ -151,7 +151,7 @@ module _ (κs : Lfts 2) (reader : DistributionReader) (packet out end : Lent) (r
     said-as : said ≡ receive (lastOf (reader .last)) (laidOut u d) (now out)
     said-as = ap (λ (s : List ℕ). receive (lastOf (reader .last)) s (now out)) laid
 
-    -- A packet of the layout that is newer is given, with its code, its number and its frame,
+    -- A packet of the layout that is newer is given, with its code, its counter and its frame,
     pub laid-read : takes (lastOf (reader .last)) (d .counter) ≡ true → 3 * length (d .triples) + 2 ≤ length (now out)
         → (r ≡ record { received = Packet (d .code) (d .counter) (length (frameOf d)); reader = readerAt (d .counter) })
         × (now end ≡ frameOf d ++ drop (length (frameOf d)) (now out))
@@ -171,7 +171,7 @@ module _ (κs : Lfts 2) (reader : DistributionReader) (packet out end : Lent) (r
       let l = opened-laid (now packet) (g .0 .packet) bytes (t .whole) in
       (g .0 .packet, l .0, l .1, t .newer, given-so (g .0) (g .1) .0)
 
--- What was written is read back, by a reader to which its number is newer: the code, the number, and the frame's own triples behind C0 and their count, and FF.
+-- What was written is read back, by a reader to which its counter is newer: the code, the counter, and the frame's own triples behind C0 and their count, and FF.
 pub written-read : (κs κs′ : Lfts 2) (w : DistributionWriter) (code n : ℕ) (frame out end : Lent) (r : DistributionWritten) → Write κs w code frame out end r → r .answer ≡ Count n
     → w .next < 2 ^ 16
     → (reader : DistributionReader) (packet lent after : Lent) (q : DistributionRead) → Read κs′ reader packet lent after q → now packet ≡ take n (now end)
@@ -196,7 +196,7 @@ own-frame f whole a b =
     let l = whole-length f whole in
     cc (drop-cons f 0 0 (omega (arith, l)), drop-cons f 1 0 (omega (arith, l)), a, b)
 
--- a fresh reader takes any number, and one that has read a packet takes the writer's next
+-- a fresh reader takes any counter, and one that has read a packet takes the writer's next
 pub fresh-takes : (n : ℕ) → takes (lastOf (freshReader .last)) n ≡ true
 unfolding takes
 fresh-takes n = refl

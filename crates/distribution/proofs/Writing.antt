@@ -1,9 +1,9 @@
 -- What a write answers in each case. Assumes nothing.
-use mathlib.Core.Path.{_≡_, refl, sym, ap, _∙_}
+use mathlib.Core.Path.{_≡_, sym, ap, _∙_}
 use mathlib.Core.List.{List, [], _∷_}
 use Prim.Native.Nat.{ℕ}
 use lib.ListN.{length}
-use Rattle.model.specs.Said.{Outcome, gave, refused, saysWith, mapped, after}
+use Rattle.model.specs.Said.{Outcome, saysWith, mapped, after}
 use Rattle.model.specs.Distribution.{onward, Sent, distribute}
 use Rattle.model.proofs.Cases.{gives-at}
 use Rattle.model.proofs.Distribution.{SentAs, sent-as, sent-numbered}
@@ -32,7 +32,7 @@ module _ (writer : DistributionWriter) (code : ℕ) (f out : List ℕ) where
         let w = refused-with bytesOf why said (sym (ap saidCounted e) ∙ told) in
         record { answer = told; places = sym (ap (λ (o : Outcome Sent). after writer (mapped (λ x. writerAt (x .next)) o)) w); output = put }
 
-    -- or it is written, and the next packet has the number behind
+    -- or it is written, and the next packet has the counter behind
     pub writes-done : (n next : ℕ) → answer ≡ Count n → next ≡ onward (writer .next) → Writes writer code f out (record { answer = answer; writer = writerAt next }) end
     writes-done n next e o =
         let g = given-with bytesOf (n ∷ []) said (sent-numbered (writer .next) code f out) (sym (ap saidCounted e) ∙ told) in

@@ -3,9 +3,8 @@ use mathlib.Core.Path.{_≡_}
 use mathlib.Core.List.{List, [], _∷_}
 use Prim.Native.Nat.{ℕ}
 use lib.ListN.{length}
-use Rattle.model.specs.Said as model
-use Rattle.model.specs.Said.{Said, Outcome, accepted, saysWith, mapped, after}
-use Rattle.model.specs.Distribution.{frameOf, receive, Sent, distribute}
+use Rattle.model.specs.Said.{Said, accepted, saysWith, mapped, after}
+use Rattle.model.specs.Distribution.{frameOf, receive, distribute}
 use Rattle.model.specs.Distribution as packets
 use Rattle.caption.specs.Answers.{saidRefusal, saidCounted}
 use Rattle.distribution.specs.States.{lastOf, readerAt, writerAt}
@@ -16,7 +15,7 @@ use Rattle.distribution.specs.declared.DistributionRead.{DistributionRea
 use Rattle.distribution.specs.declared.DistributionWriter.{DistributionWriter}
 use Rattle.distribution.specs.declared.DistributionWritten.{DistributionWritten}
 
--- accepted, with the code of the rate, the number, and the length of the frame
+-- accepted, with the code of the rate, the counter, and the length of the frame
 abbrev pub saidReceived : Received → Said
 saidReceived (Packet code counter len) = accepted (code ∷ counter ∷ len ∷ [])
 saidReceived (Refused why) = saidRefusal why
@@ -25,14 +24,14 @@ saidReceived (Refused why) = saidRefusal why
 abbrev pub tellsOf : packets.Received → List ℕ
 tellsOf x = x .packet .code ∷ x .packet .counter ∷ length (frameOf (x .packet)) ∷ []
 
--- a read answers what the model's does; the reader knows the number then, and the frame is in the output
+-- a read answers what the model's does; the reader knows the counter then, and the frame is in the output
 pub record Reads (reader : DistributionReader) (packet out : List ℕ) (r : DistributionRead) (end : List ℕ) : Type 0 where
   pub answer : saidReceived (r .received) ≡ saysWith tellsOf (receive (lastOf (reader .last)) packet out)
   pub means : lastOf (r .reader .last) ≡ after (lastOf (reader .last)) (mapped (λ x. x .last) (receive (lastOf (reader .last)) packet out))
   pub places : r .reader ≡ after reader (mapped (λ x. readerAt (x .packet .counter)) (receive (lastOf (reader .last)) packet out))
   pub output : end ≡ after out (mapped (λ x. x .out) (receive (lastOf (reader .last)) packet out))
 
--- a write answers the packet's length; the writer goes on to the next number, and the packet is in the output
+-- a write answers the packet's length; the writer goes on to the next counter, and the packet is in the output
 pub record Writes (writer : DistributionWriter) (code : ℕ) (frame out : List ℕ) (r : DistributionWritten) (end : List ℕ) : Type 0 where
   pub answer : saidCounted (r .answer) ≡ saysWith (λ x. length (x .bytes) ∷ []) (distribute (writer .next) code frame out)
   pub places : r .writer ≡ after writer (mapped (λ x. writerAt (x .next)) (distribute (writer .next) code frame out))

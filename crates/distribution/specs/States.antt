@@ -6,7 +6,7 @@ use Rattle.distribution.specs.declared.Last.the-variants.{Nothing, Count
 use Rattle.distribution.specs.declared.DistributionReader.{DistributionReader}
 use Rattle.distribution.specs.declared.DistributionWriter.{DistributionWriter}
 
--- the number accepted last, or none yet [L5]
+-- the counter accepted last, or none yet [L5]
 abbrev pub lastOf : Last → Option ℕ
 lastOf Nothing = none
 lastOf (Counter n) = some n
@@ -15,11 +15,11 @@ lastOf (Counter n) = some n
 abbrev pub freshReader : DistributionReader
 freshReader = record { last = Nothing }
 
--- one that has accepted this number
+-- one that has accepted this counter
 abbrev pub readerAt : ℕ → DistributionReader
 readerAt n = record { last = Counter n }
 
--- a writer whose next packet has this number
+-- a writer whose next packet has this counter
 abbrev pub writerAt : ℕ → DistributionWriter
 writerAt n = record { next = n }
 

@@ -16,7 +16,7 @@ use caption::Refusal;
 use distribution_numbers::is_coded;
 use distribution_reading::Opened;
 
-// The number of the packet that a reader accepted last.
+// The counter of the packet that a reader accepted last.
 pub enum Last {
     // None was accepted yet.
     Nothing,
@@ -30,7 +30,7 @@ pub struct DistributionReader {
 
 // What a reader tells of a packet.
 pub enum Received {
-    // Its rate by its code, its number, and how many bytes of the lent output are its frame.
+    // Its rate by its code, its counter, and how many bytes of the lent output are its frame.
     Packet { code: u8, counter: u16, len: usize },
     Refused(Refusal),
 }
@@ -41,7 +41,7 @@ pub struct DistributionRead {
     pub reader: DistributionReader,
 }
 
-// A writer of packets: the next one has this number.
+// A writer of packets: the next one has this counter.
 pub struct DistributionWriter {
     pub next: u16,
 }
@@ -95,7 +95,7 @@ pub fn rate_of(code: u8) -> CodedRate
 }
 
 impl DistributionReader {
-    // A fresh reader, which takes any first number [L5].
+    // A fresh reader, which takes any first counter [L5].
     pub fn new() -> Self
         ensures { λ r. ⌜ (lastOf (r .last) ≡ none) × (r ≡ freshReader) ⌝ }
     {
@@ -118,7 +118,7 @@ impl DistributionReader {
         }
     }
 
-    // Gives the frame of a packet that was opened, if its number is newer and there is room.
+    // Gives the frame of a packet that was opened, if its counter is newer and there is room.
     fn give(
         self,
         packet: &[u8],
@@ -146,7 +146,7 @@ impl DistributionReader {
         }
     }
 
-    // Whether a number is newer than the last; any is, where there is none yet.
+    // Whether a counter is newer than the last; any is, where there is none yet.
     fn takes(self, counter: u16) -> bool
         ensures { λ r. ⌜ r ≡ takes (lastOf (self .last)) counter ⌝ }
     {
@@ -169,7 +169,7 @@ impl DistributionReader {
 }
 
 impl DistributionWriter {
-    // A fresh writer: its first packet has number 0 [L5].
+    // A fresh writer: its first packet has counter 0 [L5].
     pub fn new() -> Self
         ensures { λ r. ⌜ r ≡ freshWriter ⌝ }
     {

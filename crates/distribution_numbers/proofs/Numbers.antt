@@ -1,5 +1,5 @@
 -- What operations that wrap around give, and a sum that grows by a byte. Assumes nothing.
-use mathlib.Core.Path.{_≡_, refl, sym, ap, _∙_}
+use mathlib.Core.Path.{_≡_, refl, ap, _∙_}
 use mathlib.Core.List.{List, [], _∷_, _++_}
 use Prim.Native.Nat.{ℕ, suc, _+_, _%_, _^_, _<_}
 use native.Mathlib.Omega.{arith}
@@ -8,7 +8,7 @@ use lib.Seq.{take-suc}
 use Rattle.model.specs.Distribution.{ahead, sumOf, closing}
 use Rattle.model.proofs.Distribution.{sum-append}
 
--- what a subtraction that wraps ensures is how far a number lies ahead
+-- what a subtraction that wraps ensures is how far a counter lies ahead
 pub age-is : (last counter age : ℕ) → last < 2 ^ 16 → age < 2 ^ 16 → (age + last) % 2 ^ 16 ≡ counter → age ≡ ahead last counter
 unfolding ahead
 age-is last counter age h l e = omega arith

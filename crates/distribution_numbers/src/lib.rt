@@ -1,4 +1,4 @@
-// The numbers of a distribution packet: which of two is newer and which comes next, the sum of its bytes, and the codes of rates.
+// The numbers of a distribution packet: which of two counters is newer and which comes next, the sum of its bytes, and the codes of rates.
 ghost use mathlib.Core.Path.{_≡_};
 ghost use Prim.Native.Nat.{_%_};
 ghost use Rattle.model.specs.Distribution.{newer, onward, sumOf, closing, isCoded};
@@ -6,10 +6,10 @@ ghost use Rattle.model.specs.Distribution.{newer, onward, sumOf, closing, isCod
 // The highest code of a rate.
 pub const MOST_CODE: u8 = 8;
 
-// The most by which a newer number lies ahead.
+// The most by which a newer counter lies ahead.
 const MOST_AHEAD: u16 = 32767;
 
-// Whether a number is newer than the last one: its age, by a subtraction that wraps, is 1 to 32,767 [L5].
+// Whether a counter is newer than the last one: its age, by a subtraction that wraps, is 1 to 32,767 [L5].
 pub fn newer(last: u16, counter: u16) -> bool
     ensures { λ r. ⌜ r ≡ newer last counter ⌝ }
 {
@@ -17,7 +17,7 @@ pub fn newer(last: u16, counter: u16) -> bool
     1 <= age && age <= MOST_AHEAD
 }
 
-// The number behind a number; 0 behind 65,535 [L5].
+// The counter behind a counter; 0 behind 65,535 [L5].
 pub fn onward(counter: u16) -> u16
     ensures { λ r. ⌜ r ≡ onward counter ⌝ }
 {

@@ -8,7 +8,7 @@ use Rattle.caption.specs.Answers.{saidRefusal}
 use Rattle.distribution_reading.specs.declared.Opened.{Opened}
 use Rattle.distribution_reading.specs.declared.Opened.the-variants.{Packet, Refused}
 
--- the code of its rate, its number, and how many triples it has
+-- the code of its rate, its counter, and how many triples it has
 abbrev pub fieldsOf : Distribution → List ℕ
 fieldsOf d = d .code ∷ d .counter ∷ length (d .triples) ∷ []
 

@@ -1,4 +1,4 @@
-// The packet in some bytes, whatever came before it: its mark, its sections, its sum and its two numbers are looked at in this order.
+// The packet in some bytes, whatever came before it: its mark, its sections, its sum and its two counters are looked at in this order.
 ghost use mathlib.Core.Path.{_≡_};
 ghost use Prim.Native.Nat.{_+_, _*_, _≤_};
 ghost use lib.ListN.{length};
@@ -13,7 +13,7 @@ use distribution_numbers::sum_of;
 // The bytes of a packet without triples.
 const LEAST: usize = 13;
 
-// What a packet holds: the code of its rate, its number, and how many triples; or why there is none.
+// What a packet holds: the code of its rate, its counter, and how many triples; or why there is none.
 pub enum Opened {
     Packet {
         code: u8,
@@ -69,19 +69,19 @@ fn in_order(packet: &[u8]) -> bool
     n == LEAST + 3 * wide(packet[8] % 32)
 }
 
-// The number of two bytes, the higher first.
-fn number_of(high: u8, low: u8) -> u16
+// The counter of two bytes, the higher first.
+fn counter_of(high: u8, low: u8) -> u16
     ensures { λ r. ⌜ r ≡ 256 * high + low ⌝ }
 {
     256 * high as u16 + low as u16
 }
 
-// The number in the two bytes from `at` on.
+// The counter in the two bytes from `at` on.
 fn counter_at(packet: &[u8], at: usize) -> u16
     requires { ⌜ at + 2 ≤ length (now packet) ⌝ }
     ensures { λ r. ⌜ r ≡ counterAt at (now (packet .entry)) ⌝ }
 {
-    number_of(packet[at], packet[at + 1])
+    counter_of(packet[at], packet[at + 1])
 }
 
 // The packet in some bytes [L4].

@@ -28,7 +28,7 @@ fn is_whole(frame: &[u8]) -> bool
     n == 3 * wide(frame[0] % 32) + 2
 }
 
-// A number as two bytes, the higher first.
+// A counter as two bytes, the higher first.
 fn two_bytes(counter: u16) -> [u8; 2]
     ensures { λ r. ⌜ r ≡ twoBytes counter ⌝ }
 {
@@ -83,7 +83,7 @@ fn lay_out(counter: u16, code: u8, frame: &[u8], out: &mut [u8])
     out[end] = closing_byte(sum);
 }
 
-// Writes a frame as a packet of this number, at the rate of a code [L3].
+// Writes a frame as a packet with this counter, at the rate of a code [L3].
 pub fn write_packet(counter: u16, code: u8, frame: &[u8], out: &mut [u8]) -> Counted
     ensures { λ r. ⌜ saidCounted r ≡ saysWith (λ x. length (x .bytes) ∷ []) (distribute counter code (now (frame .entry)) (now (out .entry))) ⌝ }
     ensures { λ _. ⌜ now (out .exit) ≡ after (now (out .entry)) (mapped (λ x. x .out) (distribute counter code (now (frame .entry)) (now (out .entry)))) ⌝ }

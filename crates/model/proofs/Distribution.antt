@@ -1,9 +1,8 @@
 -- Distribution packets: what is laid out is read as that packet, whatever stands where a reader does not look, and nothing else is read; its sum; and
--- which numbers are newer. Assumes nothing.
+-- which counters are newer. Assumes nothing.
 use mathlib.Core.Path.{_≡_, refl, sym, ap, ap₂, subst, _∙_}
-use mathlib.Core.Bool.{Bool, true, false, cond, not, _&&_, and-false}
+use mathlib.Core.Bool.{Bool, true, false, not, _&&_, and-false}
 use mathlib.Core.List.{List, [], _∷_, _++_, append-assoc}
-use mathlib.Core.Option.{Option, none, some}
 use Prim.Native.Nat.{ℕ, zero, suc, _+_, _-_, _*_, _/_, _%_, _^_, _≤_, _<_}
 use native.Mathlib.Omega.{arith}
 use borrow.Author.Tests.{eq-eqb, eqb-true, le-leb, lt-leb, leb-true, ltb-true, not-true}
@@ -11,8 +10,8 @@ use lib.Dec.{eqb, leb, ltb}
 use lib.ListN.{length, getD, take, drop, length-append, length-drop, take-append-drop}
 use lib.Seq.{getD-append-add, take-at, drop-cons, length-take-le, drop-length, drop-drop}
 use Rattle.model.specs.Lists.{every}
-use Rattle.model.specs.Said.{Outcome, gave, refused, mapped, putInto, badSection}
-use Rattle.model.specs.Frame.{Triple, tri, flat, triplesIn, countIn, frameBytes}
+use Rattle.model.specs.Said.{gave, putInto}
+use Rattle.model.specs.Frame.{flat, triplesIn, countIn, frameBytes}
 use Rattle.model.specs.Distribution.{Distribution, isCoded, lengthWith, twoBytes, sumOf, closing, Unread, asWritten, sections, laidOut, distributionBytes, hasMark, announcesMore, countOf, inOrder, counterAt, sumsUp, countersAgree, heldIn, opened, ahead, newer, frameOf, onward, isWhole, distributionOf, packed, Sent, sentInto, distribute}
 use Rattle.model.proofs.Cases.{by-test, by-cond, both, and-both, Gives, gives-at, gives-mapped, NotAccepted, Refuses, refuses-then, refuses-mapped}
 use Rattle.model.proofs.Lists.{every-at}
@@ -34,7 +33,7 @@ closes-only : (s x : ℕ) → x < 256 → (s + x) % 256 ≡ 0 → x ≡ closing 
 unfolding closing
 closes-only s x h e = omega arith
 
--- what can be laid out: a rate that has a code, a number of 16 bits, no more triples than a count can say, and no other section announced
+-- what can be laid out: a rate that has a code, a counter of 16 bits, no more triples than a count can say, and no other section announced
 pub record Fits (u : Unread) (d : Distribution) : Type 0 where
   pub code : isCoded (d .code) ≡ true
   pub counter : d .counter < 2 ^ 16
@@ -266,7 +265,7 @@ module _ (s : List ℕ) (bytes : every isByte s ≡ true) (p : Passed s (heldIn 
   triples-count : length (heldIn s .triples) ≡ n
   triples-count = held-count s o
 
-  -- the counter is a number of 16 bits, and its two bytes are those of head and footer
+  -- the two bytes of the counter are those of head and footer
   high : heldIn s .counter / 256 ≡ getD s 5 0
   high = omega (arith, below 6 (omega (arith, counted)))
 
@@ -361,17 +360,17 @@ opened-laid s d bytes e =
     let q = subst (λ (x : Distribution). Passed s x) (p .held) p in
     subst (λ (x : Distribution). (s ≡ laidOut (unreadIn s) x) × Fits (unreadIn s) x) (sym (p .held)) (held-laid s bytes q, held-fits s bytes q)
 
--- how far a number lies ahead, to which k steps lead on
+-- how far a counter lies ahead, to which k steps lead on
 pub ahead-steps : (last k : ℕ) → last < 2 ^ 16 → k < 2 ^ 16 → ahead last ((last + k) % 2 ^ 16) ≡ k
 unfolding ahead
 ahead-steps last k h l = omega arith
 
--- so newer numbers are those to which 1 to 32,767 steps lead on [L5]
+-- so newer counters are those to which 1 to 32,767 steps lead on [L5]
 pub newer-steps : (last k : ℕ) → last < 2 ^ 16 → k < 2 ^ 16 → newer last ((last + k) % 2 ^ 16) ≡ leb 1 k && leb k 32767
 unfolding newer
 newer-steps last k h l = rw (ahead-steps last k h l)
 
--- of two numbers at most one is newer than the other
+-- of two counters at most one is newer than the other
 pub newer-one-way : (a b : ℕ) → a < 2 ^ 16 → b < 2 ^ 16 → newer a b ≡ true → newer b a ≡ false
 unfolding newer ahead
 newer-one-way a b h l e =
@@ -380,7 +379,7 @@ newer-one-way a b h l e =
     let y = leb-true (ahead a b) 32767 (t .1) in
     ap (λ (t : Bool). leb 1 (ahead b a) && t) (lt-leb (ahead b a) 32767 (omega arith)) ∙ and-false (leb 1 (ahead b a))
 
--- a number is taken over and over by its own steps: the next one is newer
+-- the next counter is newer
 pub onward-newer : (last : ℕ) → last < 2 ^ 16 → newer last (onward last) ≡ true
 unfolding onward
 onward-newer last h = newer-steps last 1 h (omega arith)
@@ -406,7 +405,7 @@ module _ (f : List ℕ) (whole : isWhole f ≡ true) where
   unfolding frameBytes
   whole-frame code counter = rw (whole-bytes, whole-count)
 
--- what becomes of a frame that is written: it is whole, the rate has a code, its packet is in the output, and the number has moved on [L3] [L5]
+-- what becomes of a frame that is written: it is whole, the rate has a code, its packet is in the output, and the counter has moved on [L3] [L5]
 pub record SentAs (counter code : ℕ) (f out : List ℕ) (x : Sent) : Type 0 where
   pub whole : isWhole f ≡ true
   pub coded : isCoded code ≡ true
@@ -440,7 +439,7 @@ sent-numbered counter code f out =
     (λ d. refuses-mapped NotAccepted _ (putInto out (distributionBytes d))
     (by-cond (Refuses NotAccepted) (ltb (length out) (length (distributionBytes d))) (λ _ e. omega (arith, e)) (λ _. tt)))
 
--- such a packet can be laid out, if its number is one of 16 bits
+-- such a packet can be laid out, if its counter is one of 16 bits
 pub sent-fits : (counter code : ℕ) (f : List ℕ) → isWhole f ≡ true → isCoded code ≡ true → counter < 2 ^ 16 → Fits asWritten (distributionOf counter code f)
 unfolding announcesMore
 sent-fits counter code f whole coded h = record { code = coded; counter = h; few = omega (arith, whole-count f whole); beside = omega arith; alone = refl }

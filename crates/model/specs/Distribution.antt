@@ -9,7 +9,7 @@ use Rattle.model.specs.Said.{Outcome, gave, refused, andThen, mapped, pu
 use Rattle.model.specs.Frame.{Triple, flat, triplesIn, countIn, frameBytes}
 use Rattle.model.specs.Rate.{Rate, rate}
 
--- the code of a rate, the packet's number, and its triples
+-- the code of a rate, the packet's counter, and its triples
 pub record Distribution : Type 0 where
   pub code : ℕ
   pub counter : ℕ
@@ -31,7 +31,7 @@ rateOf code = cond (isCoded code) (gave (getD codedRates (code - 1) (rate 0 0)))
 abbrev pub lengthWith : ℕ → ℕ
 lengthWith n = 13 + 3 * n
 
--- a number of 16 bits in two bytes, the higher first
+-- a counter in two bytes, the higher first
 abbrev pub twoBytes : ℕ → List ℕ
 twoBytes n = n / 256 ∷ n % 256 ∷ []
 
@@ -94,7 +94,7 @@ inOrder s =
     && (eqb (getD s (length s - 4) 0) 0x74
     && eqb (length s) (lengthWith (countOf s)))))))
 
--- the number in the two bytes from a place on
+-- the counter in the two bytes from a place on
 abbrev pub counterAt : ℕ → List ℕ → ℕ
 counterAt at s = 256 * getD s at 0 + getD s (at + 1) 0
 
@@ -102,7 +102,7 @@ counterAt at s = 256 * getD s at 0 + getD s (at + 1) 0
 unfoldable pub sumsUp : List ℕ → Bool
 sumsUp s = eqb (sumOf s % 256) 0
 
--- head and footer have the same number [L4]
+-- head and footer have the same counter [L4]
 unfoldable pub countersAgree : List ℕ → Bool
 countersAgree s = eqb (counterAt 5 s) (counterAt (length s - 3) s)
 
@@ -119,7 +119,7 @@ opened s =
     (refused badSection))
     (refused badMark)
 
--- how far a number lies ahead of the last one, counting on from 65,535 at 0 [L5]
+-- how far a counter lies ahead of the last one, counting on from 65,535 at 0 [L5]
 unfoldable pub ahead : ℕ → ℕ → ℕ
 ahead last counter = (counter + (2 ^ 16 - last)) % 2 ^ 16
 
@@ -127,7 +127,7 @@ ahead last counter = (counter + (2 ^ 16 - last)) % 2 ^ 16
 unfoldable pub newer : ℕ → ℕ → Bool
 newer last counter = leb 1 (ahead last counter) && leb (ahead last counter) 32767
 
--- what a reader takes that has last accepted this number, or none yet [L5]
+-- what a reader takes that has last accepted this counter, or none yet [L5]
 unfoldable pub takes : Option ℕ → ℕ → Bool
 takes none counter = true
 takes (some last) counter = newer last counter
@@ -136,7 +136,7 @@ takes (some last) counter = newer last counter
 abbrev pub frameOf : Distribution → List ℕ
 frameOf d = frameBytes (record { count = length (d .triples); triples = d .triples })
 
--- a packet that is read, the lent output with its frame, and the number accepted last
+-- a packet that is read, the lent output with its frame, and the counter accepted last
 pub record Received : Type 0 where
   pub packet : Distribution
   pub out : List ℕ
@@ -150,7 +150,7 @@ receivedInto out d = mapped (λ o. record { packet = d; out = o; last = some (d 
 unfoldable pub receive : Option ℕ → List ℕ → List ℕ → Outcome Received
 receive last s out = andThen (opened s) (λ d. cond (takes last (d .counter)) (receivedInto out d) (refused notNewer))
 
--- the number behind a number [L5]
+-- the counter behind a counter [L5]
 unfoldable pub onward : ℕ → ℕ
 onward counter = (counter + 1) % 2 ^ 16
 
@@ -166,13 +166,13 @@ distributionOf counter code f = record { code = code; counter = counter; triples
 unfoldable pub packed : ℕ → ℕ → List ℕ → Outcome Distribution
 packed counter code f = cond (isWhole f && isCoded code) (gave (distributionOf counter code f)) (refused badSection)
 
--- the packet's bytes, the lent output with them, and the number of the next
+-- the packet's bytes, the lent output with them, and the counter of the next
 pub record Sent : Type 0 where
   pub bytes : List ℕ
   pub out : List ℕ
   pub next : ℕ
 
--- a packet written to a lent output; the next has the number behind its own
+-- a packet written to a lent output; the next has the counter behind its own
 unfoldable pub sentInto : List ℕ → Distribution → Outcome Sent
 sentInto out d = mapped (λ o. record { bytes = distributionBytes d; out = o; next = onward (d .counter) }) (putInto out (distributionBytes d))
 

@@ -85,7 +85,7 @@ badSection = record { number = 17; values = [] }
 abbrev pub badSum : Said
 badSum = record { number = 18; values = [] }
 
--- 19: its two numbers differ [R19]
+-- 19: its two counters differ [R19]
 abbrev pub countersDiffer : Said
 countersDiffer = record { number = 19; values = [] }
 

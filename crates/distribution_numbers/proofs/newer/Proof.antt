@@ -1,4 +1,4 @@
--- The age is how far the number lies ahead, and both tests of it are made, or the first has failed. Assumes nothing.
+-- The age is how far the counter lies ahead, and both tests of it are made, or the first has failed. Assumes nothing.
 use native.Mathlib.Omega.{arith}
 use borrow.Author.Needs.{needs}
 use borrow.Author.Tests.{le-leb, lt-leb}

@@ -1,4 +1,4 @@
--- An addition that wraps is the number behind. Assumes nothing.
+-- An addition that wraps is the counter behind. Assumes nothing.
 use borrow.Author.Needs.{needs}
 use Rattle.model.specs.Distribution.{onward}
 use Rattle.distribution_numbers.proofs.onward.Statement.{statement}

@@ -1,6 +1,4 @@
 -- One of the two flags is set, or the other tells. Assumes nothing.
-use mathlib.Core.Bool.{Bool}
-use native.Mathlib.Omega.{arith}
 use borrow.Author.Tests.{eq-eqb, ne-eqb}
 use Rattle.model.specs.Distribution.{announcesMore}
 use Rattle.distribution_reading.proofs.announces_more.Statement.{statement}

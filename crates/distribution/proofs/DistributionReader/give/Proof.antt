@@ -1,4 +1,4 @@
--- Each refusal where what comes before it has passed; else the frame is laid, and the reader knows the number. Assumes nothing.
+-- Each refusal where what comes before it has passed; else the frame is laid, and the reader knows the counter. Assumes nothing.
 use mathlib.Core.Path.{sym, _∙_}
 use native.Mathlib.Omega.{arith}
 use denote.Ref.{now}

@@ -1,4 +1,4 @@
--- There is none yet, or the number is compared with the last. Assumes nothing.
+-- There is none yet, or the counter is compared with the last. Assumes nothing.
 use mathlib.Core.Path.{refl}
 use borrow.Author.Needs.{needs}
 use Rattle.model.specs.Distribution.{takes}

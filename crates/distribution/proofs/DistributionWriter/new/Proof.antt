@@ -1,4 +1,4 @@
--- The first number is 0. Assumes nothing.
+-- The first counter is 0. Assumes nothing.
 use mathlib.Core.Path.{refl}
 use Rattle.distribution.proofs.DistributionWriter.new.Statement.{statement}
 use Rattle.distribution.proofs.DistributionWriter.new.Tie as tie
