@@ -60,7 +60,8 @@ pub enum Refusal {
     },
     // What is read does not begin as a distribution packet does.
     BadMark,
-    // A length, a section or the rate of a distribution packet is wrong, or a frame that is to become one has another length than its count asks for.
+    // A length, a section or the rate of a distribution packet is wrong, a frame that is to become one has another length than its count asks for, or a
+    // code has no rate.
     BadSection,
     // The sum of the bytes of a distribution packet is not 0.
     BadSum,
