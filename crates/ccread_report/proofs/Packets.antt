@@ -70,7 +70,7 @@ module _ (n : ℕ) (s : List ℕ) (c : Capture) (read : DistributionRead) (end :
   module _ (code counter len : ℕ) (e : read .received ≡ Packet code counter len) (part : List ℕ) (is : part ≡ take len (drop 0 end)) where
     given : Gave code counter len end o
     unfolding cdpRead
-    given = reads-gave (c .reader) s (replicate 95 0) read end h code counter len (omega arith) e
+    given = reads-gave (c .reader) s (replicate 95 0) read end h code counter len e
 
     abbrev x : packets.Received
     x = given .read
