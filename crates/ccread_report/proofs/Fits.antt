@@ -6,7 +6,7 @@ use mathlib.Core.Option.{Option, none, some}
 use Prim.Native.Nat.{ℕ, _+_, _*_, _^_, _≤_, _<_}
 use native.Mathlib.Omega.{arith}
 use lib.Dec.{eqb, ltb}
-use lib.ListN.{length, getD, drop, replicate, length-append}
+use lib.ListN.{length, getD, drop, length-append}
 use borrow.Author.Tests.{ne-eqb, eqb-true, eqb-false, ltb-true, ltb-false}
 use Rattle.model.specs.Lists.{every}
 use Rattle.model.specs.Said.{Said, Outcome, gave, refused, accepted, badValue, saysWith, mapped, after}
@@ -30,7 +30,7 @@ use Rattle.parser.proofs.Kept.{sound-demux}
 use Rattle.model.proofs.DemuxStates.{DemuxLimits, demux-facts, take-valid}
 use Rattle.distribution.specs.States.{lastOf}
 use Rattle.distribution.proofs.Given.{ReceivedAs, OfPacket, received-as, received-refused}
-use Rattle.ccread_report.specs.Report.{pairLine, blockLines, packetLines, pairLines, packetsLines, waitingLines, takenLines, frameLines, cdpRead, cdpValues, cdpLine, cdpLines, recordLines}
+use Rattle.ccread_report.specs.Report.{pairLine, blockLines, packetLines, pairLines, packetsLines, waitingLines, takenLines, frameLines, lent, cdpRead, cdpValues, cdpLine, cdpLines, recordLines}
 use Rattle.ccread_report.specs.declared.Capture.{Capture}
 
 -- the length of several parts
@@ -211,17 +211,17 @@ cdp-line-fits r a h k =
 
 -- the lines of a record of bytes
 module _ (r : ℕ) (s : List ℕ) (c : Capture) (few : r < 2 ^ 64) (shaped : Shaped (c .parser)) (bytes : (i : ℕ) → getD s i 0 < 256) where
-  lines-fit : (o : Outcome Received) → Gives (ReceivedAs s (replicate 95 0)) o → Refuses OfPacket o
+  lines-fit : (o : Outcome Received) → Gives (ReceivedAs s lent) o → Refuses OfPacket o
       → length (cdpLine r (saysWith cdpValues o) ++ after [] (mapped (λ x. frameLines r (frameOf (x .packet)) (c .parser)) o)) ≤ 32768
   lines-fit (gave x) g w =
-      let l = cdp-line-fits r (accepted (cdpValues x)) few (values-fit s (replicate 95 0) x bytes g) in
+      let l = cdp-line-fits r (accepted (cdpValues x)) few (values-fit s lent x bytes g) in
       rw (two (cdpLine r (accepted (cdpValues x))) (frameLines r (frameOf (x .packet)) (c .parser))) (omega (arith, l, frame-fits r (frameOf (x .packet)) (c .parser) few shaped))
   lines-fit (refused why) g w = rw append-nil (omega (arith, cdp-line-fits r why few (refusal-fits why w)))
 
   cdp-fits : length (cdpLines r s c) ≤ 32768
   unfolding cdpLines cdpRead
   cdp-fits =
-      lines-fit (cdpRead s (c .reader)) (received-as (lastOf (c .reader .last)) s (replicate 95 0)) (received-refused (lastOf (c .reader .last)) s (replicate 95 0) (omega arith))
+      lines-fit (cdpRead s (c .reader)) (received-as (lastOf (c .reader .last)) s lent) (received-refused (lastOf (c .reader .last)) s lent (omega arith))
 
   pub record-fits : (kind : ℕ) → length (recordLines r kind s c) ≤ 32768
   unfolding recordLines

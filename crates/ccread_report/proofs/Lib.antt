@@ -4,3 +4,4 @@ pub mod Going
 pub mod Frames
 pub mod Packets
 pub mod Fits
+pub mod Rules

@@ -1,10 +1,8 @@
 -- The lines of a distribution packet: what it is answered and, where it is accepted, those of its frame. Assumes nothing.
 use mathlib.Core.Path.{_≡_, refl, sym, ap, ap₂, subst, _∙_}
 use mathlib.Core.List.{List, [], _∷_, _++_, append-nil}
-use Prim.Native.Nat.{ℕ, _≤_}
-use native.Mathlib.Omega.{arith}
-use lib.Dec.{eqb}
-use lib.ListN.{length, take, drop, replicate}
+use Prim.Native.Nat.{ℕ}
+use lib.ListN.{take, drop}
 use borrow.Author.Tests.{eq-eqb, ne-eqb}
 use Rattle.caption.specs.declared.Refusal.{Refusal}
 use Rattle.caption.specs.Answers.{saidRefusal}
@@ -23,7 +21,7 @@ use Rattle.program_text.specs.Laid.{Laid}
 use Rattle.program_text.specs.Text.{word, decimal}
 use Rattle.program_text.proofs.Layings.{laid-append}
 use Rattle.program_lines.specs.Lines.{valueText, valuesText, answerText}
-use Rattle.ccread_report.specs.Report.{frameLines, settled, cdpRead, cdpValues, cdpLine, cdpLines, cdpTaken, recordLines, recorded, saidCdp, besides}
+use Rattle.ccread_report.specs.Report.{frameLines, settled, lent, cdpRead, cdpValues, cdpLine, cdpLines, cdpTaken, recordLines, recorded, saidCdp, besides}
 use Rattle.ccread_report.specs.declared.Told.{Told}
 use Rattle.ccread_report.specs.declared.Capture.{Capture}
 use Rattle.ccread_report.specs.declared.Recorded.{Recorded}
@@ -55,8 +53,8 @@ module _ (n : ℕ) (s : List ℕ) (c : Capture) (x : packets.Received) (whole : 
   unfolding cdpTaken
   given-taken = rw whole
 
--- a packet that is read, with 95 bytes lent
-module _ (n : ℕ) (s : List ℕ) (c : Capture) (read : DistributionRead) (end : List ℕ) (h : Reads (c .reader) s (replicate 95 0) read end) where
+-- a packet that is read, its frame laid into what is lent
+module _ (n : ℕ) (s : List ℕ) (c : Capture) (read : DistributionRead) (end : List ℕ) (h : Reads (c .reader) s lent read end) where
   -- what it gives
   abbrev o : Outcome packets.Received
   o = cdpRead s (c .reader)
@@ -70,7 +68,7 @@ module _ (n : ℕ) (s : List ℕ) (c : Capture) (read : DistributionRead) (end :
   module _ (code counter len : ℕ) (e : read .received ≡ Packet code counter len) (part : List ℕ) (is : part ≡ take len (drop 0 end)) where
     given : Gave code counter len end o
     unfolding cdpRead
-    given = reads-gave (c .reader) s (replicate 95 0) read end h code counter len e
+    given = reads-gave (c .reader) s lent read end h code counter len e
 
     abbrev x : packets.Received
     x = given .read
@@ -100,7 +98,7 @@ module _ (n : ℕ) (s : List ℕ) (c : Capture) (read : DistributionRead) (end :
   module _ (why : Refusal) (e : read .received ≡ Refused why) where
     refused-is : o ≡ refused (saidRefusal why)
     unfolding cdpRead
-    refused-is = reads-why (c .reader) s (replicate 95 0) read end h why e
+    refused-is = reads-why (c .reader) s lent read end h why e
 
     refused-lines : cdpLine n (saidCdp (read .received)) ≡ cdpLines n s c
     unfolding cdpLines saidCdp

@@ -78,9 +78,13 @@ itemLines item.Packet p = packetLines p
 itemLines item.Nothing p = []
 itemLines (item.Refused why) p = []
 
--- a packet that is read: 95 bytes are lent, enough for every frame
+-- what is lent for the frame of a packet: 95 bytes, enough for every frame
+abbrev pub lent : List ℕ
+lent = replicate 95 0
+
+-- a packet that is read
 unfoldable pub cdpRead : List ℕ → DistributionReader → Outcome Received
-cdpRead s d = receive (lastOf (d .last)) s (replicate 95 0)
+cdpRead s d = receive (lastOf (d .last)) s lent
 
 -- the code of its rate, and its number
 abbrev pub cdpValues : Received → List ℕ

@@ -10,7 +10,7 @@ use Rattle.ccread_report.specs.declared.Told.{Told}
 use Rattle.ccread_report.specs.declared.Capture.{Capture}
 use Rattle.ccread_report.specs.declared.Recorded.{Recorded}
 use Rattle.ccread_report.proofs.put_frame.Reads as put_frame
-use Rattle.ccread_report.proofs.put_record.Reads as put_record
+use Rattle.ccread_report.proofs.put_record.Reads as putRecord
 use Rattle.determined.specs.Determines.{DeterminesLent}
 use Rattle.determined.proofs.Ways.{two}
 
@@ -28,5 +28,5 @@ pub put-frame : (κs : Lfts 2) → DeterminesLent (λ e. now (e .0)) (put_frame.
 put-frame κs = lays-and-leaves (λ (x : ℕ) (p : CCDataParser). record { laid = x; parser = p }) (λ (r : Told). r .laid) (λ (r : Told). r .parser) (λ r. refl)
 
 -- `put_record(out, at, number, kind, bytes, before)`
-pub put-record : (κs : Lfts 2) → DeterminesLent (λ e. now (e .0)) (put_record.Post κs)
+pub put-record : (κs : Lfts 2) → DeterminesLent (λ e. now (e .0)) (putRecord.Post κs)
 put-record κs = lays-and-leaves (λ (x : ℕ) (c : Capture). record { laid = x; capture = c }) (λ (r : Recorded). r .laid) (λ (r : Recorded). r .capture) (λ r. refl)
