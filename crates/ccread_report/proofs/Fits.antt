@@ -30,7 +30,7 @@ use Rattle.parser.proofs.Kept.{sound-demux}
 use Rattle.model.proofs.DemuxStates.{DemuxLimits, demux-facts, take-valid}
 use Rattle.distribution.specs.States.{lastOf}
 use Rattle.distribution.proofs.Given.{ReceivedAs, OfPacket, received-as, received-refused}
-use Rattle.ccread_report.specs.Report.{pairLine, blockLines, packetLines, pairLines, packetsLines, waitingLines, takenLines, frameLines, lent, cdpRead, cdpValues, cdpLine, cdpLines, recordLines}
+use Rattle.ccread_report.specs.Report.{pairLine, blockLines, packetLines, pairLines, packetsLines, waitingLines, takenLines, frameLines, lent, cdpRead, cdpValues, cdpLine, cdpTold, cdpLines, recordLines}
 use Rattle.ccread_report.specs.declared.Capture.{Capture}
 
 -- the length of several parts
@@ -211,8 +211,8 @@ cdp-line-fits r a h k =
 
 -- the lines of a record of bytes
 module _ (r : ℕ) (s : List ℕ) (c : Capture) (few : r < 2 ^ 64) (shaped : Shaped (c .parser)) (bytes : (i : ℕ) → getD s i 0 < 256) where
-  lines-fit : (o : Outcome Received) → Gives (ReceivedAs s lent) o → Refuses OfPacket o
-      → length (cdpLine r (saysWith cdpValues o) ++ after [] (mapped (λ x. frameLines r (frameOf (x .packet)) (c .parser)) o)) ≤ 32768
+  lines-fit : (o : Outcome Received) → Gives (ReceivedAs s lent) o → Refuses OfPacket o → length (cdpTold r (c .parser) o) ≤ 32768
+  unfolding cdpTold
   lines-fit (gave x) g w =
       let l = cdp-line-fits r (accepted (cdpValues x)) few (values-fit s lent x bytes g) in
       rw (two (cdpLine r (accepted (cdpValues x))) (frameLines r (frameOf (x .packet)) (c .parser))) (omega (arith, l, frame-fits r (frameOf (x .packet)) (c .parser) few shaped))

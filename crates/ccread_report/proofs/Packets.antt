@@ -21,7 +21,7 @@ use Rattle.program_text.specs.Laid.{Laid}
 use Rattle.program_text.specs.Text.{word, decimal}
 use Rattle.program_text.proofs.Layings.{laid-append}
 use Rattle.program_lines.specs.Lines.{valueText, valuesText, answerText}
-use Rattle.ccread_report.specs.Report.{frameLines, settled, lent, cdpRead, cdpValues, cdpLine, cdpLines, cdpTaken, recordLines, recorded, saidCdp, besides}
+use Rattle.ccread_report.specs.Report.{frameLines, settled, lent, cdpRead, cdpValues, cdpLine, cdpTold, cdpLines, cdpTaken, recordLines, recorded, saidCdp, besides}
 use Rattle.ccread_report.specs.declared.Told.{Told}
 use Rattle.ccread_report.specs.declared.Capture.{Capture}
 use Rattle.ccread_report.specs.declared.Recorded.{Recorded}
@@ -46,7 +46,7 @@ laid-cdp-line n x a b c d e = laid-append (laid-append (laid-append (laid-append
 -- the lines of a packet that is given, and what the program has after it
 module _ (n : ℕ) (s : List ℕ) (c : Capture) (x : packets.Received) (whole : cdpRead s (c .reader) ≡ gave x) where
   given-lines : cdpLines n s c ≡ cdpLine n (accepted (cdpValues x)) ++ frameLines n (frameOf (x .packet)) (c .parser)
-  unfolding cdpLines
+  unfolding cdpLines cdpTold
   given-lines = rw whole
 
   given-taken : cdpTaken s c ≡ record { parser = settled (c .parser) (frameOf (x .packet)); reader = readerAt (x .packet .counter) }
@@ -101,7 +101,7 @@ module _ (n : ℕ) (s : List ℕ) (c : Capture) (read : DistributionRead) (end :
     refused-is = reads-why (c .reader) s lent read end h why e
 
     refused-lines : cdpLine n (saidCdp (read .received)) ≡ cdpLines n s c
-    unfolding cdpLines saidCdp
+    unfolding cdpLines cdpTold saidCdp
     refused-lines = rw (refused-is, append-nil, e)
 
     refused-taken : record { parser = c .parser; reader = read .reader } ≡ cdpTaken s c

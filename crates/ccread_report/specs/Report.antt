@@ -94,11 +94,13 @@ cdpValues x = x .packet .code ∷ x .packet .counter ∷ []
 unfoldable pub cdpLine : ℕ → Said → List ℕ
 cdpLine r s = word "cdp " ++ decimal r ++ word " " ++ answerText s ++ word "\n"
 
--- the lines of a packet: one that is refused is one line, behind that of one that is accepted are those of its frame
+-- what is told of a packet: one that is refused is one line, behind that of one that is accepted are those of its frame
+unfoldable pub cdpTold : ℕ → CCDataParser → Outcome Received → List ℕ
+cdpTold r p o = cdpLine r (saysWith cdpValues o) ++ after [] (mapped (λ x. frameLines r (frameOf (x .packet)) p) o)
+
+-- the lines of a packet
 unfoldable pub cdpLines : ℕ → List ℕ → Capture → List ℕ
-cdpLines r s c =
-    cdpLine r (saysWith cdpValues (cdpRead s (c .reader)))
-    ++ after [] (mapped (λ x. frameLines r (frameOf (x .packet)) (c .parser)) (cdpRead s (c .reader)))
+cdpLines r s c = cdpTold r (c .parser) (cdpRead s (c .reader))
 
 -- what the program has after it: a refused packet changes nothing
 unfoldable pub cdpTaken : List ℕ → Capture → Capture
