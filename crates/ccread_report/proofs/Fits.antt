@@ -9,7 +9,7 @@ use lib.Dec.{eqb, ltb}
 use lib.ListN.{length, getD, drop, length-append}
 use borrow.Author.Tests.{ne-eqb, eqb-true, eqb-false, ltb-true, ltb-false}
 use Rattle.model.specs.Lists.{every}
-use Rattle.model.specs.Said.{Said, Outcome, gave, refused, accepted, badValue, saysWith, mapped, after}
+use Rattle.model.specs.Said.{Said, Outcome, gave, refused, accepted, badValue}
 use Rattle.model.specs.Block.{Block, blockLength}
 use Rattle.model.specs.Packet.{Packet, carriable, validPacket, blocksLength}
 use Rattle.model.specs.Frame.{Cea608, field1, field2, pair, Seen, seenAll, triplesIn, countIn}
@@ -32,6 +32,7 @@ use Rattle.distribution.specs.States.{lastOf}
 use Rattle.distribution.proofs.Given.{ReceivedAs, OfPacket, received-as, received-refused}
 use Rattle.ccread_report.specs.Report.{pairLine, blockLines, packetLines, pairLines, packetsLines, waitingLines, takenLines, frameLines, lent, cdpRead, cdpValues, cdpLine, cdpTold, cdpLines, recordLines}
 use Rattle.ccread_report.specs.declared.Capture.{Capture}
+use Rattle.ccread_report.proofs.Packets.{refused-alone}
 
 -- the length of several parts
 two : (x y : List ℕ) → length (x ++ y) ≡ length x + length y
@@ -216,7 +217,7 @@ module _ (r : ℕ) (s : List ℕ) (c : Capture) (few : r < 2 ^ 64) (shaped : Sha
   lines-fit (gave x) g w =
       let l = cdp-line-fits r (accepted (cdpValues x)) few (values-fit s lent x bytes g) in
       rw (two (cdpLine r (accepted (cdpValues x))) (frameLines r (frameOf (x .packet)) (c .parser))) (omega (arith, l, frame-fits r (frameOf (x .packet)) (c .parser) few shaped))
-  lines-fit (refused why) g w = rw append-nil (omega (arith, cdp-line-fits r why few (refusal-fits why w)))
+  lines-fit (refused why) g w = rw (refused-alone r (c .parser) why) (omega (arith, cdp-line-fits r why few (refusal-fits why w)))
 
   cdp-fits : length (cdpLines r s c) ≤ 32768
   unfolding cdpLines cdpRead

@@ -43,6 +43,11 @@ pub laid-cdp-line : {out m₁ m₂ m₃ m₄ after : List ℕ} {at p q s t r : �
 unfolding cdpLine
 laid-cdp-line n x a b c d e = laid-append (laid-append (laid-append (laid-append a b) c) d) e
 
+-- the line of a packet that is refused stands alone
+pub refused-alone : (n : ℕ) (p : CCDataParser) (why : Said) → cdpTold n p (refused why) ≡ cdpLine n why
+unfolding cdpTold
+refused-alone n p why = append-nil (cdpLine n why)
+
 -- the lines of a packet that is given, and what the program has after it
 module _ (n : ℕ) (s : List ℕ) (c : Capture) (x : packets.Received) (whole : cdpRead s (c .reader) ≡ gave x) where
   given-lines : cdpLines n s c ≡ cdpLine n (accepted (cdpValues x)) ++ frameLines n (frameOf (x .packet)) (c .parser)
@@ -101,8 +106,8 @@ module _ (n : ℕ) (s : List ℕ) (c : Capture) (read : DistributionRead) (end :
     refused-is = reads-why (c .reader) s lent read end h why e
 
     refused-lines : cdpLine n (saidCdp (read .received)) ≡ cdpLines n s c
-    unfolding cdpLines cdpTold saidCdp
-    refused-lines = rw (refused-is, append-nil, e)
+    unfolding cdpLines saidCdp
+    refused-lines = rw (refused-is, refused-alone n (c .parser) (saidRefusal why), e)
 
     refused-taken : record { parser = c .parser; reader = read .reader } ≡ cdpTaken s c
     unfolding cdpTaken

@@ -12,8 +12,9 @@ use Rattle.distribution.specs.States.{lastOf}
 use Rattle.distribution.proofs.Given.{OfPacket, received-refused}
 use Rattle.program_text.specs.Text.{word, digit, decimalIn, decimal}
 use Rattle.program_lines.specs.Lines.{valueText, valuesText, answerText}
-use Rattle.ccread_report.specs.Report.{lent, cdpRead, cdpLine, cdpTold, cdpLines, cdpTaken}
+use Rattle.ccread_report.specs.Report.{lent, cdpRead, cdpLine, cdpLines, cdpTaken}
 use Rattle.ccread_report.specs.declared.Capture.{Capture}
+use Rattle.ccread_report.proofs.Packets.{refused-alone}
 
 -- the line of a packet that is accepted
 pub accepted-line : (r code counter : ℕ)
@@ -45,8 +46,8 @@ module _ (r : ℕ) (s : List ℕ) (c : Capture) (why : Said) (e : cdpRead s (c .
       (ap (λ (l : List ℕ). l ++ word "\n") (append-assoc a (word " ") (word "refused " ++ d) ∙ sym (append-assoc a (word " refused ") d)))
 
   pub refused-line : cdpLines r s c ≡ word "cdp " ++ decimal r ++ word " refused " ++ decimal (why .number) ++ word "\n"
-  unfolding cdpLines cdpTold
-  refused-line = rw (e, append-nil (cdpLine r why)) own-line
+  unfolding cdpLines
+  refused-line = rw (e, refused-alone r (c .parser) why) own-line
 
   -- and changes nothing
   pub refused-same : cdpTaken s c ≡ c
