@@ -170,7 +170,7 @@ module _ (r : ℕ) (f : List ℕ) (p : CCDataParser) (few : r < 2 ^ 64) (shaped 
   unfolding frameLines
   frame-fits = by-test (valid p) (λ v. rw v (taken-fits v)) (λ v. rw v (omega (arith, line-fits r badValue few (omega arith))))
 
--- the code of a rate has one digit, and a number of 16 bits at most five
+-- the code of a rate has one digit, and a counter at most five
 values-fit : (s out : List ℕ) (x : Received) → ((i : ℕ) → getD s i 0 < 256) → ReceivedAs s out x → length (answerText (accepted (cdpValues x))) ≤ 10
 unfolding answerText valuesText valueText
 values-fit s out x bytes g =

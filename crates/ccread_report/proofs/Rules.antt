@@ -1,4 +1,4 @@
--- What is told of a packet, in the words of the rules, with examples. Assumes nothing.
+-- What is told of a packet, in the words of the rules [C5], with examples. Assumes nothing.
 use mathlib.Core.Path.{_≡_, refl, sym, ap, subst, _∙_}
 use mathlib.Core.Bool.{false}
 use mathlib.Core.List.{List, [], _∷_, _++_, map, append-nil, append-assoc}

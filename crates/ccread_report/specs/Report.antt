@@ -1,4 +1,4 @@
--- The lines of a record: those of a frame and of what is drawn after it, and those of a distribution packet and its frame [C2]. Assumes nothing.
+-- The lines of a record: those of a frame and of what is drawn after it [C2], and those of a distribution packet and its frame [C5]. Assumes nothing.
 use mathlib.Core.Bool.{cond}
 use mathlib.Core.List.{List, [], _∷_, _++_}
 use Prim.Native.Nat.{ℕ, zero, suc}
@@ -86,11 +86,11 @@ lent = replicate 95 0
 unfoldable pub cdpRead : List ℕ → DistributionReader → Outcome Received
 cdpRead s d = receive (lastOf (d .last)) s lent
 
--- the code of its rate, and its number
+-- the code of its rate, and its counter
 abbrev pub cdpValues : Received → List ℕ
 cdpValues x = x .packet .code ∷ x .packet .counter ∷ []
 
--- the line of a packet, by the number of its record: `cdp 0 ok 4 7`, or `cdp 0 refused 18`
+-- the line of a packet, by the number of its record: `cdp 0 ok 4 7`, or `cdp 0 refused 18` [C5]
 unfoldable pub cdpLine : ℕ → Said → List ℕ
 cdpLine r s = word "cdp " ++ decimal r ++ word " " ++ answerText s ++ word "\n"
 
@@ -98,7 +98,7 @@ cdpLine r s = word "cdp " ++ decimal r ++ word " " ++ answerText s ++ word "\n"
 unfoldable pub cdpTold : ℕ → CCDataParser → Outcome Received → List ℕ
 cdpTold r p o = cdpLine r (saysWith cdpValues o) ++ after [] (mapped (λ x. frameLines r (frameOf (x .packet)) p) o)
 
--- the lines of a packet
+-- the lines of a packet [C5]
 unfoldable pub cdpLines : ℕ → List ℕ → Capture → List ℕ
 cdpLines r s c = cdpTold r (c .parser) (cdpRead s (c .reader))
 

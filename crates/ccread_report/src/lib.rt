@@ -122,7 +122,7 @@ pub fn put_frame(out: &mut [u8], at: usize, number: u64, frame: &[u8], before: C
     Told { laid, parser }
 }
 
-// What a distribution packet was answered: the code of its rate and its number, or why it is refused.
+// What a distribution packet was answered: the code of its rate and its counter, or why it is refused.
 fn put_received(out: &mut [u8], at: usize, received: Received) -> usize
     ensures { λ r. ⌜ Laid (answerText (saidCdp received)) (now (out .entry)) at r (now (out .exit)) ⌝ }
 {

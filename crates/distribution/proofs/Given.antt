@@ -23,7 +23,7 @@ use Rattle.distribution.specs.declared.DistributionReader.{DistributionR
 use Rattle.distribution.specs.declared.DistributionRead.{DistributionRead}
 use Rattle.distribution.proofs.Trips.{received-numbered}
 
--- a packet that is opened: its code is one of a rate, its number stands behind the flags, and its frame is none of more than 95 bytes
+-- a packet that is opened: its code is one of a rate, its counter stands behind the flags, and its frame is none of more than 95 bytes
 pub record OpenedAs (s : List ℕ) (d : Distribution) : Type 0 where
   pub code : d .code ≤ 8
   pub counter : d .counter ≡ counterAt 5 s
