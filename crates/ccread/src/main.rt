@@ -1,4 +1,4 @@
-// Reads records of frames from standard input to its end and writes what each frame holds [C2]. Reads and writes go through two buffers of fixed size, whatever the input's length and cut.
+// Reads records of frames and of distribution packets from standard input to its end and writes what each of them holds [C2]. Reads and writes go through two buffers of fixed size, whatever the input's length and cut.
 ghost use mathlib.Core.Path.{_≡_};
 ghost use mathlib.Core.Bool.{true, false};
 ghost use Prim.Native.Nat.{_+_, _≤_, _<_};
@@ -6,9 +6,11 @@ ghost use lib.ListN.{length, take};
 ghost use Rattle.program_text.specs.Laid.{Whole};
 ghost use Rattle.program_streams.specs.Ahead.{aheadOf};
 ghost use Rattle.program_streams.specs.Walk.{before, told, silent, doneAt, Kept, Follow};
-ghost use Rattle.ccread.specs.Walk.{mark, tell, toTell, stillToTell, Steps, Ran, freshState};
-ghost use Rattle.ccread_report.specs.Report.{frameLines, settled};
-use ccread_report::Told;
+ghost use Rattle.ccread.specs.Walk.{mark, tell, toTell, stillToTell, Steps, Ran, freshCapture, freshState};
+ghost use Rattle.ccread_report.specs.Report.{recordLines, recorded};
+use ccread_report::Capture;
+use ccread_report::Recorded;
+use distribution::DistributionReader;
 use libc::STDIN_FILENO;
 use libc::STDOUT_FILENO;
 use parser::CCDataParser;
@@ -17,42 +19,42 @@ use program_streams::Ahead;
 use program_streams::Held;
 use program_streams::Place;
 
-// The lines of a frame have at most 32768 bytes, and the last line has fewer.
+// The lines of a record have at most 32768 bytes, and the last line has fewer.
 const ROOM: usize = 32768;
 
-// Where the program stands in a buffer: what is ahead there, and the demultiplexer.
+// Where the program stands in a buffer: what is ahead there, and what it reads with.
 struct Stand {
     ahead: Ahead,
-    parser: CCDataParser,
+    capture: Capture,
 }
 
-// What is held from one read to the next, and the demultiplexer.
+// What is held from one read to the next, and what the program reads with.
 struct State {
     held: Held,
-    parser: CCDataParser,
+    capture: Capture,
 }
 
-// The lines of a record's frame: none of them is cut.
+// The lines of a record: none of them is cut.
 fn put_record(
     out: &mut [u8],
     at: usize,
     number: u64,
     kind: u8,
-    frame: &[u8],
-    parser: CCDataParser,
-) -> Told
+    bytes: &[u8],
+    capture: Capture,
+) -> Recorded
     requires { ⌜ at + 32768 ≤ length (now out) ⌝ }
-    ensures { λ r. ⌜ Whole (frameLines number (now (frame .entry)) parser) (now (out .entry)) at (r .laid) (now (out .exit)) ⌝ }
-    ensures { λ r. ⌜ r .parser ≡ settled parser (now (frame .entry)) ⌝ }
+    ensures { λ r. ⌜ Whole (recordLines number kind (now (bytes .entry)) capture) (now (out .entry)) at (r .laid) (now (out .exit)) ⌝ }
+    ensures { λ r. ⌜ r .capture ≡ recorded kind (now (bytes .entry)) capture ⌝ }
 {
-    ccread_report::put_frame(out, at, number, frame, parser)
+    ccread_report::put_record(out, at, number, kind, bytes, capture)
 }
 
 // What is ahead of a place in a buffer of records; there is room for what one tells where no more than `most` bytes are laid.
 fn look(buf: &[u8], place: Place, ended: bool, most: usize) -> Ahead
     ensures { λ r. ⌜ r ≡ aheadOf mark ended most (now (buf .entry)) place ⌝ }
 {
-    program_streams::look(buf, place, ended, &[0xDA], most)
+    program_streams::look(buf, place, ended, &[0xDA, 0xCD], most)
 }
 
 // Lays the lines of the records that are whole in the buffer, as long as there is room for those of one more, and the last line.
@@ -63,7 +65,7 @@ fn drain(buf: &[u8], ended: bool, out: &mut [u8], from: Stand) -> Stand
 {
     let most = out.len() - ROOM;
     let mut place = program_streams::onward(from.ahead, 0);
-    let mut parser = from.parser;
+    let mut capture = from.capture;
     loop {
         let ahead = look(buf, place, ended, most);
         if ahead.whole {
@@ -73,14 +75,14 @@ fn drain(buf: &[u8], ended: bool, out: &mut [u8], from: Stand) -> Stand
                 place.records,
                 program_streams::kind_at(buf, place.at),
                 program_streams::body_at(buf, place.at),
-                parser,
+                capture,
             );
-            parser = told.parser;
+            capture = told.capture;
             place = program_streams::onward(ahead, told.laid);
         } else {
             return Stand {
                 ahead: program_streams::put_last(out, ahead),
-                parser,
+                capture,
             };
         }
     }
@@ -96,12 +98,12 @@ fn send(text: &[u8], buf: &[u8], ended: bool, from: Stand, to: Stand)
 // Every record that is whole in the buffer, in as many pieces as the room makes of what they tell.
 fn tell_all(buf: &[u8], ended: bool, out: &mut [u8], s: State) -> Stand
     requires { ⌜ 32768 ≤ length (now out) ⌝ }
-    ensures { λ r. ⌜ silent (told mark tell ended (now (buf .entry)) (s .held .passed) (s .held .records) (s .parser)) ≡ doneAt (now (buf .entry)) (r .ahead) (r .parser) ⌝ }
+    ensures { λ r. ⌜ silent (told mark tell ended (now (buf .entry)) (s .held .passed) (s .held .records) (s .capture)) ≡ doneAt (now (buf .entry)) (r .ahead) (r .capture) ⌝ }
 {
-    let parser = s.parser;
+    let capture = s.capture;
     let mut to = Stand {
         ahead: program_streams::front(s.held),
-        parser,
+        capture,
     };
     while to.ahead.full {
         let from = to;
@@ -114,13 +116,13 @@ fn tell_all(buf: &[u8], ended: bool, out: &mut [u8], s: State) -> Stand
 // Takes in the first `more` bytes of the buffer, and keeps those behind the last whole record.
 fn take_in(buf: &mut [u8], more: usize, ended: bool, out: &mut [u8], s: State) -> State
     requires { ⌜ 32768 ≤ length (now out) ⌝ }
-    ensures { λ r. ⌜ Kept (told mark tell ended (take more (now (buf .entry))) (s .held .passed) (s .held .records) (s .parser)) (now (buf .exit)) (r .held) (r .parser) ⌝ }
+    ensures { λ r. ⌜ Kept (told mark tell ended (take more (now (buf .entry))) (s .held .passed) (s .held .records) (s .capture)) (now (buf .exit)) (r .held) (r .capture) ⌝ }
 {
     let to = tell_all(part(buf, 0, more), ended, out, s);
-    let parser = to.parser;
+    let capture = to.capture;
     State {
         held: program_streams::keep(buf, more, to.ahead),
-        parser,
+        capture,
     }
 }
 
@@ -144,15 +146,24 @@ fn step(buf: &mut [u8], out: &mut [u8], s: State) -> State
     take_in(buf, have + n, n == 0, out, s)
 }
 
-// Nothing is read, and 608 is on.
-fn fresh() -> State
-    ensures { λ r. ⌜ r ≡ freshState ⌝ }
+// A demultiplexer with 608 on, and a fresh reader.
+fn fresh_capture() -> Capture
+    ensures { λ r. ⌜ r ≡ freshCapture ⌝ }
 {
     let on = CCDataParser::new().handle_cea608();
     let parser = on.parser;
+    let reader = DistributionReader::new();
+    Capture { parser, reader }
+}
+
+// Nothing is read.
+fn fresh() -> State
+    ensures { λ r. ⌜ r ≡ freshState ⌝ }
+{
+    let capture = fresh_capture();
     State {
         held: program_streams::unread(),
-        parser,
+        capture,
     }
 }
 

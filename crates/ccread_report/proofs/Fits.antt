@@ -1,33 +1,38 @@
--- The lines of a frame are short: whoever leaves room for 32768 bytes has all of them. Assumes nothing.
-use mathlib.Core.Path.{_≡_, refl}
-use mathlib.Core.Bool.{true}
+-- The lines of a record are short: whoever leaves room for 32768 bytes has all of them. Assumes nothing.
+use mathlib.Core.Path.{_≡_, refl, ap}
+use mathlib.Core.Bool.{true, false}
 use mathlib.Core.List.{List, [], _∷_, _++_, append-nil}
 use mathlib.Core.Option.{Option, none, some}
 use Prim.Native.Nat.{ℕ, _+_, _*_, _^_, _≤_, _<_}
 use native.Mathlib.Omega.{arith}
 use lib.Dec.{eqb, ltb}
 use lib.ListN.{length, getD, drop, length-append}
-use borrow.Author.Tests.{eqb-true, eqb-false, ltb-true, ltb-false}
+use borrow.Author.Tests.{ne-eqb, eqb-true, eqb-false, ltb-true, ltb-false}
 use Rattle.model.specs.Lists.{every}
-use Rattle.model.specs.Said.{Said, badValue}
+use Rattle.model.specs.Said.{Said, Outcome, gave, refused, accepted, badValue}
 use Rattle.model.specs.Block.{Block, blockLength}
 use Rattle.model.specs.Packet.{Packet, carriable, validPacket, blocksLength}
 use Rattle.model.specs.Frame.{Cea608, field1, field2, pair, Seen, seenAll, triplesIn, countIn}
 use Rattle.model.specs.Demux.{Demux, Taken, Gathered, packetsOf, pairsIn, lateFrom, gathered, takeGathered, takeTriples, unread, takeFrame}
-use Rattle.model.proofs.Cases.{by-test, by-cond, both}
+use Rattle.model.specs.Distribution.{frameOf, Received}
+use Rattle.model.proofs.Cases.{by-test, by-cond, both, Gives, Refuses}
 use Rattle.model.proofs.Blocks.{carriable-facts, length-short, length-long}
 use Rattle.model.proofs.Packets.{Valid, valid-facts, length-some}
 use Rattle.program_text.specs.Text.{word, decimal, hex}
 use Rattle.program_text.proofs.Layings.{length-hex}
 use Rattle.program_text.proofs.Decimals.{digits-most}
-use Rattle.program_lines.specs.Lines.{pairText, packetText, frameLine, blockLine}
+use Rattle.program_lines.specs.Lines.{valueText, valuesText, answerText, pairText, packetText, frameLine, blockLine}
 use Rattle.parser.specs.Valid.{valid}
 use Rattle.parser.specs.Means.{means, Shaped}
 use Rattle.parser.specs.declared.CCDataParser.{CCDataParser}
 use Rattle.parser.proofs.Laid.{Sound}
 use Rattle.parser.proofs.Kept.{sound-demux}
 use Rattle.model.proofs.DemuxStates.{DemuxLimits, demux-facts, take-valid}
-use Rattle.ccread_report.specs.Report.{pairLine, blockLines, packetLines, pairLines, packetsLines, waitingLines, takenLines, frameLines}
+use Rattle.distribution.specs.States.{lastOf}
+use Rattle.distribution.proofs.Given.{ReceivedAs, OfPacket, received-as, received-refused}
+use Rattle.ccread_report.specs.Report.{pairLine, blockLines, packetLines, pairLines, packetsLines, waitingLines, takenLines, frameLines, lent, cdpRead, cdpValues, cdpLine, cdpTold, cdpLines, recordLines}
+use Rattle.ccread_report.specs.declared.Capture.{Capture}
+use Rattle.ccread_report.proofs.Packets.{refused-alone}
 
 -- the length of several parts
 two : (x y : List ℕ) → length (x ++ y) ≡ length x + length y
@@ -150,7 +155,7 @@ frame-numbered f d =
 
 -- the lines of a frame
 module _ (r : ℕ) (f : List ℕ) (p : CCDataParser) (few : r < 2 ^ 64) (shaped : Shaped p) where
-  taken-fits : valid p ≡ true → length (takenLines r (takeFrame f (means p))) ≤ 32768
+  taken-fits : valid p ≡ true → length (takenLines r (takeFrame f (means p))) ≤ 25084
   unfolding takenLines
   taken-fits v =
       let s : Sound p = record { valid = v; shaped = shaped } in
@@ -161,6 +166,65 @@ module _ (r : ℕ) (f : List ℕ) (p : CCDataParser) (few : r < 2 ^ 64) (shaped 
       (λ z. rw (z, two (frameLine r (takeFrame f (means p) .answer)) (waitingLines (takeFrame f (means p) .next))) (omega arith))
       (λ z. rw (z, append-nil) (omega arith))
 
-  pub frame-fits : length (frameLines r f p) ≤ 32768
+  frame-fits : length (frameLines r f p) ≤ 25084
   unfolding frameLines
   frame-fits = by-test (valid p) (λ v. rw v (taken-fits v)) (λ v. rw v (omega (arith, line-fits r badValue few (omega arith))))
+
+-- the code of a rate has one digit, and a counter at most five
+values-fit : (s out : List ℕ) (x : Received) → ((i : ℕ) → getD s i 0 < 256) → ReceivedAs s out x → length (answerText (accepted (cdpValues x))) ≤ 10
+unfolding answerText valuesText valueText
+values-fit s out x bytes g =
+    let c = x .packet .code in
+    let n = x .packet .counter in
+    let d : length (decimal c) ≤ 1 = digits-most 0 c (omega (arith, g .packet .code)) in
+    let e : length (decimal n) ≤ 5 = digits-most 4 n (omega (arith, g .packet .counter, bytes 5, bytes 6)) in
+    rw (
+      append-nil,
+      two (word "ok") ((word " " ++ decimal c) ++ (word " " ++ decimal n)),
+      two (word " " ++ decimal c) (word " " ++ decimal n),
+      two (word " ") (decimal c),
+      two (word " ") (decimal n),
+    )
+    (omega arith)
+
+-- a refusal has two
+refusal-fits : (why : Said) → OfPacket why → length (answerText why) ≤ 10
+unfolding answerText valuesText
+refusal-fits why g =
+    let n = why .number in
+    let d : length (decimal n) ≤ 2 = digits-most 1 n (omega (arith, g .most)) in
+    let some : eqb n 0 ≡ false = ne-eqb n 0 (λ z. omega (arith, g .least, z)) in
+    let none : valuesText (why .values) ≡ [] = ap valuesText (g .bare) in
+    rw (some, none, append-nil (decimal n)) (omega arith)
+
+-- a packet's own line
+cdp-line-fits : (r : ℕ) (a : Said) → r < 2 ^ 64 → length (answerText a) ≤ 10 → length (cdpLine r a) ≤ 36
+unfolding cdpLine
+cdp-line-fits r a h k =
+    let d : length (decimal r) ≤ 20 = digits-most 19 r (omega arith) in
+    rw (
+      two (word "cdp " ++ decimal r ++ word " " ++ answerText a) (word "\n"),
+      two (word "cdp " ++ decimal r ++ word " ") (answerText a),
+      two (word "cdp " ++ decimal r) (word " "),
+      two (word "cdp ") (decimal r),
+    )
+    (omega arith)
+
+-- the lines of a record of bytes
+module _ (r : ℕ) (s : List ℕ) (c : Capture) (few : r < 2 ^ 64) (shaped : Shaped (c .parser)) (bytes : (i : ℕ) → getD s i 0 < 256) where
+  lines-fit : (o : Outcome Received) → Gives (ReceivedAs s lent) o → Refuses OfPacket o → length (cdpTold r (c .parser) o) ≤ 32768
+  unfolding cdpTold
+  lines-fit (gave x) g w =
+      let l = cdp-line-fits r (accepted (cdpValues x)) few (values-fit s lent x bytes g) in
+      rw (two (cdpLine r (accepted (cdpValues x))) (frameLines r (frameOf (x .packet)) (c .parser))) (omega (arith, l, frame-fits r (frameOf (x .packet)) (c .parser) few shaped))
+  lines-fit (refused why) g w = rw (refused-alone r (c .parser) why) (omega (arith, cdp-line-fits r why few (refusal-fits why w)))
+
+  cdp-fits : length (cdpLines r s c) ≤ 32768
+  unfolding cdpLines cdpRead
+  cdp-fits =
+      lines-fit (cdpRead s (c .reader)) (received-as (lastOf (c .reader .last)) s lent) (received-refused (lastOf (c .reader .last)) s lent (omega arith))
+
+  pub record-fits : (kind : ℕ) → length (recordLines r kind s c) ≤ 32768
+  unfolding recordLines
+  record-fits kind =
+      by-cond (λ (l : List ℕ). length l ≤ 32768) (eqb kind 0xCD) (λ _. cdp-fits) (λ _. omega (arith, frame-fits r s (c .parser) few shaped))

@@ -1,15 +1,18 @@
-// What `ccread` prints for the frames of a capture: the line of a frame, and the lines of every item drawn after it. Lines are laid into a
-// lent buffer from a place on and as far as there is room.
+// What `ccread` prints for the records of a capture: the line of a frame and the lines of every item drawn after it, or the line of a distribution
+// packet and the lines of its frame. Lines are laid into a lent buffer from a place on and as far as there is room.
 ghost use mathlib.Core.Path.{_≡_};
 ghost use Prim.Native.Nat.{_≤_};
 ghost use lib.ListN.{length};
 ghost use Rattle.packet.specs.Packet.{packetOf, validDTVCC};
 ghost use Rattle.program_text.specs.Laid.{Laid};
+ghost use Rattle.program_lines.specs.Lines.{answerText};
 ghost use mathlib.Core.Bool.{true};
 ghost use Rattle.parser.specs.Valid.{valid};
 ghost use Rattle.parser.specs.Means.{means};
-ghost use Rattle.ccread_report.specs.Report.{blockLines, itemLines, waitingLines, drawnOut, frameLines, settled};
+ghost use Rattle.ccread_report.specs.Report.{blockLines, itemLines, waitingLines, drawnOut, frameLines, settled, cdpLine, cdpLines, cdpTaken, recordLines, recorded, saidCdp, besides};
 use caption::Answer;
+use distribution::DistributionReader;
+use distribution::Received;
 use packet::DTVCCPacket;
 use parser::CCDataParser;
 use parser::Item;
@@ -17,10 +20,25 @@ use parser::Item;
 // No frame leaves more to draw than 31 pairs and 32 packets.
 const MOST_ITEMS: usize = 63;
 
+// The kind of a record that is a distribution packet.
+const PACKET: u8 = 0xCD;
+
 // The place behind the lines, and the demultiplexer afterwards.
 pub struct Told {
     pub laid: usize,
     pub parser: CCDataParser,
+}
+
+// What the program has: the demultiplexer, and the reader of distribution packets.
+pub struct Capture {
+    pub parser: CCDataParser,
+    pub reader: DistributionReader,
+}
+
+// The place behind the lines of a record, and what the program has then.
+pub struct Recorded {
+    pub laid: usize,
+    pub capture: Capture,
 }
 
 // A line for each block of a packet.
@@ -102,4 +120,93 @@ pub fn put_frame(out: &mut [u8], at: usize, number: u64, frame: &[u8], before: C
         return put_items(out, laid, parser);
     }
     Told { laid, parser }
+}
+
+// What a distribution packet was answered: the code of its rate and its counter, or why it is refused.
+fn put_received(out: &mut [u8], at: usize, received: Received) -> usize
+    ensures { λ r. ⌜ Laid (answerText (saidCdp received)) (now (out .entry)) at r (now (out .exit)) ⌝ }
+{
+    match received {
+        Received::Packet {
+            code,
+            counter,
+            len: _,
+        } => {
+            let p = program_text::put_word(out, at, b"ok");
+            let q = program_lines::put_value(out, p, code as u64);
+            program_lines::put_value(out, q, counter as u64)
+        }
+        Received::Refused(why) => program_lines::put_refusal(out, at, why),
+    }
+}
+
+// The line of a distribution packet, whose record has a number.
+fn put_cdp_line(out: &mut [u8], at: usize, number: u64, received: Received) -> usize
+    ensures { λ r. ⌜ Laid (cdpLine number (saidCdp received)) (now (out .entry)) at r (now (out .exit)) ⌝ }
+{
+    let p = program_text::put_word(out, at, b"cdp ");
+    let q = program_text::put_decimal(out, p, number);
+    let s = program_text::put_byte(out, q, b' ');
+    let t = put_received(out, s, received);
+    program_text::put_newline(out, t)
+}
+
+// What the program has behind lines, with the reader beside the demultiplexer.
+fn beside(told: Told, reader: DistributionReader) -> Recorded
+    ensures { λ r. ⌜ r ≡ besides told reader ⌝ }
+{
+    let parser = told.parser;
+    Recorded {
+        laid: told.laid,
+        capture: Capture { parser, reader },
+    }
+}
+
+// The lines of a distribution packet: what it is answered and, if it is accepted, those of its frame.
+fn put_cdp(out: &mut [u8], at: usize, number: u64, packet: &[u8], before: Capture) -> Recorded
+    ensures { λ r. ⌜ Laid (cdpLines number (now (packet .entry)) before) (now (out .entry)) at (r .laid) (now (out .exit)) ⌝ }
+    ensures { λ r. ⌜ r .capture ≡ cdpTaken (now (packet .entry)) before ⌝ }
+{
+    let parser = before.parser;
+    let old = before.reader;
+    let mut lent = [0u8; 95];
+    let read = old.read(packet, &mut lent);
+    let received = read.received;
+    let reader = read.reader;
+    let laid = put_cdp_line(out, at, number, received);
+    if let Received::Packet {
+        code: _,
+        counter: _,
+        len,
+    } = received {
+        let told = put_frame(
+            out,
+            laid,
+            number,
+            program_records::part(&lent, 0, len),
+            parser,
+        );
+        return beside(told, reader);
+    }
+    beside(Told { laid, parser }, reader)
+}
+
+// The lines of a record of a kind, which has a number: 0xCD is a distribution packet, any other kind a frame.
+pub fn put_record(
+    out: &mut [u8],
+    at: usize,
+    number: u64,
+    kind: u8,
+    bytes: &[u8],
+    before: Capture,
+) -> Recorded
+    ensures { λ r. ⌜ Laid (recordLines number kind (now (bytes .entry)) before) (now (out .entry)) at (r .laid) (now (out .exit)) ⌝ }
+    ensures { λ r. ⌜ r .capture ≡ recorded kind (now (bytes .entry)) before ⌝ }
+{
+    if kind == PACKET {
+        return put_cdp(out, at, number, bytes, before);
+    }
+    let parser = before.parser;
+    let reader = before.reader;
+    beside(put_frame(out, at, number, bytes, parser), reader)
 }

@@ -3,4 +3,5 @@ pub mod Reading
 pub mod Writing
 pub mod Told
 pub mod Trips
+pub mod Given
 pub mod Refused

@@ -11,10 +11,10 @@ use Rattle.ccread.proofs.drain.Statement.{statement}
 use Rattle.ccread.proofs.drain.Tie as tie
 
 abbrev Inv-loop : tie.InvT-loop
-Inv-loop buf ended out₀ most place₀ parser₀ out place parser = (length out ≡ length out₀) × Stands mark tell ended buf place₀ parser₀ out place parser
+Inv-loop buf ended out₀ most place₀ capture₀ out place capture = (length out ≡ length out₀) × Stands mark tell ended buf place₀ capture₀ out place capture
 
 abbrev μ-loop : tie.MeasureT-loop
-μ-loop buf ended out₀ most place₀ parser₀ out place parser = length buf - place .at
+μ-loop buf ended out₀ most place₀ capture₀ out place capture = length buf - place .at
 
 sub-most : tie.Need-sub-most Inv-loop μ-loop
 sub-most c = search needs

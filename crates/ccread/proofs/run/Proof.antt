@@ -16,11 +16,11 @@ use Rattle.ccread.proofs.run.Tie as tie
 
 -- more is to be read
 abbrev Stays : List ℕ → State → Type 0
-Stays buf s = (s .held .going ≡ true) × ToldSoFar mark tell false (freshState .parser) buf (s .held) (s .parser)
+Stays buf s = (s .held .going ≡ true) × ToldSoFar mark tell false (freshState .capture) buf (s .held) (s .capture)
 
 -- before the first read
 begins : (buf : List ℕ) (s : State) → s ≡ freshState → Stays buf s
-begins buf s e = rw e (refl, starts mark tell buf (freshState .parser))
+begins buf s e = rw e (refl, starts mark tell buf (freshState .capture))
 
 -- the mark is shorter than a record's head
 short : length mark ≤ 3
@@ -53,7 +53,7 @@ same-length-2 c = search needs
 returns : tie.Need-returns Inv-loop μ-loop
 returns c =
     let l = c .before .before .before .before .before .before .before .before .before .before .loop .inv .2 in
-    λ e. reads-all mark tell short (freshState .parser) (l .1) (l .0) (c .before .before .before .before .before .before .step .ensures) e
+    λ e. reads-all mark tell short (freshState .capture) (l .1) (l .0) (c .before .before .before .before .before .before .step .ensures) e
 
 loop-less : tie.Need-loop-less Inv-loop μ-loop
 loop-less c = search needs
@@ -62,7 +62,7 @@ loop-again : tie.Need-loop-again Inv-loop μ-loop
 loop-again c =
     let l = c .before .before .before .before .before .before .before .before .before .before .loop .inv .2 in
     let e = not-false _ (c .if1 .left) in
-    (search needs, search needs, (e, reads-on mark tell short (freshState .parser) (l .1) (l .0) (c .before .before .before .before .before .before .step .ensures) e))
+    (search needs, search needs, (e, reads-on mark tell short (freshState .capture) (l .1) (l .0) (c .before .before .before .before .before .before .step .ensures) e))
 
 same-length-3 : tie.Need-same-length-3 Inv-loop μ-loop
 same-length-3 c = search needs
