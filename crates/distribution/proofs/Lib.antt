@@ -1,5 +1,6 @@
 pub mod Rates
 pub mod Reading
+pub mod Given
 pub mod Writing
 pub mod Told
 pub mod Trips
