@@ -1,5 +1,4 @@
--- What a reader tells of a packet where the lent output has room for every frame: 9 is not told, and the frame stands at the front of the output.
--- Assumes nothing.
+-- What a reader tells of a packet: its frame stands at the front of the output, and where that has room for every frame, 9 is not told. Assumes nothing.
 use mathlib.Core.Path.{_≡_, refl, sym, ap, subst, _∙_}
 use mathlib.Core.List.{List, [], _∷_, _++_}
 use mathlib.Core.Option.{Option}
@@ -11,7 +10,7 @@ use lib.Seq.{take-at}
 use borrow.Author.Tests.{leb-true, le-ltb}
 use Rattle.model.specs.Said.{Said, Outcome, gave, refused, andThen, mapped, after, putInto}
 use Rattle.model.specs.Distribution.{Distribution, isCoded, hasMark, inOrder, counterAt, sumsUp, countersAgree, heldIn, opened, takes, frameOf, Received, receivedInto, receive}
-use Rattle.model.proofs.Cases.{by-cond, both, Gives, gives-at, gives-then, gives-mapped, NotAccepted, Refuses, refuses-weaker}
+use Rattle.model.proofs.Cases.{by-cond, both, Gives, gives-at, gives-then, gives-mapped, Refuses}
 use Rattle.model.proofs.Frames.{frame-length}
 use Rattle.model.proofs.Distribution.{passes-ordered, held-count, Passed, opened-passed}
 use Rattle.caption.specs.Answers.{saidRefusal}
@@ -22,6 +21,7 @@ use Rattle.distribution.specs.Calls.{saidReceived, tellsOf, Reads}
 use Rattle.distribution.specs.declared.Received.the-variants as received
 use Rattle.distribution.specs.declared.DistributionReader.{DistributionReader}
 use Rattle.distribution.specs.declared.DistributionRead.{DistributionRead}
+use Rattle.distribution.proofs.Trips.{received-numbered}
 
 -- a packet that is opened: its code is one of a rate, its number stands behind the flags, and its frame is none of more than 95 bytes
 pub record OpenedAs (s : List ℕ) (d : Distribution) : Type 0 where
@@ -125,12 +125,11 @@ module _ (reader : DistributionReader) (s out : List ℕ) (r : DistributionRead)
   reads-why why e = refused-with tellsOf why (receive (lastOf (reader .last)) s out) (sym (ap saidReceived e) ∙ h .answer)
 
   -- and what it is where it is accepted
-  pub reads-gave : (code counter len : ℕ) → 95 ≤ length out → r .received ≡ received.Packet code counter len
+  pub reads-gave : (code counter len : ℕ) → r .received ≡ received.Packet code counter len
       → Gave code counter len end (receive (lastOf (reader .last)) s out)
-  reads-gave code counter len room e =
+  reads-gave code counter len e =
       let o = receive (lastOf (reader .last)) s out in
-      let numbered = refuses-weaker {P = OfPacket} {Q = NotAccepted} (λ why p z. omega (arith, p .least, z)) o (received-refused (lastOf (reader .last)) s out room) in
-      let g = given-with tellsOf (code ∷ counter ∷ len ∷ []) o numbered (sym (ap saidReceived e) ∙ h .answer) in
+      let g = given-with tellsOf (code ∷ counter ∷ len ∷ []) o (received-numbered (lastOf (reader .last)) s out) (sym (ap saidReceived e) ∙ h .answer) in
       let there = gives-at (ReceivedAs s out) o (g .1) (received-as (lastOf (reader .last)) s out) .there in
       let n : len ≡ length (frameOf (g .0 .packet)) = ap (λ (v : List ℕ). getD v 2 0) (g .2) in
       let put : end ≡ g .0 .out = h .output ∙ ap (λ (q : Outcome Received). after out (mapped (λ x. x .out) q)) (g .1) in

@@ -119,7 +119,7 @@ module _ (last : Option ℕ) (s out : List ℕ) where
   unfolding receive
   taken = taken-of (opened s) refl
 
-  received-numbered : Refuses NotAccepted (receive last s out)
+  pub received-numbered : Refuses NotAccepted (receive last s out)
   unfolding receive receivedInto putInto
   received-numbered =
       refuses-then NotAccepted (opened s) _ (opened-numbered s)
