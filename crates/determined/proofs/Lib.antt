@@ -46,5 +46,6 @@ pub mod ScriptPackets
 pub mod ScriptCodes
 pub mod ScriptParsers
 pub mod ScriptWriters
+pub mod ScriptDistribution
 pub mod ScriptOperations
 pub mod ProgramStreams

@@ -26,13 +26,16 @@ use Rattle.script_parsers.specs.Parsers.{parserRows}
 use Rattle.script_parsers.specs.Parsers as parser
 use Rattle.script_writers.specs.Writers.{writerRows}
 use Rattle.script_writers.specs.Writers as writer
+use Rattle.script_distribution.specs.declared.Link.{Link}
+use Rattle.script_distribution.specs.declared.OnLink.{OnLink}
+use Rattle.script_distribution.specs.Links.{linkRows}
 use Rattle.script_operations.specs.declared.Machine.{Machine}
 use Rattle.script_operations.specs.declared.Stepped.{Stepped}
-use Rattle.script_operations.specs.Ran.{within, bad, withBlock, withPacket, withParser, withWriter, onMachines, operated, ran}
+use Rattle.script_operations.specs.Ran.{within, bad, withBlock, withPacket, withParser, withWriter, withLink, onMachines, operated, ran}
 
 -- no operation is 0, which stands for the letter of an empty record
 ran-by : (m : Machine) (l : List ℕ) → ran m l ≡ operated m (getD l 0 0) (drop 1 l)
-unfolding ran operated onMachines sought blockRows block.tellingRows codesRows packetRows packet.pushingRows packet.tellingRows parserRows parser.streamingRows writerRows writer.pushingRows writer.leavingRows
+unfolding ran operated onMachines sought blockRows block.tellingRows codesRows packetRows packet.pushingRows packet.tellingRows parserRows parser.streamingRows writerRows writer.pushingRows writer.leavingRows linkRows
 ran-by m [] = refl
 ran-by m (x ∷ l) = refl
 
@@ -72,7 +75,7 @@ pub stepped : {all : Effect Machine} {out now : List ℕ} {at laid : ℕ} {left 
     → r ≡ record { laid = laid; machine = left } → all ≡ e → Did e out at (r .laid) (r .machine) now
 stepped e r d g h = rw (← h, g) d
 
--- The two machines are asked one after the other.
+-- The machines are asked one after the other.
 module _ (m : Machine) (op : ℕ) (a out mid : List ℕ) (at : ℕ) (on-r : OnParser)
     (d : Asked (sought (parserRows (m .r)) op a) (m .r) out at (on-r .ran) (on-r .laid) (on-r .parser) mid) where
   abbrev ofParser : Sought CCDataParser
@@ -81,30 +84,50 @@ module _ (m : Machine) (op : ℕ) (a out mid : List ℕ) (at : ℕ) (on-r : OnPa
   abbrev ofWriter : Sought CCDataWriter
   ofWriter = sought (writerRows (m .p) (m .w)) op a
 
-  start : Passed (onMachines m op a) (within (withParser m) ofParser (within (withWriter m) ofWriter (bad m))) out out
+  abbrev ofLink : Sought Link
+  ofLink = sought (linkRows (m .link)) op a
+
+  abbrev behindWriter : Effect Machine
+  behindWriter = within (withLink m) ofLink (bad m)
+
+  abbrev behindParser : Effect Machine
+  behindParser = within (withWriter m) ofWriter behindWriter
+
+  start : Passed (onMachines m op a) (within (withParser m) ofParser behindParser) out out
   unfolding onMachines
   start = at-first (onMachines m op a) out
 
   pub by-parser : (r : Stepped) → on-r .ran ≡ true → r ≡ record { laid = on-r .laid; machine = withParser m (on-r .parser) }
       → Did (onMachines m op a) out at (r .laid) (r .machine) mid
   by-parser r k g =
-      let z = done-by (withParser m) (m .r) (on-r .parser) out out mid at (on-r .laid) (on-r .ran) ofParser (within (withWriter m) ofWriter (bad m)) start d k in
+      let z = done-by (withParser m) (m .r) (on-r .parser) out out mid at (on-r .laid) (on-r .ran) ofParser behindParser start d k in
       stepped (onMachines m op a) r z g refl
 
-  module _ (n : on-r .ran ≡ false) (now : List ℕ) (on-w : OnWriter)
-      (f : Asked ofWriter (m .w) mid at (on-w .ran) (on-w .laid) (on-w .writer) now) where
-    passed-parser : Passed (onMachines m op a) (within (withWriter m) ofWriter (bad m)) out mid
-    passed-parser = passed (withParser m) (m .r) (on-r .parser) out out mid at (on-r .laid) (on-r .ran) ofParser (within (withWriter m) ofWriter (bad m)) start d n
+  module _ (n : on-r .ran ≡ false) (mid′ : List ℕ) (on-w : OnWriter)
+      (f : Asked ofWriter (m .w) mid at (on-w .ran) (on-w .laid) (on-w .writer) mid′) where
+    passed-parser : Passed (onMachines m op a) behindParser out mid
+    passed-parser = passed (withParser m) (m .r) (on-r .parser) out out mid at (on-r .laid) (on-r .ran) ofParser behindParser start d n
 
     pub by-writer : (r : Stepped) → on-w .ran ≡ true → r ≡ record { laid = on-w .laid; machine = withWriter m (on-w .writer) }
-        → Did (onMachines m op a) out at (r .laid) (r .machine) now
+        → Did (onMachines m op a) out at (r .laid) (r .machine) mid′
     by-writer r k g =
-        let z = done-by (withWriter m) (m .w) (on-w .writer) out mid now at (on-w .laid) (on-w .ran) ofWriter (bad m) passed-parser f k in
+        let z = done-by (withWriter m) (m .w) (on-w .writer) out mid mid′ at (on-w .laid) (on-w .ran) ofWriter behindWriter passed-parser f k in
         stepped (onMachines m op a) r z g refl
 
-    pub by-none : {laid : ℕ} {last : List ℕ} → on-w .ran ≡ false → Laid (word "bad\n") now at laid last → Did (onMachines m op a) out at laid m last
-    by-none k l =
-        done-by-none m (passed (withWriter m) (m .w) (on-w .writer) out mid now at (on-w .laid) (on-w .ran) ofWriter (bad m) passed-parser f k) l
+    module _ (n′ : on-w .ran ≡ false) (now : List ℕ) (on-l : OnLink)
+        (h : Asked ofLink (m .link) mid′ at (on-l .ran) (on-l .laid) (on-l .link) now) where
+      passed-writer : Passed (onMachines m op a) behindWriter out mid′
+      passed-writer = passed (withWriter m) (m .w) (on-w .writer) out mid mid′ at (on-w .laid) (on-w .ran) ofWriter behindWriter passed-parser f n′
+
+      pub by-link : (r : Stepped) → on-l .ran ≡ true → r ≡ record { laid = on-l .laid; machine = withLink m (on-l .link) }
+          → Did (onMachines m op a) out at (r .laid) (r .machine) now
+      by-link r k g =
+          let z = done-by (withLink m) (m .link) (on-l .link) out mid′ now at (on-l .laid) (on-l .ran) ofLink (bad m) passed-writer h k in
+          stepped (onMachines m op a) r z g refl
+
+      pub by-none : {laid : ℕ} {last : List ℕ} → on-l .ran ≡ false → Laid (word "bad\n") now at laid last → Did (onMachines m op a) out at laid m last
+      by-none k l =
+          done-by-none m (passed (withLink m) (m .link) (on-l .link) out mid′ now at (on-l .laid) (on-l .ran) ofLink (bad m) passed-writer h k) l
 
 -- The block and the packet are asked before them.
 module _ (m : Machine) (l a : List ℕ) (op : ℕ) (e : op ≡ getD l 0 0) (h : a ≡ take (length l) (drop 1 l)) (out mid : List ℕ) (at : ℕ) (on-s : OnBlock)

@@ -19,9 +19,11 @@ use Rattle.script_blocks.specs.Blocks.{blockRows}
 use Rattle.script_codes.specs.Operations.{codesRows}
 use Rattle.script_parsers.specs.Parsers.{parserRows}
 use Rattle.script_writers.specs.Writers.{writerRows}
+use Rattle.script_distribution.specs.declared.Link.{Link}
+use Rattle.script_distribution.specs.Links.{freshLink, linkRows}
 use Rattle.script_operations.specs.declared.Machine.{Machine}
 
--- at first block 1, packet 0, both empty, a fresh demultiplexer with 608 off, and a fresh multiplexer
+-- at first block 1, packet 0, both empty, a fresh demultiplexer with 608 off, a fresh multiplexer, and a fresh reader and writer of distribution packets
 unfoldable pub freshMachine : Machine
 freshMachine =
     record {
@@ -29,21 +31,25 @@ freshMachine =
       p = after packet.blank (mapped (packet.over packet.blank) (newPacket 0));
       r = parser.fresh;
       w = writer.fresh;
+      link = freshLink;
     }
 
 -- one part replaced
 module _ (m : Machine) where
   abbrev pub withBlock : Service → Machine
-  withBlock s = record { s = s; p = m .p; r = m .r; w = m .w }
+  withBlock s = record { s = s; p = m .p; r = m .r; w = m .w; link = m .link }
 
   abbrev pub withPacket : DTVCCPacket → Machine
-  withPacket p = record { s = m .s; p = p; r = m .r; w = m .w }
+  withPacket p = record { s = m .s; p = p; r = m .r; w = m .w; link = m .link }
 
   abbrev pub withParser : CCDataParser → Machine
-  withParser r = record { s = m .s; p = m .p; r = r; w = m .w }
+  withParser r = record { s = m .s; p = m .p; r = r; w = m .w; link = m .link }
 
   abbrev pub withWriter : CCDataWriter → Machine
-  withWriter w = record { s = m .s; p = m .p; r = m .r; w = w }
+  withWriter w = record { s = m .s; p = m .p; r = m .r; w = w; link = m .link }
+
+  abbrev pub withLink : Link → Machine
+  withLink link = record { s = m .s; p = m .p; r = m .r; w = m .w; link = link }
 
 -- what is found among the rows of one part is done there, and the other parts stay; else what is found behind them
 abbrev pub within : {S : Type 0} → (S → Machine) → Sought S → Effect Machine → Effect Machine
@@ -54,10 +60,11 @@ within whole Sought.none behind = behind
 abbrev pub bad : Machine → Effect Machine
 bad m = stays m (word "bad\n")
 
--- a letter and its argument bytes: the rows of the demultiplexer, and behind them those of the multiplexer,
+-- a letter and its argument bytes: the rows of the demultiplexer, behind them those of the multiplexer, and then those of distribution packets,
 unfoldable pub onMachines : Machine → ℕ → List ℕ → Effect Machine
 onMachines m op a =
-    within (withParser m) (sought (parserRows (m .r)) op a) (within (withWriter m) (sought (writerRows (m .p) (m .w)) op a) (bad m))
+    within (withParser m) (sought (parserRows (m .r)) op a)
+    (within (withWriter m) (sought (writerRows (m .p) (m .w)) op a) (within (withLink m) (sought (linkRows (m .link)) op a) (bad m)))
 
 -- and before them those of the block, of codes and of the packet
 unfoldable pub operated : Machine → ℕ → List ℕ → Effect Machine

@@ -2,24 +2,27 @@
 // on; the place behind the line stands beside what the operation leaves.
 ghost use mathlib.Core.Path.{_≡_};
 ghost use Rattle.script_answers.specs.Steps.{Did};
-ghost use Rattle.script_operations.specs.Ran.{freshMachine, withBlock, withPacket, withParser, withWriter, onMachines, ran};
+ghost use Rattle.script_operations.specs.Ran.{freshMachine, withBlock, withPacket, withParser, withWriter, withLink, onMachines, ran};
 use packet::DTVCCPacket;
 use parser::CCDataParser;
 use program_records::byte_at;
 use program_records::part;
 use script_blocks::OnBlock;
+use script_distribution::Link;
+use script_distribution::OnLink;
 use script_packets::OnPacket;
 use script_parsers::OnParser;
 use script_writers::OnWriter;
 use service::Service;
 use writer::CCDataWriter;
 
-// What the operations work on: a block, a packet, a demultiplexer and a multiplexer.
+// What the operations work on: a block, a packet, a demultiplexer, a multiplexer, and a reader and a writer of distribution packets.
 pub struct Machine {
     pub s: Service,
     pub p: DTVCCPacket,
     pub r: CCDataParser,
     pub w: CCDataWriter,
+    pub link: Link,
 }
 
 // The place behind the line of an operation, and what it leaves.
@@ -38,7 +41,8 @@ pub fn fresh() -> Machine
     let p = packet.packet;
     let r = CCDataParser::new();
     let w = CCDataWriter::new();
-    Machine { s, p, r, w }
+    let link = script_distribution::fresh();
+    Machine { s, p, r, w, link }
 }
 
 // What an operation on the block leaves of all,
@@ -80,7 +84,7 @@ fn left_parser(m: Machine, done: OnParser) -> Stepped
     }
 }
 
-// and one on the multiplexer.
+// one on the multiplexer,
 fn left_writer(m: Machine, done: OnWriter) -> Stepped
     ensures { λ r. ⌜ r ≡ record { laid = done .laid; machine = withWriter m (done .writer) } ⌝ }
 {
@@ -93,13 +97,27 @@ fn left_writer(m: Machine, done: OnWriter) -> Stepped
     }
 }
 
-// An operation on one of the two machines, or one that there is not.
+// and one on the reader or the writer of distribution packets.
+fn left_link(m: Machine, done: OnLink) -> Stepped
+    ensures { λ r. ⌜ r ≡ record { laid = done .laid; machine = withLink m (done .link) } ⌝ }
+{
+    let link = done.link;
+    let mut machine = m;
+    machine.link = link;
+    Stepped {
+        laid: done.laid,
+        machine,
+    }
+}
+
+// An operation on one of the machines, or one that there is not.
 fn run_on_machines(out: &mut [u8], at: usize, m: Machine, op: u8, args: &[u8]) -> Stepped
     ensures { λ r. ⌜ Did (onMachines m op (now (args .entry))) (now (out .entry)) at (r .laid) (r .machine) (now (out .exit)) ⌝ }
 {
     let p = m.p;
     let r = m.r;
     let w = m.w;
+    let link = m.link;
     let on_r = script_parsers::on_parser(out, at, r, op, args);
     if on_r.ran {
         return left_parser(m, on_r);
@@ -107,6 +125,10 @@ fn run_on_machines(out: &mut [u8], at: usize, m: Machine, op: u8, args: &[u8]) -
     let on_w = script_writers::on_writer(out, at, p, w, op, args);
     if on_w.ran {
         return left_writer(m, on_w);
+    }
+    let on_l = script_distribution::on_link(out, at, link, op, args);
+    if on_l.ran {
+        return left_link(m, on_l);
     }
     let laid = script_answers::put_bad_line(out, at);
     Stepped { laid, machine: m }

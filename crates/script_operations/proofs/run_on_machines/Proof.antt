@@ -1,6 +1,7 @@
--- The first of the two machines that runs it does all there is. Assumes nothing.
+-- The first of the machines that runs it does all there is. Assumes nothing.
+use mathlib.Core.Path.{_∙_}
 use borrow.Author.Needs.{needs}
-use Rattle.script_operations.proofs.Records.{by-parser, by-writer, by-none}
+use Rattle.script_operations.proofs.Records.{by-parser, by-writer, by-link, by-none}
 use Rattle.script_operations.proofs.run_on_machines.Statement.{statement}
 use Rattle.script_operations.proofs.run_on_machines.Tie as tie
 
@@ -34,19 +35,36 @@ returns-2 c =
     by-writer _ _ _ _ _ _ (y .on-parser .result) (y .on-parser .ensures) (c .before .before .before .before .before .before .if1 .left) _ (x .on-writer .result) (x .on-writer .ensures) _
     (c .before .if2 .taken) (c .left-writer .ensures)
 
-put-bad-line-requires : tie.Need-put-bad-line-requires
-put-bad-line-requires c κs = search needs
+on-link-requires : tie.Need-on-link-requires
+on-link-requires c κs = search needs
+
+left-link-requires : tie.Need-left-link-requires
+left-link-requires c κs = search needs
 
 same-length-3 : tie.Need-same-length-3
-same-length-3 c = search needs
+same-length-3 c = c .before .before .before .out3 .given ∙ c .before .before .before .before .before .before .before .before .out2 .given ∙ c .before .before .before .before .before .before .before .before .before .before .before .before .before .out .given
 
 returns-3 : tie.Need-returns-3
 returns-3 c =
-    let x = c .before .before .before .before .before .before .before in
-    let y = c .before .before .before .before .before .before .before .before .before .before .before .before in
-    by-none _ _ _ _ _ _ (y .on-parser .result) (y .on-parser .ensures) (c .before .before .before .before .before .before .before .before .before .if1 .left) _
-    (x .on-writer .result) (x .on-writer .ensures)
-    (c .before .before .before .before .if2 .left) (c .before .before .put-bad-line .ensures)
+    let z = c .before .before .before .before in
+    let x = c .before .before .before .before .before .before .before .before .before in
+    let y = c .before .before .before .before .before .before .before .before .before .before .before .before .before .before in
+    by-link _ _ _ _ _ _ (y .on-parser .result) (y .on-parser .ensures) (c .before .before .before .before .before .before .before .before .before .before .before .if1 .left) _ (x .on-writer .result) (x .on-writer .ensures)
+    (c .before .before .before .before .before .before .if2 .left) _ (z .on-link .result) (z .on-link .ensures) _ (c .before .if3 .taken) (c .left-link .ensures)
+
+put-bad-line-requires : tie.Need-put-bad-line-requires
+put-bad-line-requires c κs = search needs
+
+same-length-4 : tie.Need-same-length-4
+same-length-4 c = search needs
+
+returns-4 : tie.Need-returns-4
+returns-4 c =
+    let z = c .before .before .before .before .before .before .before in
+    let x = c .before .before .before .before .before .before .before .before .before .before .before .before in
+    let y = c .before .before .before .before .before .before .before .before .before .before .before .before .before .before .before .before .before in
+    by-none _ _ _ _ _ _ (y .on-parser .result) (y .on-parser .ensures) (c .before .before .before .before .before .before .before .before .before .before .before .before .before .before .if1 .left) _ (x .on-writer .result) (x .on-writer .ensures)
+    (c .before .before .before .before .before .before .before .before .before .if2 .left) _ (z .on-link .result) (z .on-link .ensures) (c .before .before .before .before .if3 .left) (c .before .before .put-bad-line .ensures)
 
 pub run-on-machines-spec : {M : Type 1} → statement M
 run-on-machines-spec =
@@ -60,6 +78,10 @@ run-on-machines-spec =
     left-writer-requires
     same-length-2
     returns-2
-    put-bad-line-requires
+    on-link-requires
+    left-link-requires
     same-length-3
-    returns-3)
+    returns-3
+    put-bad-line-requires
+    same-length-4
+    returns-4)
