@@ -9,7 +9,7 @@ use lib.ListN.{length, getD, take, drop}
 use lib.Seq.{take-at}
 use borrow.Author.Tests.{leb-true, le-ltb}
 use Rattle.model.specs.Said.{Said, Outcome, gave, refused, andThen, mapped, after, putInto}
-use Rattle.model.specs.Distribution.{Distribution, isCoded, hasMark, inOrder, counterAt, sumsUp, countersAgree, heldIn, opened, takes, frameOf, Received, receivedInto, receive}
+use Rattle.model.specs.Distribution.{Distribution, isCoded, hasMark, sectionsInOrder, counterAt, sumsUp, countersAgree, heldIn, opened, takes, frameOf, Received, receivedInto, receive}
 use Rattle.model.proofs.Cases.{by-cond, both, Gives, gives-at, gives-then, gives-mapped, Refuses}
 use Rattle.model.proofs.Frames.{frame-length}
 use Rattle.model.proofs.Distribution.{passes-ordered, held-count, Passed, opened-passed}
@@ -63,7 +63,7 @@ opened-refused : (s : List ℕ) → Refuses OfPacket (opened s)
 unfolding opened
 opened-refused s =
     by-cond (Refuses OfPacket) (hasMark s)
-    (λ _. by-cond (Refuses OfPacket) (inOrder s)
+    (λ _. by-cond (Refuses OfPacket) (sectionsInOrder s)
     (λ _. by-cond (Refuses OfPacket) (sumsUp s)
     (λ _. by-cond (Refuses OfPacket) (countersAgree s) (λ _. tt) (λ _. ofNumber 19 (omega arith) (omega arith)))
     (λ _. ofNumber 18 (omega arith) (omega arith)))

@@ -11,11 +11,17 @@ use lib.Dec.{ltb}
 use lib.ListN.{length}
 use Rattle.model.specs.Lists.{every}
 use Rattle.model.specs.Said.{Said, saysWith, putInto}
-use Rattle.model.specs.Distribution.{isCoded, distributionBytes, hasMark, inOrder, sumsUp, countersAgree, heldIn, opened, takes, frameOf, receivedInto, receive, isWhole, distributionOf, packed, Sent, sentInto, distribute}
+use Rattle.model.specs.Distribution.{isCoded, distributionBytes, hasMark, sectionsInOrder, sumsUp, countersAgree, heldIn, opened, takes, frameOf, receivedInto, receive, isWhole, distributionOf, packed, Distributed, sentInto, distribute}
 use Rattle.model.proofs.Cases.{by-test, both, and-both}
-use Rattle.caption.specs.Answers.{saidCounted}
+use Rattle.caption.specs.Answers.{saidRefusal, saidCounted}
+use Rattle.caption.specs.declared.Refusal.{Refusal}
+use Rattle.caption.specs.declared.Counted.{Counted}
+use Rattle.caption.specs.declared.Counted.the-variants as counted
+use Rattle.caption.proofs.Answers.{refusal-numbered}
 use Rattle.distribution.specs.States.{lastOf}
 use Rattle.distribution.specs.Calls.{saidReceived, tellsOf}
+use Rattle.distribution.specs.declared.Received.{Received}
+use Rattle.distribution.specs.declared.Received.the-variants.{Refused}
 use Rattle.distribution.specs.declared.DistributionReader.{DistributionReader}
 use Rattle.distribution.specs.declared.DistributionRead.{DistributionRead}
 use Rattle.distribution.specs.declared.DistributionWriter.{DistributionWriter}
@@ -62,7 +68,7 @@ fails-so (t ∷ ts) n e z =
 abbrev pub readTests : Option ℕ → List ℕ → List ℕ → List Test
 readTests last s out =
     test (hasMark s) 16
-    ∷ test (inOrder s) 17
+    ∷ test (sectionsInOrder s) 17
     ∷ test (sumsUp s) 18
     ∷ test (countersAgree s) 19
     ∷ test (takes last (heldIn s .counter)) 20
@@ -80,7 +86,7 @@ received-number : (last : Option ℕ) (s out : List ℕ) → saysWith tellsOf (r
 unfolding firstFailing receive opened receivedInto putInto
 received-number last s out =
     by-test (hasMark s)
-    (λ m. by-test (inOrder s)
+    (λ m. by-test (sectionsInOrder s)
     (λ o. by-test (sumsUp s)
     (λ t. by-test (countersAgree s)
     (λ c. by-test (takes last (heldIn s .counter))
@@ -91,19 +97,45 @@ received-number last s out =
     (λ o. rw (m, o) refl))
     (λ m. rw m refl)
 
-sent-number : (counter code : ℕ) (f out : List ℕ) → saysWith (λ (x : Sent). length (x .bytes) ∷ []) (distribute counter code f out) .number ≡ firstFailing (writeTests counter code f out)
+sent-number : (counter code : ℕ) (f out : List ℕ) → saysWith (λ (x : Distributed). length (x .bytes) ∷ []) (distribute counter code f out) .number ≡ firstFailing (writeTests counter code f out)
 unfolding firstFailing distribute packed sentInto putInto
 sent-number counter code f out =
     by-test (isWhole f && isCoded code)
     (λ w. by-test (ltb (length out) (length (distributionBytes (distributionOf counter code f)))) (λ l. rw (w, l) refl) (λ l. rw (w, l) refl))
     (λ w. rw w refl)
 
--- The number that a read answers is that of the first test that fails, and 0 if none does.
-pub read-number : (κs : Lfts 2) (reader : DistributionReader) (packet out end : Lent) (r : DistributionRead) → Read κs reader packet out end r
-    → saidReceived (r .received) .number ≡ firstFailing (readTests (lastOf (reader .last)) (now packet) (now out))
-read-number κs reader packet out end r told = ap (λ (s : Said). s .number) (told .answer) ∙ received-number (lastOf (reader .last)) (now packet) (now out)
+-- the first test that fails, by where it stands
+first-is : (ts : List Test) (n : ℕ) → FirstIs ts n → firstFailing ts ≡ n
+first-is ts n f = ap firstFailing (f .3) ∙ fails-here (f .0) (f .1) (f .2) (f .4) (f .5) ∙ f .6
 
--- So it is with a write.
-pub write-number : (κs : Lfts 2) (w : DistributionWriter) (code : ℕ) (frame out end : Lent) (r : DistributionWritten) → Write κs w code frame out end r
-    → saidCounted (r .answer) .number ≡ firstFailing (writeTests (w .next) code (now frame) (now out))
-write-number κs w code frame out end r told = ap (λ (s : Said). s .number) (told .answer) ∙ sent-number (w .next) code (now frame) (now out)
+module _ (κs : Lfts 2) (reader : DistributionReader) (packet out end : Lent) (r : DistributionRead) (told : Read κs reader packet out end r) where
+  -- the tests of this read
+  abbrev testsRead : List Test
+  testsRead = readTests (lastOf (reader .last)) (now packet) (now out)
+
+  read-number : saidReceived (r .received) .number ≡ firstFailing testsRead
+  read-number = ap (λ (s : Said). s .number) (told .answer) ∙ received-number (lastOf (reader .last)) (now packet) (now out)
+
+  -- A read that is refused is refused with the number of the first test that fails,
+  pub read-refused : (why : Refusal) → r .received ≡ Refused why → FirstIs testsRead (saidRefusal why .number)
+  read-refused why e = fails-so testsRead (saidRefusal why .number) (sym read-number ∙ ap (λ (x : Received). saidReceived x .number) e) (refusal-numbered why)
+
+  -- and where a test is the first that fails its number is told.
+  pub read-told : (n : ℕ) → FirstIs testsRead n → saidReceived (r .received) .number ≡ n
+  read-told n f = read-number ∙ first-is testsRead n f
+
+module _ (κs : Lfts 2) (w : DistributionWriter) (code : ℕ) (frame out end : Lent) (r : DistributionWritten) (told : Write κs w code frame out end r) where
+  -- the tests of this write
+  abbrev testsWrite : List Test
+  testsWrite = writeTests (w .next) code (now frame) (now out)
+
+  write-number : saidCounted (r .answer) .number ≡ firstFailing testsWrite
+  write-number = ap (λ (s : Said). s .number) (told .answer) ∙ sent-number (w .next) code (now frame) (now out)
+
+  -- So it is with a write that is refused,
+  pub write-refused : (why : Refusal) → r .answer ≡ counted.Refused why → FirstIs testsWrite (saidRefusal why .number)
+  write-refused why e = fails-so testsWrite (saidRefusal why .number) (sym write-number ∙ ap (λ (x : Counted). saidCounted x .number) e) (refusal-numbered why)
+
+  -- and with its tests.
+  pub write-told : (n : ℕ) → FirstIs testsWrite n → saidCounted (r .answer) .number ≡ n
+  write-told n f = write-number ∙ first-is testsWrite n f

@@ -8,19 +8,19 @@ use Prim.Native.Nat.{ℕ, _+_, _*_, _/_, _%_, _^_, _≤_, _<_}
 use native.Mathlib.Omega.{arith}
 use contract.Lifetimes.{Lfts}
 use denote.Ref.{RefT, now}
-use lib.Dec.{ltb}
+use lib.Dec.{leb, ltb}
 use lib.ListN.{length, getD, take, drop}
 use lib.Seq.{take-at, drop-at, drop-cons}
-use borrow.Author.Tests.{eq-eqb, le-ltb}
+use borrow.Author.Tests.{eq-eqb, le-ltb, lt-leb, leb-true}
 use Rattle.model.specs.Lists.{every}
 use Rattle.model.specs.Said.{Outcome, gave, refused, saysWith, andThen, mapped, after, putInto, notNewer}
 use Rattle.model.specs.Frame.{Triple, seenAll, flagged, countIn, Frame, frameBytes}
 use Rattle.model.specs.Demux.{Demux, lateFrom, takeTriples, takeFrame}
-use Rattle.model.specs.Distribution.{Distribution, isCoded, lengthWith, sumOf, Unread, asWritten, laidOut, distributionBytes, opened, ahead, takes, newer, frameOf, receivedInto, receive, onward, isWhole, distributionOf, Sent, distribute}
+use Rattle.model.specs.Distribution.{Distribution, isCoded, lengthWith, sumOf, Unread, asWritten, laidOut, distributionBytes, opened, ahead, takes, newer, frameOf, receivedInto, receive, counterAfter, isWhole, distributionOf, Distributed, distribute}
 use Rattle.model.specs.Distribution as packets
-use Rattle.model.proofs.Cases.{by-cond, Gives, gives-at, gives-mapped, NotAccepted, Refuses, refuses-then, refuses-mapped}
+use Rattle.model.proofs.Cases.{by-test, by-cond, Gives, gives-at, gives-mapped, NotAccepted, Refuses, refuses-then, refuses-mapped}
 use Rattle.model.proofs.Frames.{take-whole, frame-length, frame-triples}
-use Rattle.model.proofs.Distribution.{Fits, laid-length, laid-sum, laid-opened, opened-numbered, unreadIn, isByte, opened-laid, onward-newer, whole-length, whole-count, whole-frame, SentAs, sent-as, sent-numbered, sent-fits}
+use Rattle.model.proofs.Distribution.{Fits, laid-length, laid-sum, laid-opened, opened-numbered, unreadIn, isByte, opened-laid, next-newer, whole-length, whole-count, whole-frame, SentAs, sent-as, sent-numbered, sent-fits}
 use Rattle.caption.specs.declared.Refusal.{Refusal}
 use Rattle.caption.specs.declared.Refusal.the-variants.{NotNewer}
 use Rattle.caption.specs.declared.Counted.the-variants.{Count}
@@ -57,7 +57,7 @@ pub record Sends (w : DistributionWriter) (code : ℕ) (f out end : List ℕ) (r
   pub count : n ≡ lengthWith (countIn (getD f 0 0))
   pub packet : take n end ≡ distributionBytes (distributionOf (w .next) code f)
   pub behind : drop n end ≡ drop n out
-  pub next : r .writer ≡ writerAt (onward (w .next))
+  pub next : r .writer ≡ writerAt (counterAfter (w .next))
 
 module _ (κs : Lfts 2) (w : DistributionWriter) (code : ℕ) (frame out end : Lent) (r : DistributionWritten) (told : Write κs w code frame out end r) where
   pub written-laid : (n : ℕ) → r .answer ≡ Count n → Sends w code (now frame) (now out) (now end) r n
@@ -65,10 +65,10 @@ module _ (κs : Lfts 2) (w : DistributionWriter) (code : ℕ) (frame out end : L
       let f = now frame in
       let o = now out in
       let d = distributionOf (w .next) code f in
-      let g = given-with (λ (x : Sent). length (x .bytes) ∷ []) (n ∷ []) (distribute (w .next) code f o) (sent-numbered (w .next) code f o) (sym (ap saidCounted e) ∙ told .answer) in
+      let g = given-with (λ (x : Distributed). length (x .bytes) ∷ []) (n ∷ []) (distribute (w .next) code f o) (sent-numbered (w .next) code f o) (sym (ap saidCounted e) ∙ told .answer) in
       let s = gives-at (SentAs (w .next) code f o) (distribute (w .next) code f o) (g .1) (sent-as (w .next) code f o) in
       let all : now end ≡ distributionBytes d ++ drop (length (distributionBytes d)) o =
-      told .output ∙ ap (λ (q : Outcome Sent). after o (mapped (λ x. x .out) q)) (g .1) ∙ s .there in
+      told .output ∙ ap (λ (q : Outcome Distributed). after o (mapped (λ x. x .out) q)) (g .1) ∙ s .there in
       let long : n ≡ length (distributionBytes d) = ap (λ (v : List ℕ). getD v 0 0) (g .2) ∙ ap length (s .packet) in
       record {
         whole = s .whole;
@@ -76,7 +76,7 @@ module _ (κs : Lfts 2) (w : DistributionWriter) (code : ℕ) (frame out end : L
         count = omega (arith, long, laid-length asWritten d, whole-count f (s .whole));
         packet = ap (λ (l : List ℕ). take n l) all ∙ take-at (distributionBytes d) _ n (sym long);
         behind = ap (λ (l : List ℕ). drop n l) all ∙ drop-at (distributionBytes d) _ n (sym long) ∙ ap (λ (k : ℕ). drop k o) (sym long);
-        next = told .places ∙ ap (λ (q : Outcome Sent). after w (mapped (λ x. writerAt (x .next)) q)) (g .1) ∙ ap writerAt (s .moved);
+        next = told .places ∙ ap (λ (q : Outcome Distributed). after w (mapped (λ x. writerAt (x .next)) q)) (g .1) ∙ ap writerAt (s .moved);
       }
 
   -- Its sum is 0 modulo 256.
@@ -98,16 +98,16 @@ module _ (u : Unread) (d : Distribution) (fits : Fits u d) (last : Option ℕ) (
   laid-old t = simp (laid-opened u d fits, t)
 
 -- a packet that was taken: the bytes were read as it, and it was newer
-record Taken (last : Option ℕ) (s : List ℕ) (x : packets.Received) : Type 0 where
+record TakenAs (last : Option ℕ) (s : List ℕ) (x : packets.Received) : Type 0 where
   whole : opened s ≡ gave (x .packet)
   newer : takes last (x .packet .counter) ≡ true
 
 module _ (last : Option ℕ) (s out : List ℕ) where
-  taken-of : (o : Outcome Distribution) → opened s ≡ o → Gives (Taken last s) (andThen o (λ d. cond (takes last (d .counter)) (receivedInto out d) (refused notNewer)))
+  taken-of : (o : Outcome Distribution) → opened s ≡ o → Gives (TakenAs last s) (andThen o (λ d. cond (takes last (d .counter)) (receivedInto out d) (refused notNewer)))
   unfolding receivedInto
   taken-of (gave d) e =
-      by-cond (Gives (Taken last s)) (takes last (d .counter))
-      (λ t. gives-mapped (Taken last s) (λ (o : List ℕ). o ≡ o) (putInto out (frameOf d)) _ (any (putInto out (frameOf d))) (λ o _. record { whole = e; newer = t }))
+      by-cond (Gives (TakenAs last s)) (takes last (d .counter))
+      (λ t. gives-mapped (TakenAs last s) (λ (o : List ℕ). o ≡ o) (putInto out (frameOf d)) _ (any (putInto out (frameOf d))) (λ o _. record { whole = e; newer = t }))
       (λ _. tt)
     where
       any : (o : Outcome (List ℕ)) → Gives (λ (x : List ℕ). x ≡ x) o
@@ -115,7 +115,7 @@ module _ (last : Option ℕ) (s out : List ℕ) where
       any (refused why) = tt
   taken-of (refused why) e = tt
 
-  taken : Gives (Taken last s) (receive last s out)
+  taken : Gives (TakenAs last s) (receive last s out)
   unfolding receive
   taken = taken-of (opened s) refl
 
@@ -141,8 +141,8 @@ module _ (κs : Lfts 2) (reader : DistributionReader) (packet out end : Lent) (r
       (ap₂ (λ (a : Received) (b : DistributionReader). record { received = a; reader = b }) told-is reader-is, told .output ∙ ap (λ (q : Outcome packets.Received). after (now out) (mapped (λ y. y .out) q)) e)
 
   -- one that refuses: nothing changes
-  refused-so : (why : Refusal) → said ≡ refused (saidRefusal why) → (r ≡ record { received = Refused why; reader = reader }) × (now end ≡ now out)
-  refused-so why e =
+  stays-so : (why : Refusal) → said ≡ refused (saidRefusal why) → (r ≡ record { received = Refused why; reader = reader }) × (now end ≡ now out)
+  stays-so why e =
       let told-is = saidReceived-injective (r .received) (Refused why) (told .answer ∙ ap (saysWith tellsOf) e) in
       let reader-is = told .places ∙ ap (λ (q : Outcome packets.Received). after reader (mapped (λ y. readerAt (y .packet .counter)) q)) e in
       (ap₂ (λ (a : Received) (b : DistributionReader). record { received = a; reader = b }) told-is reader-is, told .output ∙ ap (λ (q : Outcome packets.Received). after (now out) (mapped (λ y. y .out) q)) e)
@@ -159,7 +159,7 @@ module _ (κs : Lfts 2) (reader : DistributionReader) (packet out end : Lent) (r
 
     -- and one that is not newer is refused with 20, whatever was lent; so a repeat changes nothing.
     pub old-read : takes (lastOf (reader .last)) (d .counter) ≡ false → (r ≡ record { received = Refused NotNewer; reader = reader }) × (now end ≡ now out)
-    old-read t = refused-so NotNewer (said-as ∙ laid-old u d fits (lastOf (reader .last)) (now out) t)
+    old-read t = stays-so NotNewer (said-as ∙ laid-old u d fits (lastOf (reader .last)) (now out) t)
 
   -- Nothing else is given: bytes that a packet is given of are that packet, laid out, and it is newer.
   pub read-laid : (code counter len : ℕ) → r .received ≡ Packet code counter len → every isByte (now packet) ≡ true
@@ -167,7 +167,7 @@ module _ (κs : Lfts 2) (reader : DistributionReader) (packet out end : Lent) (r
       × (r ≡ record { received = Packet (d .code) (d .counter) (length (frameOf d)); reader = readerAt (d .counter) })
   read-laid code counter len e bytes =
       let g = given-with tellsOf (code ∷ counter ∷ len ∷ []) said (received-numbered (lastOf (reader .last)) (now packet) (now out)) (sym (ap saidReceived e) ∙ told .answer) in
-      let t = gives-at (Taken (lastOf (reader .last)) (now packet)) said (g .1) (taken (lastOf (reader .last)) (now packet) (now out)) in
+      let t = gives-at (TakenAs (lastOf (reader .last)) (now packet)) said (g .1) (taken (lastOf (reader .last)) (now packet) (now out)) in
       let l = opened-laid (now packet) (g .0 .packet) bytes (t .whole) in
       (g .0 .packet, l .0, l .1, t .newer, given-so (g .0) (g .1) .0)
 
@@ -201,16 +201,20 @@ pub fresh-takes : (n : ℕ) → takes (lastOf (freshReader .last)) n ≡ true
 unfolding takes
 fresh-takes n = refl
 
-pub next-takes : (n : ℕ) → n < 2 ^ 16 → takes (lastOf (readerAt n .last)) (onward n) ≡ true
+pub next-takes : (n : ℕ) → n < 2 ^ 16 → takes (lastOf (readerAt n .last)) (counterAfter n) ≡ true
 unfolding takes
-next-takes n h = onward-newer n h
+next-takes n h = next-newer n h
 
--- a repeat is not newer
-pub repeat-old : (n : ℕ) → n < 2 ^ 16 → takes (lastOf (readerAt n .last)) n ≡ false
+-- a packet that comes again is not newer, until the counter has gone on by more than 32,768
+pub repeat-old : (n k : ℕ) → n < 2 ^ 16 → k ≤ 32768 → takes (lastOf (readerAt ((n + k) % 2 ^ 16) .last)) n ≡ false
 unfolding takes newer ahead
-repeat-old n h = let e : ahead n n ≡ 0 = omega arith in rw e refl
+repeat-old n k h l =
+    let last : ℕ = (n + k) % 2 ^ 16 in
+    by-test (leb 1 (ahead last n))
+    (λ e. rw e (lt-leb (ahead last n) 32767 (omega (arith, leb-true 1 (ahead last n) e))))
+    (λ e. rw e refl)
 
--- The demultiplexer takes the frame of a packet as it is: it goes by the packet's triples, and is not refused for its length.
+-- The demultiplexer of the model takes the frame of a packet as it is: it goes by the packet's triples, and is not refused for its length.
 pub frame-taken : (d : Distribution) (m : Demux) → 1 ≤ length (d .triples) → length (d .triples) < 32
     → takeFrame (frameOf d) m ≡ (let ts = seenAll (d .triples) in takeTriples ts (lateFrom 0 ts) m)
 unfolding flagged frameBytes

@@ -181,7 +181,7 @@ impl DistributionWriter {
         ensures { λ r. ⌜ Writes self code (now (frame .entry)) (now (out .entry)) r (now (out .exit)) ⌝ }
     {
         let answer = distribution_writing::write_packet(self.next, code, frame, out);
-        let next = distribution_numbers::onward(self.next);
+        let next = distribution_numbers::counter_after(self.next);
         let Counted::Count(_) = answer else {
             return DistributionWritten {
                 answer,

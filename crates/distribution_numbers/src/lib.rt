@@ -1,7 +1,7 @@
 // The numbers of a distribution packet: which of two counters is newer and which comes next, the sum of its bytes, and the codes of rates.
 ghost use mathlib.Core.Path.{_≡_};
 ghost use Prim.Native.Nat.{_%_};
-ghost use Rattle.model.specs.Distribution.{newer, onward, sumOf, closing, isCoded};
+ghost use Rattle.model.specs.Distribution.{newer, counterAfter, sumOf, closing, isCoded};
 
 // The highest code of a rate.
 pub const MOST_CODE: u8 = 8;
@@ -18,8 +18,8 @@ pub fn newer(last: u16, counter: u16) -> bool
 }
 
 // The counter behind a counter; 0 behind 65,535 [L5].
-pub fn onward(counter: u16) -> u16
-    ensures { λ r. ⌜ r ≡ onward counter ⌝ }
+pub fn counter_after(counter: u16) -> u16
+    ensures { λ r. ⌜ r ≡ counterAfter counter ⌝ }
 {
     std::num::wrapping_add_u16(counter, 1)
 }

@@ -7,7 +7,7 @@ use native.Mathlib.Omega.{arith}
 use lib.Dec.{eqb}
 use lib.ListN.{length}
 use borrow.Author.Tests.{not-false}
-use Rattle.model.specs.Distribution.{hasMark, inOrder}
+use Rattle.model.specs.Distribution.{hasMark, sectionsInOrder}
 use Rattle.model.proofs.Distribution.{passes-ordered}
 
 -- fewer than two bytes
@@ -18,5 +18,5 @@ short-unmarked (b ∷ []) h = sym (and-false (eqb b 0x96))
 short-unmarked (b ∷ c ∷ s) h = absurd (omega arith)
 
 -- bytes that are in order are enough to look at all that a packet has
-pub enough : (s : List ℕ) (r : Bool) → r ≡ inOrder s → not r ≡ false → 13 ≤ length s
+pub enough : (s : List ℕ) (r : Bool) → r ≡ sectionsInOrder s → not r ≡ false → 13 ≤ length s
 enough s r e n = passes-ordered s (sym e ∙ not-false r n) .enough

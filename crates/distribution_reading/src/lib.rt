@@ -3,7 +3,7 @@ ghost use mathlib.Core.Path.{_≡_};
 ghost use Prim.Native.Nat.{_+_, _*_, _≤_};
 ghost use lib.ListN.{length};
 ghost use Rattle.model.specs.Said.{saysWith};
-ghost use Rattle.model.specs.Distribution.{hasMark, announcesMore, inOrder, counterAt, opened};
+ghost use Rattle.model.specs.Distribution.{hasMark, announcesMore, sectionsInOrder, counterAt, opened};
 ghost use Rattle.distribution_reading.specs.Opened.{saidOpened, fieldsOf};
 use basics::wide;
 use caption::Refusal;
@@ -45,7 +45,7 @@ fn announces_more(flags: u8) -> bool
 
 // Whether length, rate, flags, sections and count are in order.
 fn in_order(packet: &[u8]) -> bool
-    ensures { λ r. ⌜ r ≡ inOrder (now (packet .entry)) ⌝ }
+    ensures { λ r. ⌜ r ≡ sectionsInOrder (now (packet .entry)) ⌝ }
 {
     let n = packet.len();
     if n < LEAST {

@@ -10,11 +10,11 @@ use lib.Dec.{leb}
 use borrow.Author.Tests.{lt-ltb, le-ltb, leb-true}
 use Rattle.model.specs.Frame.{countIn}
 use Rattle.model.specs.Said.{gave, refused, putInto, outShort, badSection}
-use Rattle.model.specs.Distribution.{twoBytes, sumOf, closing, isCoded, asWritten, sections, laidOut, distributionBytes, onward, isWhole, distributionOf, packed, sentInto, distribute}
+use Rattle.model.specs.Distribution.{twoBytes, sumOf, closing, isCoded, asWritten, sections, laidOut, distributionBytes, counterAfter, isWhole, distributionOf, packed, sentInto, distribute}
 use Rattle.model.proofs.Distribution.{laid-length, whole-length, whole-bytes, whole-count}
 use Rattle.model.proofs.Cases.{both}
 use Rattle.basics.proofs.Runs.{sets-append, sets-front}
-use Rattle.distribution_writing.specs.Laid.{headOf, sectionsOf, laidIn}
+use Rattle.distribution_writing.specs.Laid.{firstNine, sectionsOf, packetIn}
 
 -- an empty frame is not whole
 pub empty-broken : (f : List ℕ) → length f ≡ 0 → false ≡ isWhole f
@@ -29,7 +29,7 @@ closing-rest s = omega arith
 
 module _ (counter code : ℕ) (f : List ℕ) (whole : isWhole f ≡ true) where
   -- the head, the frame's own triples and the footer are the sections
-  sections-are : headOf counter code (countIn (getD f 0 0)) ++ (drop 2 f ++ (0x74 ∷ twoBytes counter)) ≡ sectionsOf counter code f
+  sections-are : firstNine counter code (countIn (getD f 0 0)) ++ (drop 2 f ++ (0x74 ∷ twoBytes counter)) ≡ sectionsOf counter code f
   unfolding sections
   sections-are = rw (whole-bytes f whole, whole-count f whole)
 
@@ -41,16 +41,16 @@ module _ (counter code : ℕ) (f : List ℕ) (whole : isWhole f ≡ true) where
       omega (
         arith,
         ap length (sym sections-are),
-        length-append (headOf counter code (countIn (getD f 0 0))) (drop 2 f ++ (0x74 ∷ twoBytes counter)),
+        length-append (firstNine counter code (countIn (getD f 0 0))) (drop 2 f ++ (0x74 ∷ twoBytes counter)),
         length-append (drop 2 f) (0x74 ∷ twoBytes counter),
         triples-length,
       )
 
   -- three pieces, one behind the other
   three-laid : (o : List ℕ)
-      → sets (sets (sets o 0 (headOf counter code (countIn (getD f 0 0)))) 9 (drop 2 f)) (length f + 7) (0x74 ∷ twoBytes counter) ≡ sets o 0 (sectionsOf counter code f)
+      → sets (sets (sets o 0 (firstNine counter code (countIn (getD f 0 0)))) 9 (drop 2 f)) (length f + 7) (0x74 ∷ twoBytes counter) ≡ sets o 0 (sectionsOf counter code f)
   three-laid o =
-      let head = headOf counter code (countIn (getD f 0 0)) in
+      let head = firstNine counter code (countIn (getD f 0 0)) in
       let footer : List ℕ = 0x74 ∷ twoBytes counter in
       let place : length f + 7 ≡ 9 + length (drop 2 f) = omega (arith, triples-length) in
       ap (λ (i : ℕ). sets (sets (sets o 0 head) 9 (drop 2 f)) i footer) place
@@ -59,9 +59,9 @@ module _ (counter code : ℕ) (f : List ℕ) (whole : isWhole f ≡ true) where
       ∙ ap (λ (x : List ℕ). sets o 0 x) sections-are
 
   -- the same, where the frame's triples are a part of it
-  pub pieces-laid : (o a b c head number : List ℕ) → head ≡ headOf counter code (countIn (getD f 0 0)) → number ≡ twoBytes counter → a ≡ sets o 0 head
-      → b ≡ sets a 9 (take (length f - 2) (drop 2 f)) → c ≡ sets b (length f + 7) (0x74 ∷ getD number 0 0 ∷ getD number 1 0 ∷ []) → c ≡ sets o 0 (sectionsOf counter code f)
-  pieces-laid o a b c head number h n x y z =
+  pub pieces-laid : (o a b c head two : List ℕ) → head ≡ firstNine counter code (countIn (getD f 0 0)) → two ≡ twoBytes counter → a ≡ sets o 0 head
+      → b ≡ sets a 9 (take (length f - 2) (drop 2 f)) → c ≡ sets b (length f + 7) (0x74 ∷ getD two 0 0 ∷ getD two 1 0 ∷ []) → c ≡ sets o 0 (sectionsOf counter code f)
+  pieces-laid o a b c head two h n x y z =
       let part : take (length f - 2) (drop 2 f) ≡ drop 2 f = take-all (length f - 2) (drop 2 f) (omega (arith, length-drop 2 f)) in
       rw (z, y, x, h, n, part) (three-laid o)
 
@@ -71,7 +71,7 @@ module _ (counter code : ℕ) (f : List ℕ) (whole : isWhole f ≡ true) where
 
   -- for the byte that closes their sum
   pub sum-laid : (o c : List ℕ) (sum b : ℕ) → length f + 11 ≤ length o → c ≡ sets o 0 (sectionsOf counter code f) → sum ≡ sumOf (take (length f + 10) c) % 256 → b ≡ closing sum
-      → set c (length f + 10) b ≡ laidIn counter code f o
+      → set c (length f + 10) b ≡ packetIn counter code f o
   unfolding laidOut
   sum-laid o c sum b h e t k =
       let these = sectionsOf counter code f in
@@ -88,7 +88,7 @@ module _ (counter code : ℕ) (f : List ℕ) (whole : isWhole f ≡ true) where
 
   -- with a code and with room all of it is written,
   pub wrote-whole : (out : List ℕ) → isCoded code ≡ true → length f + 11 ≤ length out
-      → distribute counter code f out ≡ gave (record { bytes = distributionBytes (distributionOf counter code f); out = laidIn counter code f out; next = onward counter })
+      → distribute counter code f out ≡ gave (record { bytes = distributionBytes (distributionOf counter code f); out = packetIn counter code f out; next = counterAfter counter })
   unfolding distribute packed sentInto putInto
   wrote-whole out coded h = simp (whole, coded, le-ltb (length out) (length (distributionBytes (distributionOf counter code f))) (omega (arith, bytes-length)))
 

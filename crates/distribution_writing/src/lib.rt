@@ -8,7 +8,7 @@ ghost use lib.Seq.{sets};
 ghost use Rattle.model.specs.Said.{saysWith, mapped, after};
 ghost use Rattle.model.specs.Distribution.{twoBytes, isCoded, isWhole, distribute};
 ghost use Rattle.caption.specs.Answers.{saidCounted};
-ghost use Rattle.distribution_writing.specs.Laid.{headOf, sectionsOf, laidIn};
+ghost use Rattle.distribution_writing.specs.Laid.{firstNine, sectionsOf, packetIn};
 use basics::put_bytes;
 use basics::wide;
 use caption::Counted;
@@ -39,17 +39,17 @@ fn two_bytes(counter: u16) -> [u8; 2]
 fn head_of(counter: u16, code: u8, count: u8) -> [u8; 9]
     requires { ⌜ code ≤ 8 ⌝ }
     requires { ⌜ count < 32 ⌝ }
-    ensures { λ r. ⌜ r ≡ headOf counter code count ⌝ }
+    ensures { λ r. ⌜ r ≡ firstNine counter code count ⌝ }
 {
-    let number = two_bytes(counter);
+    let two = two_bytes(counter);
     [
         0x96,
         0x69,
         13 + 3 * count,
         16 * code + 15,
         0x43,
-        number[0],
-        number[1],
+        two[0],
+        two[1],
         0x72,
         0xE0 + count,
     ]
@@ -63,8 +63,8 @@ fn lay_sections(counter: u16, code: u8, frame: &[u8], out: &mut [u8])
 {
     let n = frame.len();
     let head = head_of(counter, code, frame[0] % 32);
-    let number = two_bytes(counter);
-    let footer = [0x74, number[0], number[1]];
+    let two = two_bytes(counter);
+    let footer = [0x74, two[0], two[1]];
     put_bytes(out, 0, &head);
     put_bytes(out, 9, &frame[2..n]);
     put_bytes(out, n + 7, &footer);
@@ -75,7 +75,7 @@ fn lay_out(counter: u16, code: u8, frame: &[u8], out: &mut [u8])
     requires { ⌜ isCoded code ≡ true ⌝ }
     requires { ⌜ isWhole (now frame) ≡ true ⌝ }
     requires { ⌜ length (now frame) + 11 ≤ length (now out) ⌝ }
-    ensures { λ _. ⌜ now (out .exit) ≡ laidIn counter code (now (frame .entry)) (now (out .entry)) ⌝ }
+    ensures { λ _. ⌜ now (out .exit) ≡ packetIn counter code (now (frame .entry)) (now (out .entry)) ⌝ }
 {
     lay_sections(counter, code, frame, out);
     let end = frame.len() + 10;

@@ -12,7 +12,7 @@ use lib.Seq.{getD-append-add, take-at, drop-cons, length-take-le, drop-length, d
 use Rattle.model.specs.Lists.{every}
 use Rattle.model.specs.Said.{gave, putInto}
 use Rattle.model.specs.Frame.{flat, triplesIn, countIn, frameBytes}
-use Rattle.model.specs.Distribution.{Distribution, isCoded, lengthWith, twoBytes, sumOf, closing, Unread, asWritten, sections, laidOut, distributionBytes, hasMark, announcesMore, countOf, inOrder, counterAt, sumsUp, countersAgree, heldIn, opened, ahead, newer, frameOf, onward, isWhole, distributionOf, packed, Sent, sentInto, distribute}
+use Rattle.model.specs.Distribution.{Distribution, isCoded, lengthWith, twoBytes, sumOf, closing, Unread, asWritten, sections, laidOut, distributionBytes, hasMark, announcesMore, countOf, sectionsInOrder, counterAt, sumsUp, countersAgree, heldIn, opened, ahead, newer, frameOf, counterAfter, isWhole, distributionOf, packed, Distributed, sentInto, distribute}
 use Rattle.model.proofs.Cases.{by-test, by-cond, both, and-both, Gives, gives-at, gives-mapped, NotAccepted, Refuses, refuses-then, refuses-mapped}
 use Rattle.model.proofs.Lists.{every-at}
 use Rattle.model.proofs.Frames.{unflat, flat-length}
@@ -88,14 +88,14 @@ pub record Ordered (s : List ℕ) : Type 0 where
   pub count : length s ≡ lengthWith (countOf s)
 
 -- it passes the test,
-ordered-passes : (s : List ℕ) → Ordered s → inOrder s ≡ true
-unfolding inOrder
+ordered-passes : (s : List ℕ) → Ordered s → sectionsInOrder s ≡ true
+unfolding sectionsInOrder
 ordered-passes s o =
     simp (le-leb _ _ (o .enough), eq-eqb _ _ (o .told), o .code, o .alone, eq-eqb _ _ (o .captions), eq-eqb _ _ (o .footer), eq-eqb _ _ (o .count))
 
 -- and nothing else does
-pub passes-ordered : (s : List ℕ) → inOrder s ≡ true → Ordered s
-unfolding inOrder
+pub passes-ordered : (s : List ℕ) → sectionsInOrder s ≡ true → Ordered s
+unfolding sectionsInOrder
 passes-ordered s e =
     let a = both (leb 13 (length s)) _ e in
     let b = both (eqb (getD s 2 0) (length s)) _ (a .1) in
@@ -208,7 +208,7 @@ module _ (s : List ℕ) (o : Ordered s) where
 -- the packet that bytes are read as, and what they have to pass for it
 pub record Passed (s : List ℕ) (d : Distribution) : Type 0 where
   pub mark : hasMark s ≡ true
-  pub order : inOrder s ≡ true
+  pub order : sectionsInOrder s ≡ true
   pub sum : sumsUp s ≡ true
   pub counters : countersAgree s ≡ true
   pub held : d ≡ heldIn s
@@ -217,7 +217,7 @@ pub opened-passed : (s : List ℕ) → Gives (Passed s) (opened s)
 unfolding opened
 opened-passed s =
     by-cond (Gives (Passed s)) (hasMark s)
-    (λ m. by-cond (Gives (Passed s)) (inOrder s)
+    (λ m. by-cond (Gives (Passed s)) (sectionsInOrder s)
     (λ o. by-cond (Gives (Passed s)) (sumsUp s)
     (λ t. by-cond (Gives (Passed s)) (countersAgree s)
     (λ c. record { mark = m; order = o; sum = t; counters = c; held = refl })
@@ -231,7 +231,7 @@ pub opened-numbered : (s : List ℕ) → Refuses NotAccepted (opened s)
 unfolding opened
 opened-numbered s =
     by-cond (Refuses NotAccepted) (hasMark s)
-    (λ _. by-cond (Refuses NotAccepted) (inOrder s)
+    (λ _. by-cond (Refuses NotAccepted) (sectionsInOrder s)
     (λ _. by-cond (Refuses NotAccepted) (sumsUp s)
     (λ _. by-cond (Refuses NotAccepted) (countersAgree s) (λ _. tt) (λ _ e. omega (arith, e)))
     (λ _ e. omega (arith, e)))
@@ -283,29 +283,15 @@ module _ (s : List ℕ) (bytes : every isByte s ≡ true) (p : Passed s (heldIn 
   place : (i j : ℕ) → i ≡ j → getD s i 0 ≡ getD s j 0
   place i j e = ap (λ (k : ℕ). getD s k 0) e
 
+  -- the counter of the footer
+  second : 256 * getD s (10 + 3 * n) 0 + getD s (11 + 3 * n) 0 ≡ heldIn s .counter
+  second = omega (arith, agree, place (length s - 3) (10 + 3 * n) (omega (arith, counted)), place (length s - 3 + 1) (11 + 3 * n) (omega (arith, counted)))
+
   second-high : getD s (10 + 3 * n) 0 ≡ heldIn s .counter / 256
-  second-high =
-      omega (
-        arith,
-        agree,
-        place (length s - 3) (10 + 3 * n) (omega (arith, counted)),
-        place (length s - 3 + 1) (11 + 3 * n) (omega (arith, counted)),
-        below (11 + 3 * n) (omega (arith, counted)),
-        high,
-        below 6 (omega (arith, counted)),
-      )
+  second-high = omega (arith, second, below (11 + 3 * n) (omega (arith, counted)))
 
   second-low : getD s (11 + 3 * n) 0 ≡ heldIn s .counter % 256
-  second-low =
-      omega (
-        arith,
-        agree,
-        place (length s - 3) (10 + 3 * n) (omega (arith, counted)),
-        place (length s - 3 + 1) (11 + 3 * n) (omega (arith, counted)),
-        below (11 + 3 * n) (omega (arith, counted)),
-        low,
-        below 6 (omega (arith, counted)),
-      )
+  second-low = omega (arith, second, below (11 + 3 * n) (omega (arith, counted)))
 
   -- the footer and the last byte
   behind-triples : drop (3 * n) (drop 9 s) ≡ 0x74 ∷ (heldIn s .counter / 256) ∷ (heldIn s .counter % 256) ∷ last ∷ []
@@ -380,9 +366,9 @@ newer-one-way a b h l e =
     ap (λ (t : Bool). leb 1 (ahead b a) && t) (lt-leb (ahead b a) 32767 (omega arith)) ∙ and-false (leb 1 (ahead b a))
 
 -- the next counter is newer
-pub onward-newer : (last : ℕ) → last < 2 ^ 16 → newer last (onward last) ≡ true
-unfolding onward
-onward-newer last h = newer-steps last 1 h (omega arith)
+pub next-newer : (last : ℕ) → last < 2 ^ 16 → newer last (counterAfter last) ≡ true
+unfolding counterAfter
+next-newer last h = newer-steps last 1 h (omega arith)
 
 -- a frame that is whole is as many triples as its first byte says, and those are its bytes
 module _ (f : List ℕ) (whole : isWhole f ≡ true) where
@@ -406,12 +392,12 @@ module _ (f : List ℕ) (whole : isWhole f ≡ true) where
   whole-frame code counter = rw (whole-bytes, whole-count)
 
 -- what becomes of a frame that is written: it is whole, the rate has a code, its packet is in the output, and the counter has moved on [L3] [L5]
-pub record SentAs (counter code : ℕ) (f out : List ℕ) (x : Sent) : Type 0 where
+pub record SentAs (counter code : ℕ) (f out : List ℕ) (x : Distributed) : Type 0 where
   pub whole : isWhole f ≡ true
   pub coded : isCoded code ≡ true
   pub packet : x .bytes ≡ distributionBytes (distributionOf counter code f)
   pub there : x .out ≡ distributionBytes (distributionOf counter code f) ++ drop (length (distributionBytes (distributionOf counter code f))) out
-  pub moved : x .next ≡ onward counter
+  pub moved : x .next ≡ counterAfter counter
 
 module _ (counter code : ℕ) (f out : List ℕ) where
   sent-into : isWhole f && isCoded code ≡ true → Gives (SentAs counter code f out) (sentInto out (distributionOf counter code f))

@@ -15,7 +15,7 @@ use Rattle.model.specs.Frame.{pair, Cea608, field1, field2, seen, seenAl
 use Rattle.model.specs.Demux.{turn608On, freshDemux, pairsIn, lateAfter, lateFrom, carries708, closed, packetsOf, kept, wants, gather, ended, gathered, takeGathered, takeTriples, unread, takeFrame}
 use Rattle.model.specs.Rate.{rounded, budgets, goingOn, carriedBudget, leftOver, carriedOn, carriedShare, shareBy}
 use Rattle.model.specs.Mux.{freshMux, paddings, carryingMode, trueCounting, queued, pushPacket, isNull, pushPair, pushCea608, turnsDue, turn1, turn2, turned, continued, started, packetTriples, triplesQueued, turnsSending, turnsCounted, countDue, send, padding, framed, writeFrame, shareAt, writeShare}
-use Rattle.model.specs.Distribution.{isCoded, sumOf, closing, sections, laidOut, distributionBytes, hasMark, announcesMore, inOrder, sumsUp, countersAgree, opened, ahead, newer, takes, frameOf, receivedInto, receive, isWhole, packed}
+use Rattle.model.specs.Distribution.{isCoded, sumOf, closing, sections, laidOut, distributionBytes, hasMark, announcesMore, sectionsInOrder, sumsUp, countersAgree, opened, ahead, newer, takes, frameOf, receivedInto, receive, counterAfter, isWhole, packed, sentInto, distribute}
 use Rattle.model.specs.Run.{Call, pushes, pushes608, sets, call, run, readFrames}
 
 -- what a row asks
@@ -26,6 +26,7 @@ pub data Input : Type 0 where
   frames : List (List ℕ) → Input
   frame readBack : ℕ → ℕ → List Call → Input
   sent : ℕ → ℕ → List ℕ → Input
+  next : ℕ → Input
   received : Option ℕ → List ℕ → Input
 
 -- what the rule book says of it
@@ -67,6 +68,13 @@ afterCalls numer denom calls =
 abbrev read : List (List ℕ) → Result
 read fs = let r = readFrames fs (turn608On freshDemux) in items (r .answers) (r .pairs) (r .packets)
 
+-- a frame of one pair, and its packet with counter 0 at 30000/1001 frames a second
+abbrev pub onePair : List ℕ
+onePair = 0xC1 ∷ 0xFF ∷ 0xFC ∷ 0x94 ∷ 0x2C ∷ []
+
+abbrev pub onePairSent : List ℕ
+onePairSent = 0x96 ∷ 0x69 ∷ 0x10 ∷ 0x4F ∷ 0x43 ∷ 0x00 ∷ 0x00 ∷ 0x72 ∷ 0xE1 ∷ 0xFC ∷ 0x94 ∷ 0x2C ∷ 0x74 ∷ 0x00 ∷ 0x00 ∷ 0xDC ∷ []
+
 -- what the definitions compute
 abbrev answer : Input → Result
 answer (header h) = size (sequenceIn h) (packetSize h)
@@ -81,6 +89,7 @@ answer (blockCodes d) = told (λ css. counts (map length css)) (andThen (readPac
 answer (frames fs) = read fs
 answer (frame numer denom calls) = told bytes (afterCalls numer denom calls)
 answer (sent counter code f) = told bytes (mapped (λ x. distributionBytes x) (packed counter code f))
+answer (next counter) = told (λ x. counts (x .next ∷ [])) (distribute counter 4 onePair (replicate 106 0))
 answer (received last s) = told (λ x. carried (x .packet .code) (x .packet .counter) (frameOf (x .packet))) (receive last s (replicate mostFrame 0))
 answer (readBack numer denom calls) = told (λ f. read (f ∷ [])) (afterCalls numer denom calls)
 
@@ -100,13 +109,6 @@ silentTurn = pushes608 (field1 (pair 0x94 0x2C)) ∷ pushes608 (field1 (pair 0x9
 -- service 2 twice and service 1, with a null header before the last
 abbrev twoServices : List ℕ
 twoServices = 0x44 ∷ 0x41 ∷ 0x41 ∷ 0x41 ∷ 0x42 ∷ 0x00 ∷ 0x21 ∷ 0x43 ∷ []
-
--- a frame of one pair, and its packet of number 0 at 30000/1001 frames a second
-abbrev pub onePair : List ℕ
-onePair = 0xC1 ∷ 0xFF ∷ 0xFC ∷ 0x94 ∷ 0x2C ∷ []
-
-abbrev pub onePairSent : List ℕ
-onePairSent = 0x96 ∷ 0x69 ∷ 0x10 ∷ 0x4F ∷ 0x43 ∷ 0x00 ∷ 0x00 ∷ 0x72 ∷ 0xE1 ∷ 0xFC ∷ 0x94 ∷ 0x2C ∷ 0x74 ∷ 0x00 ∷ 0x00 ∷ 0xDC ∷ []
 
 -- the starred examples, in the rule book's order
 unfoldable pub table : List Row
@@ -174,14 +176,18 @@ table =
     ∷ row (sent 0 4 (0xC2 ∷ 0xFF ∷ 0xFC ∷ 0x94 ∷ 0x2C ∷ [])) (refusal (says 17 []))
     ∷ row (sent 0 4 []) (refusal (says 17 []))
     ∷ row (sent 0 9 onePair) (refusal (says 17 []))
+    ∷ row (next 0) (counts (1 ∷ []))
+    ∷ row (next 65535) (counts (0 ∷ []))
     ∷ row (received none onePairSent) (carried 4 0 onePair)
     ∷ row (received none (0x96 ∷ 0x69 ∷ 0x10 ∷ 0x40 ∷ 0x00 ∷ 0x00 ∷ 0x00 ∷ 0x72 ∷ 0x01 ∷ 0xFC ∷ 0x94 ∷ 0x2C ∷ 0x74 ∷ 0x00 ∷ 0x00 ∷ 0x0E ∷ [])) (carried 4 0 onePair)
+    ∷ row (received none (0x96 ∷ 0x69 ∷ 0x10 ∷ 0x4F ∷ 0x5F ∷ 0x00 ∷ 0x00 ∷ 0x72 ∷ 0xE1 ∷ 0xFC ∷ 0x94 ∷ 0x2C ∷ 0x74 ∷ 0x00 ∷ 0x00 ∷ 0xC0 ∷ [])) (carried 4 0 onePair)
     ∷ row (received (some 65535) onePairSent) (carried 4 0 onePair)
     ∷ row (received (some 32769) onePairSent) (carried 4 0 onePair)
     ∷ row (received (some 32768) onePairSent) (refusal (says 20 []))
     ∷ row (received (some 0) onePairSent) (refusal (says 20 []))
     ∷ row (received none (0x69 ∷ 0x96 ∷ [])) (refusal (says 16 []))
     ∷ row (received none (0x96 ∷ 0x69 ∷ 0x10 ∷ 0x4F ∷ 0xC3 ∷ 0x00 ∷ 0x00 ∷ 0x72 ∷ 0xE1 ∷ 0xFC ∷ 0x94 ∷ 0x2C ∷ 0x74 ∷ 0x00 ∷ 0x00 ∷ 0x5C ∷ [])) (refusal (says 17 []))
+    ∷ row (received none (0x96 ∷ 0x69 ∷ 0x10 ∷ 0x4F ∷ 0x63 ∷ 0x00 ∷ 0x00 ∷ 0x72 ∷ 0xE1 ∷ 0xFC ∷ 0x94 ∷ 0x2C ∷ 0x74 ∷ 0x00 ∷ 0x00 ∷ 0xBC ∷ [])) (refusal (says 17 []))
     ∷ row (received none (0x96 ∷ 0x69 ∷ 0x10 ∷ 0x4F ∷ 0x43 ∷ 0x00 ∷ 0x00 ∷ 0x72 ∷ 0xE1 ∷ 0xFC ∷ 0x94 ∷ 0x2C ∷ 0x74 ∷ 0x00 ∷ 0x00 ∷ 0xDD ∷ [])) (refusal (says 18 []))
     ∷ row (received none (0x96 ∷ 0x69 ∷ 0x10 ∷ 0x4F ∷ 0x43 ∷ 0x00 ∷ 0x00 ∷ 0x72 ∷ 0xE1 ∷ 0xFC ∷ 0x94 ∷ 0x2C ∷ 0x74 ∷ 0x00 ∷ 0x01 ∷ 0xDB ∷ [])) (refusal (says 19 []))
     ∷ []
@@ -199,5 +205,5 @@ unfolding table
     queued pushPacket isNull pushPair pushCea608 turnsDue turn1 turn2 turned continued started packetTriples triplesQueued
     turnsSending turnsCounted countDue send padding framed writeFrame
     call run readFrames putInto
-    isCoded sumOf closing sections laidOut hasMark announcesMore inOrder sumsUp countersAgree opened ahead newer takes receivedInto receive isWhole packed
+    isCoded sumOf closing sections laidOut hasMark announcesMore sectionsInOrder sumsUp countersAgree opened ahead newer takes receivedInto receive counterAfter isWhole packed sentInto distribute
 examples = refl

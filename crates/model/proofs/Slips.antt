@@ -11,12 +11,12 @@ use Rattle.model.specs.Said as said
 use Rattle.model.specs.Block.{Block, headerLength, numberIn, isHeaderShort, needed, isShort, blockIn, shortAt, readBlockAt, readBlock, newBlock, pushToBlock, writtenHeader, writtenBlock, blockLength}
 use Rattle.model.specs.Packet.{Packet, packetSize, plainMove, blocksFrom, readBy, readPacket, reads, blocksLength, packetLength, pushBlock, latestOf, pushNew, pushAt, pushRunAt, pushRunBy, pushRun, pushRunSingle}
 use Rattle.model.specs.Codes.{firstRanges, ext1Ranges, toldIn, toldLength, isUntold, codeIn, codesFrom, codesOf, pushCodesBy, pushCodes}
-use Rattle.model.specs.Frame.{pair, field1, seen, seenAll, triplesIn, flagged}
+use Rattle.model.specs.Frame.{pair, field1, seen, seenAll, flat, triplesIn, flagged, frameBytes}
 use Rattle.model.specs.Demux.{turn608On, freshDemux, pairsIn, lateAfter, lateFrom, carries708, closed, packetsOf, kept, wants, gather, ended, gathered, takeGathered, takeTriples, unread, takeFrame}
 use Rattle.model.specs.Rate.{rounded, budgets}
 use Rattle.model.specs.Mux.{freshMux, withPackets, queued, isNull, pushPair}
 use Rattle.model.specs.Duration.{ceil, pairsDuration, lengthsOf, bytesLeft, bytesDuration, packetDuration}
-use Rattle.model.specs.Distribution.{isCoded, sumOf, hasMark, announcesMore, inOrder, sumsUp, countersAgree, opened, ahead, newer, takes, receive, isWhole, packed}
+use Rattle.model.specs.Distribution.{isCoded, sumOf, hasMark, announcesMore, sectionsInOrder, sumsUp, countersAgree, opened, ahead, newer, takes, receivedInto, receive, isWhole, packed}
 use Rattle.model.specs.Run.{Read, readFrames}
 use Rattle.model.proofs.Examples.{says, one, onePairSent}
 
@@ -67,9 +67,17 @@ pub profile-order : map (λ (n : ℕ). said.says (pushCodes n (0x10 ∷ 0x90 ∷
 unfolding firstRanges ext1Ranges toldIn toldLength isUntold codeIn codesFrom pushCodesBy
 profile-order = refl
 
--- a packet that is wrong in several ways is refused by the first of them; one that is not newer is refused before the output is looked at [L4] [L5]
-pub packet-order : map (λ (d : List ℕ). said.says (receive (some 0) d [])) ((0x95 ∷ 0x69 ∷ []) ∷ (0x96 ∷ 0x69 ∷ 0x03 ∷ []) ∷ onePairSent ∷ []) ≡ says 16 [] ∷ says 17 [] ∷ says 20 [] ∷ []
-unfolding isCoded sumOf hasMark announcesMore inOrder sumsUp countersAgree opened ahead newer takes receive
+-- what a reader answers that has accepted counter 0 and is lent nothing
+abbrev afterNought : List ℕ → Said
+afterNought d = said.says (receive (some 0) d [])
+
+-- a packet that is wrong in several ways is refused by the first of them [L4] [L5]: all but the first of these are not newer either, the third has a wrong
+-- sum and two counters, the fourth two counters; one that is newer is refused last, for want of room
+pub packet-order : afterNought (0x95 ∷ 0x69 ∷ []) ∷ afterNought (0x96 ∷ 0x69 ∷ 0x03 ∷ [])
+    ∷ afterNought (0x96 ∷ 0x69 ∷ 0x10 ∷ 0x4F ∷ 0x43 ∷ 0x00 ∷ 0x00 ∷ 0x72 ∷ 0xE1 ∷ 0xFC ∷ 0x94 ∷ 0x2C ∷ 0x74 ∷ 0x00 ∷ 0x01 ∷ 0xDC ∷ []) ∷ afterNought (0x96 ∷ 0x69 ∷ 0x10 ∷ 0x4F ∷ 0x43 ∷ 0x00 ∷ 0x00 ∷ 0x72 ∷ 0xE1 ∷ 0xFC ∷ 0x94 ∷ 0x2C ∷ 0x74 ∷ 0x00 ∷ 0x01 ∷ 0xDB ∷ [])
+    ∷ afterNought onePairSent ∷ said.says (receive (some 65535) onePairSent []) ∷ []
+    ≡ says 16 [] ∷ says 17 [] ∷ says 18 [] ∷ says 19 [] ∷ says 20 [] ∷ says 9 (5 ∷ []) ∷ []
+unfolding isCoded sumOf hasMark announcesMore sectionsInOrder sumsUp countersAgree opened ahead newer takes flat triplesIn frameBytes putInto receivedInto receive
 packet-order = refl
 
 -- Each refusal [A1], by one call that gives it.
@@ -106,5 +114,5 @@ pub refusals-told : refusals
 unfolding
     refusals firstRanges ext1Ranges toldIn toldLength isUntold codeIn codesFrom headerLength isHeaderShort needed isShort shortAt readBlockAt readBy readPacket packetSize seen seenAll triplesIn flagged pairsIn lateAfter lateFrom takeTriples unread takeFrame
     pushToBlock blockLength blocksLength packetLength pushBlock newBlock rounded budgets putInto isNull queued pushPair
-    isCoded sumOf hasMark announcesMore inOrder sumsUp countersAgree opened ahead newer takes receive isWhole packed
+    isCoded sumOf hasMark announcesMore sectionsInOrder sumsUp countersAgree opened ahead newer takes receive isWhole packed
 refusals-told = refl

@@ -31,11 +31,11 @@ rateOf code = cond (isCoded code) (gave (getD codedRates (code - 1) (rate 0 0)))
 abbrev pub lengthWith : ℕ → ℕ
 lengthWith n = 13 + 3 * n
 
--- a counter in two bytes, the higher first
+-- a counter in two bytes, the higher first [L1]
 abbrev pub twoBytes : ℕ → List ℕ
 twoBytes n = n / 256 ∷ n % 256 ∷ []
 
--- the sum of bytes
+-- the sum of bytes [L1]
 unfoldable pub sumOf : List ℕ → ℕ
 sumOf [] = 0
 sumOf (b ∷ d) = b + sumOf d
@@ -70,7 +70,7 @@ laidOut u d = sections u d ++ (closing (sumOf (sections u d)) ∷ [])
 abbrev pub distributionBytes : Distribution → List ℕ
 distributionBytes d = laidOut asWritten d
 
--- 0x96 0x69 stand first
+-- 0x96 0x69 stand first [L4]
 unfoldable pub hasMark : List ℕ → Bool
 hasMark s = eqb (getD s 0 0) 0x96 && eqb (getD s 1 0) 0x69
 
@@ -78,14 +78,14 @@ hasMark s = eqb (getD s 0 0) 0x96 && eqb (getD s 1 0) 0x69
 unfoldable pub announcesMore : ℕ → Bool
 announcesMore flags = not (eqb (flags / 128 % 2) 0 && eqb (flags / 32 % 2) 0)
 
--- the count beside the mark of the captions
+-- the count behind the mark of the captions [L1]
 abbrev pub countOf : List ℕ → ℕ
 countOf s = countIn (getD s 8 0)
 
 -- the length is told, the rate has a code, no other section is announced, both sections have their marks where they must be, and the length is that
 -- of so many triples [L4]
-unfoldable pub inOrder : List ℕ → Bool
-inOrder s =
+unfoldable pub sectionsInOrder : List ℕ → Bool
+sectionsInOrder s =
     leb 13 (length s)
     && (eqb (getD s 2 0) (length s)
     && (isCoded (getD s 3 0 / 16)
@@ -94,7 +94,7 @@ inOrder s =
     && (eqb (getD s (length s - 4) 0) 0x74
     && eqb (length s) (lengthWith (countOf s)))))))
 
--- the counter in the two bytes from a place on
+-- the counter in the two bytes from a place on [L1]
 abbrev pub counterAt : ℕ → List ℕ → ℕ
 counterAt at s = 256 * getD s at 0 + getD s (at + 1) 0
 
@@ -106,7 +106,7 @@ sumsUp s = eqb (sumOf s % 256) 0
 unfoldable pub countersAgree : List ℕ → Bool
 countersAgree s = eqb (counterAt 5 s) (counterAt (length s - 3) s)
 
--- the packet that stands in bytes which pass those tests
+-- the packet that stands in bytes which pass those tests [L6]
 abbrev pub heldIn : List ℕ → Distribution
 heldIn s = record { code = getD s 3 0 / 16; counter = counterAt 5 s; triples = triplesIn (take (3 * countOf s) (drop 9 s)) }
 
@@ -114,7 +114,7 @@ heldIn s = record { code = getD s 3 0 / 16; counter = counterAt 5 s; triples = t
 unfoldable pub opened : List ℕ → Outcome Distribution
 opened s =
     cond (hasMark s)
-    (cond (inOrder s)
+    (cond (sectionsInOrder s)
     (cond (sumsUp s) (cond (countersAgree s) (gave (heldIn s)) (refused countersDiffer)) (refused badSum))
     (refused badSection))
     (refused badMark)
@@ -142,7 +142,7 @@ pub record Received : Type 0 where
   pub out : List ℕ
   pub last : Option ℕ
 
--- a packet that is taken, its frame written to a lent output
+-- a packet that is taken, its frame written to a lent output [L6]
 unfoldable pub receivedInto : List ℕ → Distribution → Outcome Received
 receivedInto out d = mapped (λ o. record { packet = d; out = o; last = some (d .counter) }) (putInto out (frameOf d))
 
@@ -151,14 +151,14 @@ unfoldable pub receive : Option ℕ → List ℕ → List ℕ → Outcome Receiv
 receive last s out = andThen (opened s) (λ d. cond (takes last (d .counter)) (receivedInto out d) (refused notNewer))
 
 -- the counter behind a counter [L5]
-unfoldable pub onward : ℕ → ℕ
-onward counter = (counter + 1) % 2 ^ 16
+unfoldable pub counterAfter : ℕ → ℕ
+counterAfter counter = (counter + 1) % 2 ^ 16
 
--- a frame with as many triples as its first byte says
+-- a frame with as many triples as its first byte says [L3]
 unfoldable pub isWhole : List ℕ → Bool
 isWhole f = eqb (length f) (3 * countIn (getD f 0 0) + 2)
 
--- the packet of a frame's triples
+-- the packet of a frame's triples [L3]
 abbrev pub distributionOf : ℕ → ℕ → List ℕ → Distribution
 distributionOf counter code f = record { code = code; counter = counter; triples = triplesIn (drop 2 f) }
 
@@ -167,15 +167,15 @@ unfoldable pub packed : ℕ → ℕ → List ℕ → Outcome Distribution
 packed counter code f = cond (isWhole f && isCoded code) (gave (distributionOf counter code f)) (refused badSection)
 
 -- the packet's bytes, the lent output with them, and the counter of the next
-pub record Sent : Type 0 where
+pub record Distributed : Type 0 where
   pub bytes : List ℕ
   pub out : List ℕ
   pub next : ℕ
 
--- a packet written to a lent output; the next has the counter behind its own
-unfoldable pub sentInto : List ℕ → Distribution → Outcome Sent
-sentInto out d = mapped (λ o. record { bytes = distributionBytes d; out = o; next = onward (d .counter) }) (putInto out (distributionBytes d))
+-- a packet written to a lent output; the next has the counter behind its own [L5]
+unfoldable pub sentInto : List ℕ → Distribution → Outcome Distributed
+sentInto out d = mapped (λ o. record { bytes = distributionBytes d; out = o; next = counterAfter (d .counter) }) (putInto out (distributionBytes d))
 
 -- A frame written as a packet: 17, then 9 [A4] [L3].
-unfoldable pub distribute : ℕ → ℕ → List ℕ → List ℕ → Outcome Sent
+unfoldable pub distribute : ℕ → ℕ → List ℕ → List ℕ → Outcome Distributed
 distribute counter code f out = andThen (packed counter code f) (sentInto out)

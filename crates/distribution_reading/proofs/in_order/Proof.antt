@@ -4,13 +4,13 @@ use Prim.Native.Nat.{_-_}
 use denote.Ref.{now}
 use lib.ListN.{length, getD}
 use borrow.Author.Tests.{eq-eqb, ne-eqb, le-leb, lt-leb, not-true, not-false}
-use Rattle.model.specs.Distribution.{inOrder}
+use Rattle.model.specs.Distribution.{sectionsInOrder}
 use borrow.Author.Needs.{needs}
 use Rattle.distribution_reading.proofs.in_order.Statement.{statement}
 use Rattle.distribution_reading.proofs.in_order.Tie as tie
 
 returns : tie.Need-returns
-unfolding inOrder
+unfolding sectionsInOrder
 returns c =
     let s = now (c .before .before .args .packet) in
     simp (lt-leb 13 (length s) (c .if1 .taken))
@@ -22,7 +22,7 @@ wide-requires : tie.Need-wide-requires
 wide-requires c κs = search needs
 
 returns-2 : tie.Need-returns-2
-unfolding inOrder
+unfolding sectionsInOrder
 returns-2 c =
     let c1 = c .before .before .before in
     let s = now (c1 .before .before .args .packet) in
@@ -35,7 +35,7 @@ is-coded-requires : tie.Need-is-coded-requires
 is-coded-requires c κs = search needs
 
 returns-3 : tie.Need-returns-3
-unfolding inOrder
+unfolding sectionsInOrder
 returns-3 c =
     let c2 = c .before .before .before in
     let c1 = c2 .before .before .before in
@@ -49,7 +49,7 @@ announces-more-requires : tie.Need-announces-more-requires
 announces-more-requires c κs = search needs
 
 returns-4 : tie.Need-returns-4
-unfolding inOrder
+unfolding sectionsInOrder
 returns-4 c =
     let c3 = c .before .before .before in
     let c2 = c3 .before .before .before in
@@ -61,7 +61,7 @@ shared-slice-read-if5 : tie.Need-shared-slice-read-if5
 shared-slice-read-if5 c = search needs
 
 returns-5 : tie.Need-returns-5
-unfolding inOrder
+unfolding sectionsInOrder
 returns-5 c =
     let c4 = c .before .before in
     let c3 = c4 .before .before .before in
@@ -77,7 +77,7 @@ shared-slice-read-if6 : tie.Need-shared-slice-read-if6
 shared-slice-read-if6 c = search needs
 
 returns-6 : tie.Need-returns-6
-unfolding inOrder
+unfolding sectionsInOrder
 returns-6 c =
     let c5 = c .before .before in
     let c4 = c5 .before .before in
@@ -100,7 +100,7 @@ add-result : tie.Need-add-result
 add-result c = search needs
 
 returns-7 : tie.Need-returns-7
-unfolding inOrder
+unfolding sectionsInOrder
 returns-7 c =
     let c6 = c .before .before in
     let c5 = c6 .before .before in

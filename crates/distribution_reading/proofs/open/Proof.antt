@@ -17,9 +17,7 @@ has-mark-requires c κs = search needs
 
 returns : tie.Need-returns
 unfolding opened sumsUp countersAgree
-returns c =
-    let s = now (c .before .before .before .args .packet) in
-    simp (sym (c .before .has-mark .ensures) ∙ not-true _ (c .if1 .taken))
+returns c = simp (sym (c .before .has-mark .ensures) ∙ not-true _ (c .if1 .taken))
 
 in-order-requires : tie.Need-in-order-requires
 in-order-requires c κs = search needs
@@ -28,7 +26,6 @@ returns-2 : tie.Need-returns-2
 unfolding opened sumsUp countersAgree
 returns-2 c =
     let c1 = c .before .before in
-    let s = now (c1 .before .before .before .args .packet) in
     simp (sym (c1 .before .has-mark .ensures) ∙ not-false _ (c1 .if1 .left), sym (c .before .in-order .ensures) ∙ not-true _ (c .if2 .taken))
 
 sum-of-requires : tie.Need-sum-of-requires

@@ -1,4 +1,4 @@
--- Its bytes as they stand in the list, the number's two among them. Assumes nothing.
+-- Its bytes as they stand in the list, the counter's two among them. Assumes nothing.
 use borrow.Author.Needs.{needs}
 use Rattle.distribution_writing.proofs.head_of.Statement.{statement}
 use Rattle.distribution_writing.proofs.head_of.Tie as tie

@@ -45,7 +45,6 @@ lay-out-requires c κs =
     let q = c .before .before in
     let w = sym (q .before .before .before .is-whole .ensures) ∙ not-false _ (q .before .before .if1 .left) in
     let k = sym (q .before .is-coded .ensures) ∙ not-false _ (q .if2 .left) in
-    let s = q .before .before .before .before .before .before .args in
     (k, (w, c .before .if3 .left))
 
 same-length : tie.Need-same-length

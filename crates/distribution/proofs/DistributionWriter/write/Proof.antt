@@ -8,8 +8,8 @@ use Rattle.distribution.proofs.DistributionWriter.write.Tie as tie
 write-packet-requires : tie.Need-write-packet-requires
 write-packet-requires c κs = search needs
 
-onward-requires : tie.Need-onward-requires
-onward-requires c κs = search needs
+counter-after-requires : tie.Need-counter-after-requires
+counter-after-requires c κs = search needs
 
 enum-told : tie.Need-enum-told
 enum-told c = search needs
@@ -33,14 +33,14 @@ returns-2 : tie.Need-returns-2
 returns-2 c =
     let s = c .before .before .before .before .before .before .before .before .before in
     let w = c .before .before .before .before .before .write-packet .ensures in
-    writes-done (s .args .self) (s .args .code) (now (s .args .frame)) (now (s .args .out)) _ _ (w .0) (w .1) _ _ (c .enum-told .given .1) (c .before .before .onward .ensures)
+    writes-done (s .args .self) (s .args .code) (now (s .args .frame)) (now (s .args .out)) _ _ (w .0) (w .1) _ _ (c .enum-told .given .1) (c .before .before .counter-after .ensures)
 
 pub write-spec : {M : Type 1} → statement M
 write-spec =
     tie.close
     (tie.spec
     write-packet-requires
-    onward-requires
+    counter-after-requires
     enum-told
     enum-told-2
     same-length
