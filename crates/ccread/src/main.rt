@@ -1,4 +1,4 @@
-// Reads records of frames and of distribution packets from standard input to its end and writes what each of them holds [C2]. Reads and writes go through two buffers of fixed size, whatever the input's length and cut.
+// Reads records of frames and of distribution packets from standard input to its end and writes what each of them holds [C2] [C5]. Reads and writes go through two buffers of fixed size, whatever the input's length and cut.
 ghost use mathlib.Core.Path.{_≡_};
 ghost use mathlib.Core.Bool.{true, false};
 ghost use Prim.Native.Nat.{_+_, _≤_, _<_};
