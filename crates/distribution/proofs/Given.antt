@@ -4,13 +4,13 @@ use mathlib.Core.List.{List, [], _∷_, _++_}
 use mathlib.Core.Option.{Option}
 use Prim.Native.Nat.{ℕ, _/_, _≤_}
 use native.Mathlib.Omega.{arith}
-use lib.Dec.{leb, ltb}
+use lib.Dec.{leb}
 use lib.ListN.{length, getD, take, drop}
 use lib.Seq.{take-at}
 use borrow.Author.Tests.{leb-true, le-ltb}
 use Rattle.model.specs.Said.{Said, Outcome, gave, refused, andThen, mapped, after, putInto}
 use Rattle.model.specs.Distribution.{Distribution, isCoded, hasMark, sectionsInOrder, counterAt, sumsUp, countersAgree, heldIn, opened, takes, frameOf, Received, receivedInto, receive}
-use Rattle.model.proofs.Cases.{by-cond, both, Gives, gives-at, gives-then, gives-mapped, Refuses}
+use Rattle.model.proofs.Cases.{by-cond, both, Gives, gives-at, Refuses}
 use Rattle.model.proofs.Frames.{frame-length}
 use Rattle.model.proofs.Distribution.{passes-ordered, held-count, Passed, opened-passed}
 use Rattle.caption.specs.Answers.{saidRefusal}
@@ -21,7 +21,7 @@ use Rattle.distribution.specs.Calls.{saidReceived, tellsOf, Reads}
 use Rattle.distribution.specs.declared.Received.the-variants as received
 use Rattle.distribution.specs.declared.DistributionReader.{DistributionReader}
 use Rattle.distribution.specs.declared.DistributionRead.{DistributionRead}
-use Rattle.distribution.proofs.Trips.{received-numbered}
+use Rattle.distribution.proofs.Trips.{TakenAs, taken, received-numbered}
 
 -- a packet that is opened: its code is one of a rate, its counter stands behind the flags, and its frame is none of more than 95 bytes
 pub record OpenedAs (s : List ℕ) (d : Distribution) : Type 0 where
@@ -42,12 +42,13 @@ passed-as s d p =
     } in
     subst (OpenedAs s) (sym (p .held)) held
 
+-- of what a call gives all that follows from P holds
+gives-weaker : {A : Type 0} {P Q : A → Type 0} → ((x : A) → P x → Q x) → (o : Outcome A) → Gives P o → Gives Q o
+gives-weaker h (gave x) p = h x p
+gives-weaker h (refused why) p = tt
+
 opened-as : (s : List ℕ) → Gives (OpenedAs s) (opened s)
-opened-as s = weaker (opened s) (opened-passed s)
-  where
-    weaker : (o : Outcome Distribution) → Gives (Passed s) o → Gives (OpenedAs s) o
-    weaker (gave d) p = passed-as s d p
-    weaker (refused why) p = tt
+opened-as s = gives-weaker (passed-as s) (opened s) (opened-passed s)
 
 -- a refusal of a packet: 16 to 20, which carry no values
 pub record OfPacket (why : Said) : Type 0 where
@@ -82,18 +83,10 @@ pub record ReceivedAs (s out : List ℕ) (x : Received) : Type 0 where
   pub there : x .out ≡ frameOf (x .packet) ++ drop (length (frameOf (x .packet))) out
 
 module _ (last : Option ℕ) (s out : List ℕ) where
-  into-as : (d : Distribution) → OpenedAs s d → Gives (ReceivedAs s out) (receivedInto out d)
-  unfolding receivedInto putInto
-  into-as d o =
-      gives-mapped (ReceivedAs s out) (λ (e : List ℕ). e ≡ frameOf d ++ drop (length (frameOf d)) out) (putInto out (frameOf d)) _
-      (by-cond (Gives _) (ltb (length out) (length (frameOf d))) (λ _. tt) (λ _. refl))
-      (λ e q. record { packet = o; there = q })
-
   pub received-as : Gives (ReceivedAs s out) (receive last s out)
-  unfolding receive
   received-as =
-      gives-then (ReceivedAs s out) (OpenedAs s) (opened s) _ (opened-as s)
-      (λ d o. by-cond (Gives (ReceivedAs s out)) (takes last (d .counter)) (λ _. into-as d o) (λ _. tt))
+      gives-weaker (λ (x : Received) (t : TakenAs last s out x). record { packet = gives-at (OpenedAs s) (opened s) (t .whole) (opened-as s); there = t .there })
+      (receive last s out) (taken last s out)
 
   -- where there is room for 95 bytes, 9 is not told
   module _ (room : 95 ≤ length out) where

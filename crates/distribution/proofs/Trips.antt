@@ -97,25 +97,24 @@ module _ (u : Unread) (d : Distribution) (fits : Fits u d) (last : Option ℕ) (
   unfolding receive
   laid-old t = simp (laid-opened u d fits, t)
 
--- a packet that was taken: the bytes were read as it, and it was newer
-record TakenAs (last : Option ℕ) (s : List ℕ) (x : packets.Received) : Type 0 where
-  whole : opened s ≡ gave (x .packet)
-  newer : takes last (x .packet .counter) ≡ true
+-- a packet that was taken: the bytes were read as it, it was newer, and its frame is in the output
+pub record TakenAs (last : Option ℕ) (s out : List ℕ) (x : packets.Received) : Type 0 where
+  pub whole : opened s ≡ gave (x .packet)
+  pub newer : takes last (x .packet .counter) ≡ true
+  pub there : x .out ≡ frameOf (x .packet) ++ drop (length (frameOf (x .packet))) out
 
 module _ (last : Option ℕ) (s out : List ℕ) where
-  taken-of : (o : Outcome Distribution) → opened s ≡ o → Gives (TakenAs last s) (andThen o (λ d. cond (takes last (d .counter)) (receivedInto out d) (refused notNewer)))
-  unfolding receivedInto
+  taken-of : (o : Outcome Distribution) → opened s ≡ o → Gives (TakenAs last s out) (andThen o (λ d. cond (takes last (d .counter)) (receivedInto out d) (refused notNewer)))
+  unfolding receivedInto putInto
   taken-of (gave d) e =
-      by-cond (Gives (TakenAs last s)) (takes last (d .counter))
-      (λ t. gives-mapped (TakenAs last s) (λ (o : List ℕ). o ≡ o) (putInto out (frameOf d)) _ (any (putInto out (frameOf d))) (λ o _. record { whole = e; newer = t }))
+      by-cond (Gives (TakenAs last s out)) (takes last (d .counter))
+      (λ t. gives-mapped (TakenAs last s out) (λ (o : List ℕ). o ≡ frameOf d ++ drop (length (frameOf d)) out) (putInto out (frameOf d)) _
+      (by-cond (Gives _) (ltb (length out) (length (frameOf d))) (λ _. tt) (λ _. refl))
+      (λ o q. record { whole = e; newer = t; there = q }))
       (λ _. tt)
-    where
-      any : (o : Outcome (List ℕ)) → Gives (λ (x : List ℕ). x ≡ x) o
-      any (gave x) = refl
-      any (refused why) = tt
   taken-of (refused why) e = tt
 
-  taken : Gives (TakenAs last s) (receive last s out)
+  pub taken : Gives (TakenAs last s out) (receive last s out)
   unfolding receive
   taken = taken-of (opened s) refl
 
@@ -132,20 +131,22 @@ module _ (κs : Lfts 2) (reader : DistributionReader) (packet out end : Lent) (r
   abbrev said : Outcome packets.Received
   said = receive (lastOf (reader .last)) (now packet) (now out)
 
-  -- one that gives a packet: what is told of it, the reader, and the output
-  given-so : (x : packets.Received) → said ≡ gave x
-      → (r ≡ record { received = Packet (x .packet .code) (x .packet .counter) (length (frameOf (x .packet))); reader = readerAt (x .packet .counter) }) × (now end ≡ x .out)
-  given-so x e =
-      let told-is = saidReceived-injective (r .received) (Packet (x .packet .code) (x .packet .counter) (length (frameOf (x .packet)))) (told .answer ∙ ap (saysWith tellsOf) e) in
+  -- what the model's call comes to: what is told, the reader, and the output
+  came-to : (o : Outcome packets.Received) (x : Received) → said ≡ o → saysWith tellsOf o ≡ saidReceived x
+      → (r ≡ record { received = x; reader = after reader (mapped (λ y. readerAt (y .packet .counter)) o) }) × (now end ≡ after (now out) (mapped (λ y. y .out) o))
+  came-to o x e t =
+      let told-is = saidReceived-injective (r .received) x (told .answer ∙ ap (saysWith tellsOf) e ∙ t) in
       let reader-is = told .places ∙ ap (λ (q : Outcome packets.Received). after reader (mapped (λ y. readerAt (y .packet .counter)) q)) e in
       (ap₂ (λ (a : Received) (b : DistributionReader). record { received = a; reader = b }) told-is reader-is, told .output ∙ ap (λ (q : Outcome packets.Received). after (now out) (mapped (λ y. y .out) q)) e)
 
-  -- one that refuses: nothing changes
+  -- a packet is given,
+  given-so : (x : packets.Received) → said ≡ gave x
+      → (r ≡ record { received = Packet (x .packet .code) (x .packet .counter) (length (frameOf (x .packet))); reader = readerAt (x .packet .counter) }) × (now end ≡ x .out)
+  given-so x e = came-to (gave x) (Packet (x .packet .code) (x .packet .counter) (length (frameOf (x .packet)))) e refl
+
+  -- or it is refused, and nothing changes
   stays-so : (why : Refusal) → said ≡ refused (saidRefusal why) → (r ≡ record { received = Refused why; reader = reader }) × (now end ≡ now out)
-  stays-so why e =
-      let told-is = saidReceived-injective (r .received) (Refused why) (told .answer ∙ ap (saysWith tellsOf) e) in
-      let reader-is = told .places ∙ ap (λ (q : Outcome packets.Received). after reader (mapped (λ y. readerAt (y .packet .counter)) q)) e in
-      (ap₂ (λ (a : Received) (b : DistributionReader). record { received = a; reader = b }) told-is reader-is, told .output ∙ ap (λ (q : Outcome packets.Received). after (now out) (mapped (λ y. y .out) q)) e)
+  stays-so why e = came-to (refused (saidRefusal why)) (Refused why) e refl
 
   module _ (u : Unread) (d : Distribution) (fits : Fits u d) (laid : now packet ≡ laidOut u d) where
     said-as : said ≡ receive (lastOf (reader .last)) (laidOut u d) (now out)
@@ -167,7 +168,7 @@ module _ (κs : Lfts 2) (reader : DistributionReader) (packet out end : Lent) (r
       × (r ≡ record { received = Packet (d .code) (d .counter) (length (frameOf d)); reader = readerAt (d .counter) })
   read-laid code counter len e bytes =
       let g = given-with tellsOf (code ∷ counter ∷ len ∷ []) said (received-numbered (lastOf (reader .last)) (now packet) (now out)) (sym (ap saidReceived e) ∙ told .answer) in
-      let t = gives-at (TakenAs (lastOf (reader .last)) (now packet)) said (g .1) (taken (lastOf (reader .last)) (now packet) (now out)) in
+      let t = gives-at (TakenAs (lastOf (reader .last)) (now packet) (now out)) said (g .1) (taken (lastOf (reader .last)) (now packet) (now out)) in
       let l = opened-laid (now packet) (g .0 .packet) bytes (t .whole) in
       (g .0 .packet, l .0, l .1, t .newer, given-so (g .0) (g .1) .0)
 

@@ -2,15 +2,15 @@
 use mathlib.Core.Path.{_≡_, refl, sym, ap, _∙_}
 use mathlib.Core.Bool.{true, false, _&&_}
 use mathlib.Core.List.{List, [], _∷_, _++_}
-use Prim.Native.Nat.{ℕ, _+_, _-_, _%_, _≤_, _<_}
+use Prim.Native.Nat.{ℕ, _+_, _-_, _*_, _/_, _%_, _≤_, _<_}
 use native.Mathlib.Omega.{arith}
-use lib.ListN.{length, getD, take, drop, set, length-append, length-drop}
+use lib.ListN.{length, getD, take, drop, set, length-append, length-drop, length-replicate}
 use lib.Seq.{sets, length-sets, take-at, take-all, length-take-le}
 use lib.Dec.{leb}
 use borrow.Author.Tests.{lt-ltb, le-ltb, leb-true}
-use Rattle.model.specs.Frame.{countIn}
+use Rattle.model.specs.Frame.{tri, countIn}
 use Rattle.model.specs.Said.{gave, refused, putInto, outShort, badSection}
-use Rattle.model.specs.Distribution.{twoBytes, sumOf, closing, isCoded, asWritten, sections, laidOut, distributionBytes, counterAfter, isWhole, distributionOf, packed, sentInto, distribute}
+use Rattle.model.specs.Distribution.{lengthWith, twoBytes, sumOf, closing, isCoded, asWritten, sections, laidOut, distributionBytes, counterAfter, isWhole, distributionOf, packed, sentInto, distribute}
 use Rattle.model.proofs.Distribution.{laid-length, whole-length, whole-bytes, whole-count}
 use Rattle.model.proofs.Cases.{both}
 use Rattle.basics.proofs.Runs.{sets-append, sets-front}
@@ -27,9 +27,17 @@ closing-rest : (s : ℕ) → closing (s % 256) ≡ closing s
 unfolding closing
 closing-rest s = omega arith
 
+-- the first nine bytes, one by one
+abbrev nine : ℕ → ℕ → ℕ → List ℕ
+nine counter code n = 0x96 ∷ 0x69 ∷ lengthWith n ∷ (16 * code + 15) ∷ 0x43 ∷ (counter / 256) ∷ (counter % 256) ∷ 0x72 ∷ (0xE0 + n) ∷ []
+
+pub nine-are : (counter code n : ℕ) → nine counter code n ≡ firstNine counter code n
+unfolding sections
+nine-are counter code n = rw (length-replicate n (tri 0 0 0))
+
 module _ (counter code : ℕ) (f : List ℕ) (whole : isWhole f ≡ true) where
   -- the head, the frame's own triples and the footer are the sections
-  sections-are : firstNine counter code (countIn (getD f 0 0)) ++ (drop 2 f ++ (0x74 ∷ twoBytes counter)) ≡ sectionsOf counter code f
+  sections-are : nine counter code (countIn (getD f 0 0)) ++ (drop 2 f ++ (0x74 ∷ twoBytes counter)) ≡ sectionsOf counter code f
   unfolding sections
   sections-are = rw (whole-bytes f whole, whole-count f whole)
 
@@ -41,16 +49,16 @@ module _ (counter code : ℕ) (f : List ℕ) (whole : isWhole f ≡ true) where
       omega (
         arith,
         ap length (sym sections-are),
-        length-append (firstNine counter code (countIn (getD f 0 0))) (drop 2 f ++ (0x74 ∷ twoBytes counter)),
+        length-append (nine counter code (countIn (getD f 0 0))) (drop 2 f ++ (0x74 ∷ twoBytes counter)),
         length-append (drop 2 f) (0x74 ∷ twoBytes counter),
         triples-length,
       )
 
   -- three pieces, one behind the other
   three-laid : (o : List ℕ)
-      → sets (sets (sets o 0 (firstNine counter code (countIn (getD f 0 0)))) 9 (drop 2 f)) (length f + 7) (0x74 ∷ twoBytes counter) ≡ sets o 0 (sectionsOf counter code f)
+      → sets (sets (sets o 0 (nine counter code (countIn (getD f 0 0)))) 9 (drop 2 f)) (length f + 7) (0x74 ∷ twoBytes counter) ≡ sets o 0 (sectionsOf counter code f)
   three-laid o =
-      let head = firstNine counter code (countIn (getD f 0 0)) in
+      let head = nine counter code (countIn (getD f 0 0)) in
       let footer : List ℕ = 0x74 ∷ twoBytes counter in
       let place : length f + 7 ≡ 9 + length (drop 2 f) = omega (arith, triples-length) in
       ap (λ (i : ℕ). sets (sets (sets o 0 head) 9 (drop 2 f)) i footer) place
@@ -63,7 +71,7 @@ module _ (counter code : ℕ) (f : List ℕ) (whole : isWhole f ≡ true) where
       → b ≡ sets a 9 (take (length f - 2) (drop 2 f)) → c ≡ sets b (length f + 7) (0x74 ∷ getD two 0 0 ∷ getD two 1 0 ∷ []) → c ≡ sets o 0 (sectionsOf counter code f)
   pieces-laid o a b c head two h n x y z =
       let part : take (length f - 2) (drop 2 f) ≡ drop 2 f = take-all (length f - 2) (drop 2 f) (omega (arith, length-drop 2 f)) in
-      rw (z, y, x, h, n, part) (three-laid o)
+      rw (z, y, x, h ∙ sym (nine-are counter code (countIn (getD f 0 0))), n, part) (three-laid o)
 
   -- behind them there is room for one byte more
   pub sections-there : (o c : List ℕ) → length f + 11 ≤ length o → c ≡ sets o 0 (sectionsOf counter code f) → length f + 10 ≡ length (take (length f + 10) c)

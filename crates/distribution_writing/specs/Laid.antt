@@ -1,12 +1,13 @@
 -- What functions of this crate that are not public go by: no public contract reaches this file. Assumes nothing.
-use mathlib.Core.List.{List, [], _∷_, _++_}
-use Prim.Native.Nat.{ℕ, _+_, _*_, _/_, _%_}
-use lib.ListN.{length, drop}
-use Rattle.model.specs.Distribution.{lengthWith, asWritten, sections, distributionBytes, distributionOf}
+use mathlib.Core.List.{List, _++_}
+use Prim.Native.Nat.{ℕ}
+use lib.ListN.{length, take, drop, replicate}
+use Rattle.model.specs.Frame.{tri}
+use Rattle.model.specs.Distribution.{asWritten, sections, distributionBytes, distributionOf}
 
--- the head of a packet, and the first two bytes of its captions
+-- the first nine bytes of a packet of n triples, whatever these are: its head, and the first two bytes of its captions
 abbrev pub firstNine : ℕ → ℕ → ℕ → List ℕ
-firstNine counter code n = 0x96 ∷ 0x69 ∷ lengthWith n ∷ (16 * code + 15) ∷ 0x43 ∷ (counter / 256) ∷ (counter % 256) ∷ 0x72 ∷ (0xE0 + n) ∷ []
+firstNine counter code n = take 9 (sections asWritten (record { code = code; counter = counter; triples = replicate n (tri 0 0 0) }))
 
 -- the sections of a frame's packet
 abbrev pub sectionsOf : ℕ → ℕ → List ℕ → List ℕ

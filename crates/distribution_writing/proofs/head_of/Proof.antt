@@ -1,5 +1,6 @@
 -- Its bytes as they stand in the list, the counter's two among them. Assumes nothing.
 use borrow.Author.Needs.{needs}
+use Rattle.distribution_writing.proofs.Laid.{nine-are}
 use Rattle.distribution_writing.proofs.head_of.Statement.{statement}
 use Rattle.distribution_writing.proofs.head_of.Tie as tie
 
@@ -28,7 +29,7 @@ add-t16 : tie.Need-add-t16
 add-t16 c = search needs
 
 returns : tie.Need-returns
-returns c = rw (c .two-bytes .ensures)
+returns c = let s = c .before .args in rw (c .two-bytes .ensures) (nine-are (s .counter) (s .code) (s .count))
 
 pub head-of-spec : {M : Type 1} → statement M
 head-of-spec =
