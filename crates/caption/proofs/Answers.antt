@@ -13,7 +13,7 @@ use Rattle.model.specs.Said as model
 use Rattle.model.proofs.Cases.{NotAccepted, Refuses}
 use Rattle.caption.specs.Answers.{saidRefusal, saidAnswer, saidCounted, saidTruth}
 use Rattle.caption.specs.declared.Refusal.{Refusal}
-use Rattle.caption.specs.declared.Refusal.the-variants.{Cea608AfterCea708, WouldOverflow, ReadOnly, EmptyService, BadNumber, BadRun, BadRate, OutShort, Full, BadValue, FrameLengthWrong, PacketLengthWrong, BlockHeaderShort, BlockBodyShort, BadMark, BadSection, BadSum, CountersDiffer, NotNewer, UnknownLength, CodeCutShort}
+use Rattle.caption.specs.declared.Refusal.the-variants.{Cea608AfterCea708, WouldOverflow, ReadOnly, EmptyService, BadNumber, BadRun, BadRate, OutShort, Full, BadValue, FrameLengthWrong, PacketLengthWrong, BlockHeaderShort, BlockBodyShort, BadMark, BadSection, BadSum, CountersDiffer, NotNewer, UnknownLength, CodeCutShort, BadCover, OutOfOrder, RunSplit, OverLimit}
 use Rattle.caption.specs.declared.Answer.{Answer}
 use Rattle.caption.specs.declared.Answer.the-variants as answer
 use Rattle.caption.specs.declared.Counted.{Counted}
@@ -45,6 +45,10 @@ refusals v =
     ∷ NotNewer
     ∷ UnknownLength
     ∷ CodeCutShort
+    ∷ BadCover
+    ∷ OutOfOrder
+    ∷ RunSplit
+    ∷ OverLimit
     ∷ []
 
 -- Every answer that gives values or refuses is taken back from what it says in the same way.
@@ -76,6 +80,10 @@ module _ {A : Type 0} (given : List ℕ → A) (refused : Refusal → A) where
   refused-again NotNewer = refl
   refused-again UnknownLength = refl
   refused-again CodeCutShort = refl
+  refused-again BadCover = refl
+  refused-again OutOfOrder = refl
+  refused-again RunSplit = refl
+  refused-again OverLimit = refl
 
 -- so none has the number of what is accepted
 pub refusal-numbered : (why : Refusal) → NotAccepted (saidRefusal why)

@@ -1,9 +1,9 @@
 -- What the shared answers say [A1]: the number of a refusal in the table R, and the values that it carries. Assumes nothing.
 use mathlib.Core.Bool.{cond}
 use mathlib.Core.List.{[], _∷_}
-use Rattle.model.specs.Said.{Said, accepted, cea608AfterCea708, wouldOverflow, readOnly, emptyService, badNumber, badRun, badRate, outShort, full, badValue, frameLengthWrong, packetLengthWrong, blockHeaderShort, blockBodyShort, badMark, badSection, badSum, countersDiffer, notNewer, unknownLength, codeCutShort}
+use Rattle.model.specs.Said.{Said, accepted, cea608AfterCea708, wouldOverflow, readOnly, emptyService, badNumber, badRun, badRate, outShort, full, badValue, frameLengthWrong, packetLengthWrong, blockHeaderShort, blockBodyShort, badMark, badSection, badSum, countersDiffer, notNewer, unknownLength, codeCutShort, badCover, outOfOrder, runSplit, overLimit}
 use Rattle.caption.specs.declared.Refusal.{Refusal}
-use Rattle.caption.specs.declared.Refusal.the-variants.{Cea608AfterCea708, WouldOverflow, ReadOnly, EmptyService, BadNumber, BadRun, BadRate, OutShort, Full, BadValue, FrameLengthWrong, PacketLengthWrong, BlockHeaderShort, BlockBodyShort, BadMark, BadSection, BadSum, CountersDiffer, NotNewer, UnknownLength, CodeCutShort}
+use Rattle.caption.specs.declared.Refusal.the-variants.{Cea608AfterCea708, WouldOverflow, ReadOnly, EmptyService, BadNumber, BadRun, BadRate, OutShort, Full, BadValue, FrameLengthWrong, PacketLengthWrong, BlockHeaderShort, BlockBodyShort, BadMark, BadSection, BadSum, CountersDiffer, NotNewer, UnknownLength, CodeCutShort, BadCover, OutOfOrder, RunSplit, OverLimit}
 use Rattle.caption.specs.declared.Answer.{Answer}
 use Rattle.caption.specs.declared.Answer.the-variants as answer
 use Rattle.caption.specs.declared.Counted.{Counted}
@@ -34,6 +34,10 @@ saidRefusal CountersDiffer = countersDiffer
 saidRefusal NotNewer = notNewer
 saidRefusal UnknownLength = unknownLength
 saidRefusal CodeCutShort = codeCutShort
+saidRefusal BadCover = badCover
+saidRefusal OutOfOrder = outOfOrder
+saidRefusal RunSplit = runSplit
+saidRefusal OverLimit = overLimit
 
 -- accepted, with no value
 abbrev pub saidAnswer : Answer → Said

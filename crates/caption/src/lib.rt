@@ -73,6 +73,14 @@ pub enum Refusal {
     UnknownLength,
     // The bytes end within a code.
     CodeCutShort,
+    // A byte is not in exactly one piece of a proposal, or a piece is empty or holds what is no byte of a run.
+    BadCover,
+    // The bytes of a service do not keep their order.
+    OutOfOrder,
+    // A run is split across blocks.
+    RunSplit,
+    // A limit on runs, blocks or packets is broken.
+    OverLimit,
 }
 
 // The answer of a call that only accepts or refuses.

@@ -101,6 +101,22 @@ unknownLength = record { number = 21; values = [] }
 abbrev pub codeCutShort : Said
 codeCutShort = record { number = 22; values = [] }
 
+-- 23: a byte is in no piece of a proposal or in more than one, or a piece holds none or one that is no byte of a run [R23]
+abbrev pub badCover : Said
+badCover = record { number = 23; values = [] }
+
+-- 24: the bytes of a service do not keep their order [R24]
+abbrev pub outOfOrder : Said
+outOfOrder = record { number = 24; values = [] }
+
+-- 25: a run is split across blocks [R25]
+abbrev pub runSplit : Said
+runSplit = record { number = 25; values = [] }
+
+-- 26: a limit on runs, blocks or packets is broken [R26]
+abbrev pub overLimit : Said
+overLimit = record { number = 26; values = [] }
+
 -- A call gives its value, or refuses and gives none.
 pub data Outcome (A : Type 0) : Type 0 where
   gave : A → Outcome A

@@ -53,6 +53,10 @@ few-refusal refusal.CountersDiffer = omega arith
 few-refusal refusal.NotNewer = omega arith
 few-refusal refusal.UnknownLength = omega arith
 few-refusal refusal.CodeCutShort = omega arith
+few-refusal refusal.BadCover = omega arith
+few-refusal refusal.OutOfOrder = omega arith
+few-refusal refusal.RunSplit = omega arith
+few-refusal refusal.OverLimit = omega arith
 
 -- so no answer does
 pub few-answer : (a : Answer) → length (saidAnswer a .values) ≤ 3

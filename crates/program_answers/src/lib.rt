@@ -81,6 +81,10 @@ pub fn tell_refusal(why: Refusal) -> Numbers
         Refusal::NotNewer => bare(20),
         Refusal::UnknownLength => bare(21),
         Refusal::CodeCutShort => bare(22),
+        Refusal::BadCover => bare(23),
+        Refusal::OutOfOrder => bare(24),
+        Refusal::RunSplit => bare(25),
+        Refusal::OverLimit => bare(26),
     }
 }
 

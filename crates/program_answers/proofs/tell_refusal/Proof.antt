@@ -131,6 +131,30 @@ enum-told-14 c = search needs
 bare-requires-14 : tie.Need-bare-requires-14
 bare-requires-14 c κs = search needs
 
+enum-told-15 : tie.Need-enum-told-15
+enum-told-15 c = search needs
+
+bare-requires-15 : tie.Need-bare-requires-15
+bare-requires-15 c κs = search needs
+
+enum-told-16 : tie.Need-enum-told-16
+enum-told-16 c = search needs
+
+bare-requires-16 : tie.Need-bare-requires-16
+bare-requires-16 c κs = search needs
+
+enum-told-17 : tie.Need-enum-told-17
+enum-told-17 c = search needs
+
+bare-requires-17 : tie.Need-bare-requires-17
+bare-requires-17 c κs = search needs
+
+enum-told-18 : tie.Need-enum-told-18
+enum-told-18 c = search needs
+
+bare-requires-18 : tie.Need-bare-requires-18
+bare-requires-18 c κs = search needs
+
 returns : tie.Need-returns
 returns c = search (needs, told-as saidRefusal)
 
@@ -194,6 +218,18 @@ returns-20 c = search (needs, told-as saidRefusal)
 returns-21 : tie.Need-returns-21
 returns-21 c = search (needs, told-as saidRefusal)
 
+returns-22 : tie.Need-returns-22
+returns-22 c = search (needs, told-as saidRefusal)
+
+returns-23 : tie.Need-returns-23
+returns-23 c = search (needs, told-as saidRefusal)
+
+returns-24 : tie.Need-returns-24
+returns-24 c = search (needs, told-as saidRefusal)
+
+returns-25 : tie.Need-returns-25
+returns-25 c = search (needs, told-as saidRefusal)
+
 pub tell-refusal-spec : {M : Type 1} → statement M
 tell-refusal-spec =
     tie.close
@@ -240,6 +276,14 @@ tell-refusal-spec =
     bare-requires-13
     enum-told-14
     bare-requires-14
+    enum-told-15
+    bare-requires-15
+    enum-told-16
+    bare-requires-16
+    enum-told-17
+    bare-requires-17
+    enum-told-18
+    bare-requires-18
     returns
     returns-2
     returns-3
@@ -260,4 +304,8 @@ tell-refusal-spec =
     returns-18
     returns-19
     returns-20
-    returns-21)
+    returns-21
+    returns-22
+    returns-23
+    returns-24
+    returns-25)
