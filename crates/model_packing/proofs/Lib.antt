@@ -1,3 +1,4 @@
 pub mod Lists
 pub mod Counts
+pub mod Crowded
 pub mod Examples
