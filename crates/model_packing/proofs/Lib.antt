@@ -1,4 +1,5 @@
 pub mod Lists
 pub mod Counts
 pub mod Crowded
+pub mod Limits
 pub mod Examples

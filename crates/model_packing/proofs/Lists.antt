@@ -17,6 +17,10 @@ pub data In {A : Type 0} (x : A) : List A → Type 0 where
   there : {y : A} {l : List A} → In x l → In x (y ∷ l)
 
 module _ {A : Type 0} where
+  -- there is none in an empty list
+  pub nothing-in : {x : A} (l : List A) → length l ≡ 0 → In x l → ⊥
+  nothing-in (y ∷ l) e i = omega arith
+
   -- an element of two lists, one behind the other
   pub in-left : {x : A} (l m : List A) → In x l → In x (l ++ m)
   in-left (y ∷ l) m (here e) = here e

@@ -106,13 +106,13 @@ unfoldable pub oneService : List ℕ → List Piece → Piece → Bool
 oneService services ps q =
     every (λ (r : Piece). eqb (serviceOf services (r .run)) (serviceOf services (q .run))) (piecesIn (q .packet) (q .block) ps)
 
--- 26 unless every run fits, every block is of one service, and every packet breaks no limit: those of a packet and of its blocks [Q6].
+-- 26 unless every run fits, every block is of one service, and every packet that is described breaks no limit: those of a packet and of its blocks [Q6].
 unfoldable pub limits : List ℕ → List ℕ → List Piece → Bool
 limits services lengths ps =
     runsFit services lengths
     && (every numbered ps
     && (every (oneService services ps) ps
-    && every (λ p. validPacket (blankPacket services ps p)) (countFrom 0 mostNumbers)))
+    && every (λ (q : Piece). validPacket (blankPacket services ps (q .packet))) ps))
 
 -- the most runs of a proposal [Q7]
 abbrev pub mostRuns : ℕ
