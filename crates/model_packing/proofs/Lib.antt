@@ -1,3 +1,4 @@
 pub mod Lists
 pub mod Examples
 pub mod Blanks
+pub mod Taking
