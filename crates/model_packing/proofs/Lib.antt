@@ -2,3 +2,4 @@ pub mod Lists
 pub mod Examples
 pub mod Blanks
 pub mod Taking
+pub mod Filling
