@@ -33,7 +33,7 @@ mapped-cond f true x y = refl
 mapped-cond f false x y = refl
 
 -- what is made of elements with one more behind them,
-map-more : {A B : Type 0} (f : A → B) (l : List A) (x : A) → map f (l ++ (x ∷ [])) ≡ map f l ++ (f x ∷ [])
+pub map-more : {A B : Type 0} (f : A → B) (l : List A) (x : A) → map f (l ++ (x ∷ [])) ≡ map f l ++ (f x ∷ [])
 map-more f [] x = refl
 map-more f (y ∷ l) x = ap (λ m. f y ∷ m) (map-more f l x)
 
@@ -70,6 +70,10 @@ blank-latest : (n k : ℕ) (bs : List Block) → latestOf n k (blanks bs) ≡ la
 unfolding latestOf
 blank-latest n zero bs = refl
 blank-latest n (suc k) bs = rw (blank-at bs k, blank-latest n k bs)
+
+-- in a packet too
+pub latest-blanked : (n : ℕ) (p : Packet) → latest n (blanked p) ≡ latest n p
+latest-blanked n p = rw length-map (blank-latest n (length (p .blocks)) (p .blocks))
 
 -- a block that takes a run
 blank-grown : (run : List ℕ) (b : Block) → blankBlock (withRun run b) ≡ withRun (blank (length run)) (blankBlock b)

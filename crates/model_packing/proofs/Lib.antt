@@ -3,3 +3,5 @@ pub mod Examples
 pub mod Blanks
 pub mod Taking
 pub mod Filling
+pub mod Growing
+pub mod AsProposed
