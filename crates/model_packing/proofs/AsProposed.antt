@@ -8,7 +8,6 @@ use Prim.Native.Nat.{ℕ, zero, suc, _+_, _≤_, _<_}
 use native.Mathlib.Omega.{arith}
 use lib.Dec.{eqb}
 use lib.ListN.{length, getD, length-map}
-use lib.Seq.{drop-nil}
 use Rattle.model.specs.Said.{Outcome, gave, refused, mapped}
 use Rattle.model.specs.Block.{Block}
 use Rattle.model.specs.Packet.{Packet, noPacket, latest, pushRun}
@@ -21,7 +20,7 @@ use Rattle.model_packing.proofs.Lists.{In, in-map, in-count}
 use Rattle.model_packing.proofs.Blanks.{blanks, blanked, blankBlock, map-more, latest-blanked, pushed-blank}
 use Rattle.model_packing.proofs.Taking.{Took, push-takes, atPlace, joined}
 use Rattle.model_packing.proofs.Filling.{Placing, same, next, PlacedAt, run-placing, run-placed, packedTo, pieceOf, piecesTo, first-come-pieces, run-fits, bounded}
-use Rattle.model_packing.proofs.Growing.{Describe, described, others-stay, one-grows}
+use Rattle.model_packing.proofs.Growing.{Describe, described, none-described, others-same, others-stay, one-grows}
 
 -- an outcome that a map makes into a value gives one that it is made of
 given-back : {A B : Type 0} (f : A → B) (o : Outcome A) (y : B) → mapped f o ≡ gave y → (x : A) × (o ≡ gave x) × (f x ≡ y)
@@ -150,11 +149,64 @@ module _ (services lengths : List ℕ) (ok : packable services lengths ≡ true)
 
   -- no piece, no block
   carried-first : Carried services lengths fill 0
-  unfolding packedTo countFrom those blockFor
-  carried-first = record { now = []; here = λ b. rw (drop-nil b); alike = refl; later = λ p g b. rw (drop-nil b) }
+  unfolding packedTo countFrom
+  carried-first = record { now = []; here = none-described services fill 0; alike = refl; later = λ p g. none-described services fill p }
 
   -- all the way
   carried : (i : ℕ) → i ≤ length services → Carried services lengths fill i
   carried zero h = carried-first
   carried (suc i) h = carried-next i h (carried i (omega arith))
 
+  -- so each push of a run gives what the pieces with it describe
+  pub run-pushed : (i n : ℕ) → i < length services
+      → pushRun (serviceOf services i) (fill (pieceOf services lengths i)) (record { sequence = n; blocks = blocksIn services fill (piecesTo services lengths i) (pieceOf services lengths i .packet) })
+      ≡ gave (record { sequence = n; blocks = blocksIn services fill (piecesTo services lengths (suc i)) (pieceOf services lengths i .packet) })
+  run-pushed i n h =
+      let s = pushed-next i n h (carried i (omega arith)) in
+      rw (described services fill _ _ (s .old) (s .was) (omega (arith, s .fewOld)), described services fill _ _ (s .new) (s .is) (omega (arith, s .fewNew))) (s .push)
+
+-- a list of what is made of numbers in their order, cut before one of them
+cut : {A : Type 0} (f : ℕ → A) (a n : ℕ) (ps : List A) (q : A) (qs : List A) → map f (countFrom a n) ≡ ps ++ (q ∷ qs)
+    → (ps ≡ map f (countFrom a (length ps))) × (q ≡ f (a + length ps)) × (length ps < n)
+unfolding countFrom
+cut f a zero [] q qs e = let z : _≡_ {A = ℕ} 0 1 = cc in absurd (omega arith)
+cut f a zero (p ∷ ps) q qs e = let z : _≡_ {A = ℕ} 0 1 = cc in absurd (omega arith)
+cut f a (suc n) [] q qs e = let z : a + 0 ≡ a = omega arith in (refl, rw z (cc), omega arith)
+cut f a (suc n) (p ∷ ps) q qs e =
+    let t = cut f (suc a) n ps q qs (cc) in
+    let z : suc a + length ps ≡ a + suc (length ps) = omega arith in
+    (cc (t .0), t .1 ∙ ap f z, omega (arith, t .2))
+
+-- A proposal is carried out by pushing the bytes of its pieces in their order, whatever the packets' sequence numbers are.
+pub record CarriedOut (services : List ℕ) (fill : Piece → List ℕ) (proposal : List Piece) : Type 0 where
+  -- no packet has a block at first;
+  pub begins : (p : ℕ) → blocksIn services fill [] p ≡ []
+  -- the packet that a piece names takes its bytes, and then has the blocks that the pieces so far describe;
+  pub taken : (ps : List Piece) (q : Piece) (qs : List Piece) → proposal ≡ ps ++ (q ∷ qs) → (n : ℕ)
+      → pushRun (serviceOf services (q .run)) (fill q) (record { sequence = n; blocks = blocksIn services fill ps (q .packet) })
+      ≡ gave (record { sequence = n; blocks = blocksIn services fill (ps ++ (q ∷ [])) (q .packet) })
+  -- and so do the other packets, which stay as they are
+  pub others : (ps : List Piece) (q : Piece) (qs : List Piece) → proposal ≡ ps ++ (q ∷ qs) → (p : ℕ) → (q .packet ≡ p → ⊥)
+      → blocksIn services fill (ps ++ (q ∷ [])) p ≡ blocksIn services fill ps p
+
+-- What the first-come packer proposes is carried out by pushing, whatever the bytes of the runs are.
+pub pushed-as-proposed : (services lengths : List ℕ) → packable services lengths ≡ true → (fill : Piece → List ℕ)
+    → ((q : Piece) → In q (firstCome services lengths) → length (fill q) ≡ q .size) → CarriedOut services fill (firstCome services lengths)
+pushed-as-proposed services lengths ok fill long =
+    record {
+      begins = λ p. described services fill [] p [] (none-described services fill p) (omega arith);
+      taken = taken-by;
+      others = λ ps q qs e p h. others-same services fill ps q p h;
+    }
+  where
+    all : firstCome services lengths ≡ piecesTo services lengths (length services)
+    all = first-come-pieces services lengths
+    sized : (r : ℕ) → r < length services → length (fill (pieceOf services lengths r)) ≡ getD lengths r 0
+    sized r h = long (pieceOf services lengths r) (rw all (in-map (pieceOf services lengths) (countFrom 0 (length services)) (in-count r 0 (length services) (omega arith) (omega arith))))
+    taken-by : (ps : List Piece) (q : Piece) (qs : List Piece) → firstCome services lengths ≡ ps ++ (q ∷ qs) → (n : ℕ)
+        → pushRun (serviceOf services (q .run)) (fill q) (record { sequence = n; blocks = blocksIn services fill ps (q .packet) })
+        ≡ gave (record { sequence = n; blocks = blocksIn services fill (ps ++ (q ∷ [])) (q .packet) })
+    taken-by ps q qs e n =
+        let t = cut (pieceOf services lengths) 0 (length services) ps q qs (sym all ∙ e) in
+        let z : 0 + length ps ≡ length ps = omega arith in
+        rw (t .0, t .1, z, ← pieces-more services lengths (length ps)) (run-pushed services lengths ok fill sized (length ps) n (t .2))

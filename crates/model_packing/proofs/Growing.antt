@@ -6,7 +6,7 @@ use Prim.Native.Nat.{ℕ, zero, suc, _+_, _≤_, _<_}
 use native.Mathlib.Omega.{arith}
 use lib.Dec.{eqb}
 use lib.ListN.{length, take, drop}
-use lib.Seq.{take-all, take-add, drop-drop}
+use lib.Seq.{take-all, take-add, drop-drop, drop-nil}
 use borrow.Author.Tests.{eq-eqb, ne-eqb}
 use Rattle.model.specs.Block.{Block, withRun}
 use Rattle.model.proofs.Cases.{by-test}
@@ -53,6 +53,11 @@ module _ (services : List ℕ) (fill : Piece → List ℕ) where
   unfolding blocksIn
   described ps p bs d h = flat-by d (countFrom 0 256) ∙ places-from bs 256 0 ∙ take-all 256 bs h
 
+  -- without a piece there is none
+  pub none-described : (p : ℕ) → Describe [] p []
+  unfolding those blockFor
+  none-described p b = rw (drop-nil b)
+
   -- the block of pieces with one more behind them
   block-more : (ps : List Piece) (q : Piece) → blockFor services fill (ps ++ (q ∷ [])) ≡ joined (serviceOf services (q .run)) (fill q) (blockFor services fill ps)
   unfolding blockFor flatMap
@@ -60,14 +65,23 @@ module _ (services : List ℕ) (fill : Piece → List ℕ) where
   block-more (r ∷ ps) q = rw (flat-more fill ps q, append-assoc)
 
   module _ (ps : List Piece) (q : Piece) where
-    -- a piece of another block or packet behind them changes nothing
+    -- a piece of another block behind them changes nothing,
     pieces-same : (p b : ℕ) → liesIn p b q ≡ false → piecesIn p b (ps ++ (q ∷ [])) ≡ piecesIn p b ps
     pieces-same p b e = those-more (liesIn p b) ps q ∙ rw e (append-nil (piecesIn p b ps))
 
-    -- the packets that it does not name stay
-    pub others-stay : (p : ℕ) → (q .packet ≡ p → ⊥) → (bs : List Block) → Describe ps p bs → Describe (ps ++ (q ∷ [])) p bs
+    -- nor one of another packet
+    elsewhere : (p : ℕ) → (q .packet ≡ p → ⊥) → (b : ℕ) → piecesIn p b (ps ++ (q ∷ [])) ≡ piecesIn p b ps
     unfolding liesIn
-    others-stay p h bs d = λ b. let n : liesIn p b q ≡ false = rw (ne-eqb (q .packet) p h) in rw (pieces-same p b n) (d b)
+    elsewhere p h b = let n : liesIn p b q ≡ false = rw (ne-eqb (q .packet) p h) in pieces-same p b n
+
+    -- so the blocks of the packets that it does not name stay,
+    pub others-same : (p : ℕ) → (q .packet ≡ p → ⊥) → blocksIn services fill (ps ++ (q ∷ [])) p ≡ blocksIn services fill ps p
+    unfolding blocksIn
+    others-same p h = flat-by (λ b. ap (blockFor services fill) (elsewhere p h b)) (countFrom 0 256)
+
+    -- and so does what describes them
+    pub others-stay : (p : ℕ) → (q .packet ≡ p → ⊥) → (bs : List Block) → Describe ps p bs → Describe (ps ++ (q ∷ [])) p bs
+    others-stay p h bs d = λ b. rw (elsewhere p h b) (d b)
 
     -- the block that it names takes its bytes
     pub one-grows : (b : ℕ)
