@@ -19,7 +19,7 @@ use Rattle.model_packing.specs.FirstCome.{Filling, start, placeOr0, plac
 use Rattle.model_packing.proofs.Lists.{In, in-map, in-count}
 use Rattle.model_packing.proofs.Blanks.{blanks, blanked, blankBlock, map-more, latest-blanked, pushed-blank}
 use Rattle.model_packing.proofs.Taking.{Took, push-takes, atPlace, joined}
-use Rattle.model_packing.proofs.Filling.{Placing, same, next, PlacedAt, run-placing, run-placed, packedTo, pieceOf, piecesTo, first-come-pieces, run-fits, bounded}
+use Rattle.model_packing.proofs.Filling.{Placing, same, next, PlacedAt, packedTo, pieceOf, piecesTo, first-come-pieces, bounded, placing-from, placed-from}
 use Rattle.model_packing.proofs.Growing.{Describe, described, none-described, others-same, others-stay, one-grows}
 
 -- an outcome that a map makes into a value gives one that it is made of
@@ -115,11 +115,8 @@ module _ (services lengths : List ℕ) (ok : packable services lengths ≡ true)
 
   -- the packet that takes run i is the one that is being filled, or one without blocks that no piece is in
   pushed-next : (i n : ℕ) → i < length services → Carried services lengths fill i → Pushed services lengths fill i n
-  unfolding packedTo
-  pushed-next i n h c = by-placing (run-placing services lengths i (run-fits services lengths ok i h) (packedTo services lengths i))
+  pushed-next i n h c = by-placing (placing-from services lengths ok i h)
     where
-      at : Filling
-      at = packedTo services lengths i
       by-placing : Placing (serviceOf services i) (blank (getD lengths i 0)) (packedTo services lengths i) (packedTo services lengths (suc i)) → Pushed services lengths fill i n
       by-placing (same b e) = pushed-from i n h (c .now) (few-alike i (omega arith) (c .now) (c .alike)) (rw b (c .here)) (rw (c .alike) e)
       by-placing (next b r e) = pushed-from i n h [] (omega arith) (c .later (pieceOf services lengths i .packet) (omega arith)) e
@@ -129,17 +126,11 @@ module _ (services lengths : List ℕ) (ok : packable services lengths ≡ true)
       → Describe services fill (piecesTo services lengths i) p bs → Describe services fill (piecesTo services lengths (suc i)) p bs
   others i p h bs d = rw (pieces-more services lengths i) (others-stay services fill (piecesTo services lengths i) (pieceOf services lengths i) p h bs d)
 
-  -- there are not fewer of them
-  not-fewer : (i : ℕ) → i < length services → packedTo services lengths i .before ≤ packedTo services lengths (suc i) .before
-  unfolding packedTo
-  not-fewer i h =
-      run-placed services lengths i (run-fits services lengths ok i h) (packedTo services lengths i) (bounded services lengths ok i (omega arith) .valid) .least
-
   -- and so it goes on
   carried-next : (i : ℕ) → i < length services → Carried services lengths fill i → Carried services lengths fill (suc i)
   carried-next i h c =
       let s = pushed-next i 0 h c in
-      let k = not-fewer i h in
+      let k = placed-from services lengths ok i h in
       record {
         now = s .new;
         here = s .is;

@@ -170,3 +170,13 @@ module _ (services lengths : List ℕ) (ok : packable services lengths ≡ true)
   unfolding packedTo
   bounded zero h = bounded-start
   bounded (suc i) h = bounded-next services lengths i (run-fits i h) (packedTo services lengths i) (bounded i (omega arith))
+
+  -- how a run is placed in the state before it,
+  pub placing-from : (i : ℕ) → i < length services → Placing (serviceOf services i) (blank (getD lengths i 0)) (packedTo services lengths i) (packedTo services lengths (suc i))
+  unfolding packedTo
+  placing-from i h = run-placing services lengths i (run-fits i h) (packedTo services lengths i)
+
+  -- and what that makes of it
+  pub placed-from : (i : ℕ) → i < length services → PlacedAt (serviceOf services i) (packedTo services lengths i) (packedTo services lengths (suc i))
+  unfolding packedTo
+  placed-from i h = run-placed services lengths i (run-fits i h) (packedTo services lengths i) (bounded i (omega arith) .valid)

@@ -5,3 +5,4 @@ pub mod Taking
 pub mod Filling
 pub mod Growing
 pub mod AsProposed
+pub mod Following
