@@ -1,25 +1,23 @@
 -- The first-come packer's proposal carried out by pushing: the pieces so far describe the packet that the packer has, with the runs' bytes in place of
 -- zeros, so that each piece's packet takes its bytes as the packer's own took the zeros. Assumes nothing.
-use mathlib.Core.Path.{_≡_, refl, sym, ap, subst, _∙_}
-use mathlib.Core.Bool.{Bool, true, false, cond}
+use mathlib.Core.Path.{_≡_, refl, sym, ap, _∙_}
+use mathlib.Core.Bool.{true}
 use mathlib.Core.List.{List, [], _∷_, _++_, map}
-use mathlib.Core.Option.{Option, none, some}
 use Prim.Native.Nat.{ℕ, zero, suc, _+_, _≤_, _<_}
 use native.Mathlib.Omega.{arith}
-use lib.Dec.{eqb}
 use lib.ListN.{length, getD, length-map}
 use Rattle.model.specs.Said.{Outcome, gave, refused, mapped}
 use Rattle.model.specs.Block.{Block}
-use Rattle.model.specs.Packet.{Packet, noPacket, latest, pushRun}
-use Rattle.model.proofs.Cases.{by-test, gives-at}
+use Rattle.model.specs.Packet.{Packet, latest, pushRun}
+use Rattle.model.proofs.Cases.{gives-at}
 use Rattle.model.proofs.Limits.{few-blocks}
-use Rattle.model_packing.specs.Pieces.{Piece, serviceOf, countFrom, those}
-use Rattle.model_packing.specs.Proposals.{blank, blockFor, blocksIn}
-use Rattle.model_packing.specs.FirstCome.{Filling, start, placeOr0, placedRun, firstCome, packable}
+use Rattle.model_packing.specs.Pieces.{Piece, serviceOf, countFrom}
+use Rattle.model_packing.specs.Proposals.{blank, blocksIn}
+use Rattle.model_packing.specs.FirstCome.{placeOr0, firstCome, packable}
 use Rattle.model_packing.proofs.Lists.{In, in-map, in-count}
 use Rattle.model_packing.proofs.Blanks.{blanks, blanked, blankBlock, map-more, latest-blanked, pushed-blank}
-use Rattle.model_packing.proofs.Taking.{Took, push-takes, atPlace, joined}
-use Rattle.model_packing.proofs.Filling.{Placing, same, next, PlacedAt, packedTo, pieceOf, piecesTo, first-come-pieces, bounded, placing-from, placed-from}
+use Rattle.model_packing.proofs.Taking.{Took, push-takes}
+use Rattle.model_packing.proofs.Filling.{Placing, same, next, packedTo, pieceOf, piecesTo, first-come-pieces, bounded, placing-from, placed-from}
 use Rattle.model_packing.proofs.Growing.{Describe, described, none-described, others-same, others-stay, one-grows}
 
 -- an outcome that a map makes into a value gives one that it is made of
@@ -192,8 +190,10 @@ pushed-as-proposed services lengths ok fill long =
   where
     all : firstCome services lengths ≡ piecesTo services lengths (length services)
     all = first-come-pieces services lengths
+
     sized : (r : ℕ) → r < length services → length (fill (pieceOf services lengths r)) ≡ getD lengths r 0
     sized r h = long (pieceOf services lengths r) (rw all (in-map (pieceOf services lengths) (countFrom 0 (length services)) (in-count r 0 (length services) (omega arith) (omega arith))))
+
     taken-by : (ps : List Piece) (q : Piece) (qs : List Piece) → firstCome services lengths ≡ ps ++ (q ∷ qs) → (n : ℕ)
         → pushRun (serviceOf services (q .run)) (fill q) (record { sequence = n; blocks = blocksIn services fill ps (q .packet) })
         ≡ gave (record { sequence = n; blocks = blocksIn services fill (ps ++ (q ∷ [])) (q .packet) })

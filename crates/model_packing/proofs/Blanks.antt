@@ -1,17 +1,14 @@
 -- Packets with zeros in place of their payloads' bytes: a push looks at numbers and lengths alone, so that what it makes of such a packet is what it
 -- makes of the packet itself. Assumes nothing.
 use mathlib.Core.Path.{_≡_, refl, sym, ap, _∙_}
-use mathlib.Core.Bool.{Bool, true, false, cond, _&&_}
+use mathlib.Core.Bool.{Bool, true, false, cond}
 use mathlib.Core.List.{List, [], _∷_, _++_, map}
 use mathlib.Core.Option.{Option, none, some}
-use Prim.Native.Nat.{ℕ, zero, suc, _+_, _-_}
-use native.Mathlib.Omega.{arith}
-use lib.Dec.{eqb, ltb}
+use Prim.Native.Nat.{ℕ, zero, suc}
 use lib.ListN.{length, getD, set, length-append, length-map, length-replicate, replicate-append-replicate, List·getD-map}
-use Rattle.model.specs.Said.{Outcome, gave, refused, mapped}
-use Rattle.model.specs.Block.{Block, writtenBlock, blockLength, withRun}
-use Rattle.model.specs.Packet.{Packet, blocksLength, packetLength, packetRoom, withBlocks, noBlock, blockAt, latestOf, latest, extended, pushNew, pushAt, pushRunAt, pushRunBy, pushRun}
-use Rattle.model.proofs.Cases.{by-test}
+use Rattle.model.specs.Said.{Outcome, mapped}
+use Rattle.model.specs.Block.{Block, blockLength, withRun}
+use Rattle.model.specs.Packet.{Packet, blocksLength, packetLength, noBlock, latestOf, latest, pushNew, pushAt, pushRunAt, pushRunBy, pushRun}
 use Rattle.model.proofs.Blocks.{written-length}
 use Rattle.model_packing.specs.Proposals.{blank}
 

@@ -1,12 +1,12 @@
 -- The states of the first-come packer: what placing a run makes of one, the bounds that every one keeps, and the pieces of the proposal by their runs.
 -- Assumes nothing.
-use mathlib.Core.Path.{_≡_, refl, sym, ap, _∙_}
-use mathlib.Core.Bool.{Bool, true, false, cond, _&&_}
-use mathlib.Core.List.{List, [], _∷_, _++_, map}
-use mathlib.Core.Option.{Option, none, some}
-use Prim.Native.Nat.{ℕ, zero, suc, _+_, _≤_, _<_}
+use mathlib.Core.Path.{_≡_, refl, ap}
+use mathlib.Core.Bool.{true}
+use mathlib.Core.List.{List, [], _∷_, map}
+use mathlib.Core.Option.{some}
+use Prim.Native.Nat.{ℕ, zero, suc, _≤_, _<_}
 use native.Mathlib.Omega.{arith}
-use lib.Dec.{eqb, leb, ltb}
+use lib.Dec.{eqb, leb}
 use lib.ListN.{length, getD, length-replicate}
 use borrow.Author.Tests.{ne-eqb, le-ltb, leb-true, eqb-true, eqb-false}
 use Rattle.model.specs.Lists.{every}
@@ -20,12 +20,12 @@ use Rattle.model.proofs.Pushing.{run-valid}
 use Rattle.model.proofs.Limits.{few-blocks}
 use Rattle.model_packing.specs.Pieces.{Piece, serviceOf, countFrom}
 use Rattle.model_packing.specs.Proposals.{blank, runFits, runsFit}
-use Rattle.model_packing.specs.FirstCome.{Filling, start, filledWith, placed, placeOr0, pieceFor, placedRun, piecesFrom, firstCome, packable}
+use Rattle.model_packing.specs.FirstCome.{Filling, start, filledWith, placed, pieceFor, placedRun, piecesFrom, firstCome, packable}
 use Rattle.model_packing.proofs.Lists.{every-count}
 use Rattle.model_packing.proofs.Taking.{Took, push-takes}
 
 -- a packet without blocks is within the limits
-bare-valid : Valid noPacket
+pub bare-valid : Valid noPacket
 unfolding every
 bare-valid = record { sequence = omega arith; blocks = refl; length = omega (arith, length-empty noPacket refl) }
 
@@ -164,6 +164,10 @@ module _ (services lengths : List ℕ) (ok : packable services lengths ≡ true)
   pub run-fits : (r : ℕ) → r < length services → runFits services lengths r ≡ true
   unfolding packable runsFit
   run-fits r h = every-count (runFits services lengths) 0 (length services) r (both (leb (length services) 256) (runsFit services lengths) ok .1) (omega arith) (omega arith)
+
+  -- none is without bytes
+  pub run-some : (r : ℕ) → r < length services → 1 ≤ getD lengths r 0
+  run-some r h = omega (arith, fits-carriable services lengths r (run-fits r h) .filled, length-replicate {A = ℕ} (getD lengths r 0) 0)
 
   -- so the bounds hold all the way
   pub bounded : (i : ℕ) → i ≤ length services → Bounded i (packedTo services lengths i)

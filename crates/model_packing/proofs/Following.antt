@@ -1,16 +1,15 @@
 -- How the pieces of the first-come packer's proposal stand to one another: a later one is in no earlier packet, and in no earlier block of its service; and
 -- pieces in one block are of one service. Assumes nothing.
 use mathlib.Core.Path.{_≡_, refl, sym, ap, _∙_}
-use mathlib.Core.Bool.{Bool, true, false}
-use mathlib.Core.List.{List, [], _∷_}
-use mathlib.Core.Option.{Option, none, some}
+use mathlib.Core.Bool.{true}
+use mathlib.Core.List.{List}
 use Prim.Native.Nat.{ℕ, zero, suc, _≤_, _<_}
 use native.Mathlib.Omega.{arith}
 use lib.Dec.{eqb}
 use lib.ListN.{length, getD}
 use borrow.Author.Tests.{eqb-true, eqb-false}
-use Rattle.model.specs.Said.{gave}
-use Rattle.model.specs.Packet.{Packet, noPacket, noBlock, blockAt, latest, pushRun}
+use Rattle.model.specs.Block.{Block}
+use Rattle.model.specs.Packet.{noBlock, blockAt, latest, pushRun}
 use Rattle.model.proofs.Cases.{by-test, gives-at}
 use Rattle.model_packing.specs.Pieces.{Piece, serviceOf}
 use Rattle.model_packing.specs.Proposals.{blank}
@@ -47,7 +46,7 @@ standing-own services r n at to k =
       named = λ p. rw e (latest-is (serviceOf services r) (length (to .packet .blocks)) (to .packet .blocks) (k .place) (k .found));
     }
 
--- How a piece stands to a later one.
+-- How a piece stands to itself and to those behind it.
 pub record Follows (services : List ℕ) (r q : Piece) : Type 0 where
   pub packets : r .packet ≤ q .packet
   pub blocks : r .packet ≡ q .packet → serviceOf services (r .run) ≡ serviceOf services (q .run) → r .block ≤ q .block
@@ -63,15 +62,23 @@ module _ (services lengths : List ℕ) (ok : packable services lengths ≡ true)
       (λ e. standing-next services (pieceOf services lengths r) (serviceOf services i) (blank (getD lengths i 0)) (packedTo services lengths i) (packedTo services lengths (suc i))
       (standing i r (omega (arith, eqb-false r i e)) (omega arith)) (placing-from services lengths ok i h))
 
-  -- The piece of a later run follows that of an earlier one.
-  pub follows : (r q : ℕ) → r < q → q < length services → Follows services (pieceOf services lengths r) (pieceOf services lengths q)
-  follows r q g h =
+  -- the piece of a later run follows that of an earlier one,
+  later-follows : (r q : ℕ) → r < q → q < length services → Follows services (pieceOf services lengths r) (pieceOf services lengths q)
+  later-follows r q g h =
       let d = standing (suc q) r (omega arith) h in
       let o = standing (suc q) q (omega arith) h in
       let k = placed-from services lengths ok q h in
+      let bs : List Block = packedTo services lengths (suc q) .packet .blocks in
       let e : pieceOf services lengths q .block ≡ k .place = ap placeOr0 (k .found) in
       record {
         packets = d .early;
-        blocks = λ p s. omega (arith, latest-last (serviceOf services q) (length (packedTo services lengths (suc q) .packet .blocks)) (packedTo services lengths (suc q) .packet .blocks) (k .place) (pieceOf services lengths r .block) (k .found) (d .there p) (d .named p ∙ s));
-        alike = λ p b. sym (d .named p) ∙ ap (λ (j : ℕ). blockAt (packedTo services lengths (suc q) .packet) j .number) b ∙ o .named refl;
+        blocks = λ p s. omega (arith, latest-last (serviceOf services q) (length bs) bs (k .place) (pieceOf services lengths r .block) (k .found) (d .there p) (d .named p ∙ s));
+        alike = λ p b. sym (d .named p) ∙ ap (λ (j : ℕ). getD bs j noBlock .number) b ∙ o .named refl;
       }
+
+  -- and so does every piece itself
+  pub follows : (r q : ℕ) → r ≤ q → q < length services → Follows services (pieceOf services lengths r) (pieceOf services lengths q)
+  follows r q g h =
+      by-test (eqb r q)
+      (λ e. let z : r ≡ q = eqb-true r q e in rw z (record { packets = omega arith; blocks = λ p s. omega arith; alike = λ p b. refl }))
+      (λ e. later-follows r q (omega (arith, eqb-false r q e)) h)

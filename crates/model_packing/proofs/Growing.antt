@@ -1,14 +1,14 @@
 -- The blocks that pieces describe, as one more piece stands behind the others: the block that it names takes its bytes, and every other stays. Assumes nothing.
 use mathlib.Core.Path.{_≡_, refl, sym, ap, _∙_}
-use mathlib.Core.Bool.{Bool, true, false, cond, _&&_}
-use mathlib.Core.List.{List, [], _∷_, _++_, map, flatMap, append-nil, append-assoc}
-use Prim.Native.Nat.{ℕ, zero, suc, _+_, _≤_, _<_}
+use mathlib.Core.Bool.{Bool, true, false, cond}
+use mathlib.Core.List.{List, [], _∷_, _++_, flatMap, append-nil, append-assoc}
+use Prim.Native.Nat.{ℕ, zero, suc, _+_, _≤_}
 use native.Mathlib.Omega.{arith}
 use lib.Dec.{eqb}
 use lib.ListN.{length, take, drop}
 use lib.Seq.{take-all, take-add, drop-drop, drop-nil}
 use borrow.Author.Tests.{eq-eqb, ne-eqb}
-use Rattle.model.specs.Block.{Block, withRun}
+use Rattle.model.specs.Block.{Block}
 use Rattle.model.proofs.Cases.{by-test}
 use Rattle.model_packing.specs.Pieces.{Piece, serviceOf, countFrom, those}
 use Rattle.model_packing.specs.Proposals.{liesIn, piecesIn, blockFor, blocksIn}

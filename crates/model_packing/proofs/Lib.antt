@@ -6,3 +6,5 @@ pub mod Filling
 pub mod Growing
 pub mod AsProposed
 pub mod Following
+pub mod Sending
+pub mod Passing

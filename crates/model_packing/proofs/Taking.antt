@@ -1,16 +1,15 @@
 -- What an accepted push makes of the blocks of a packet, place by place: one block takes the run, the latest of its number then, and every other stays.
 -- Assumes nothing.
 use mathlib.Core.Path.{_≡_, refl, sym, ap, _∙_}
-use mathlib.Core.Bool.{Bool, true, false, cond, _&&_}
+use mathlib.Core.Bool.{true, cond}
 use mathlib.Core.List.{List, [], _∷_, _++_}
 use mathlib.Core.Option.{Option, none, some}
-use Prim.Native.Nat.{ℕ, zero, suc, _+_, _≤_, _<_}
+use Prim.Native.Nat.{ℕ, zero, suc, _≤_, _<_}
 use native.Mathlib.Omega.{arith}
 use lib.Dec.{eqb, ltb}
 use lib.ListN.{length, getD, set, take, drop, length-append, length-set, List·getD-append}
-use lib.Seq.{drop-nil, drop-cons, drop-length, getD-append-seam, getD-set-same, getD-set-other}
+use lib.Seq.{drop-nil, drop-cons, drop-length, getD-append-seam}
 use borrow.Author.Tests.{eq-eqb, ne-eqb, eqb-true, eqb-false}
-use Rattle.model.specs.Said.{Outcome, gave, refused}
 use Rattle.model.specs.Block.{Block, blockLength, blockRoom, withRun}
 use Rattle.model.specs.Packet.{Packet, packetRoom, withBlocks, noBlock, blockAt, latestOf, latest, extended, pushNew, pushAt, pushRunAt, pushRunBy, pushRun}
 use Rattle.model.proofs.Cases.{by-test, by-cond, Gives}
