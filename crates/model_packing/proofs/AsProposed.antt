@@ -17,7 +17,7 @@ use Rattle.model_packing.specs.FirstCome.{placeOr0, firstCome, packable}
 use Rattle.model_packing.proofs.Lists.{In, in-map, in-count}
 use Rattle.model_packing.proofs.Blanks.{blanks, blanked, blankBlock, map-more, latest-blanked, pushed-blank}
 use Rattle.model_packing.proofs.Taking.{Took, push-takes}
-use Rattle.model_packing.proofs.Filling.{Placing, same, next, packedTo, pieceOf, piecesTo, first-come-pieces, bounded, placing-from, placed-from}
+use Rattle.model_packing.proofs.Filling.{Placing, intoSame, intoNext, packedTo, pieceOf, piecesTo, first-come-pieces, bounded, placing-from, placed-from}
 use Rattle.model_packing.proofs.Growing.{Describe, described, none-described, others-same, others-stay, one-grows}
 
 -- an outcome that a map makes into a value gives one that it is made of
@@ -74,7 +74,7 @@ module _ (services lengths : List ℕ) (ok : packable services lengths ≡ true)
 
     module _ (x : Packet) (gives : pushRun (serviceOf services i) (fill (pieceOf services lengths i)) (record { sequence = n; blocks = old }) ≡ gave x)
         (alike : blanked x ≡ packedTo services lengths (suc i) .packet) where
-      -- at the place that its piece names
+      -- and so it is taken,
       took-run : Took (serviceOf services i) (fill (pieceOf services lengths i)) (record { sequence = n; blocks = old }) x
       took-run =
           let s : ℕ = serviceOf services i in
@@ -82,6 +82,7 @@ module _ (services lengths : List ℕ) (ok : packable services lengths ≡ true)
           let p : Packet = record { sequence = n; blocks = old } in
           gives-at (Took s run p) (pushRun s run p) gives (push-takes s run p)
 
+      -- at the place that its piece names,
       place-named : pieceOf services lengths i .block ≡ took-run .place
       place-named =
           let s : ℕ = serviceOf services i in
@@ -94,6 +95,7 @@ module _ (services lengths : List ℕ) (ok : packable services lengths ≡ true)
           let grows = one-grows services fill (piecesTo services lengths i) q b in
           rw (pieces-more services lengths i) (grows ∙ rw (was b) (sym (rw (← place-named) at (took-run .blocks b))))
 
+      -- as the push of the run
       pushed-by : Pushed services lengths fill i n
       pushed-by =
           record {
@@ -116,13 +118,13 @@ module _ (services lengths : List ℕ) (ok : packable services lengths ≡ true)
   pushed-next i n h c = by-placing (placing-from services lengths ok i h)
     where
       by-placing : Placing (serviceOf services i) (blank (getD lengths i 0)) (packedTo services lengths i) (packedTo services lengths (suc i)) → Pushed services lengths fill i n
-      by-placing (same b e) = pushed-from i n h (c .now) (few-alike i (omega arith) (c .now) (c .alike)) (rw b (c .here)) (rw (c .alike) e)
-      by-placing (next b r e) = pushed-from i n h [] (omega arith) (c .later (pieceOf services lengths i .packet) (omega arith)) e
+      by-placing (intoSame b e) = pushed-from i n h (c .now) (few-alike i (omega arith) (c .now) (c .alike)) (rw b (c .here)) (rw (c .alike) e)
+      by-placing (intoNext b r e) = pushed-from i n h [] (omega arith) (c .later (pieceOf services lengths i .packet) (omega arith)) e
 
   -- the packets that its piece does not name stay
-  others : (i p : ℕ) → (pieceOf services lengths i .packet ≡ p → ⊥) → (bs : List Block)
+  others-next : (i p : ℕ) → (pieceOf services lengths i .packet ≡ p → ⊥) → (bs : List Block)
       → Describe services fill (piecesTo services lengths i) p bs → Describe services fill (piecesTo services lengths (suc i)) p bs
-  others i p h bs d = rw (pieces-more services lengths i) (others-stay services fill (piecesTo services lengths i) (pieceOf services lengths i) p h bs d)
+  others-next i p h bs d = rw (pieces-more services lengths i) (others-stay services fill (piecesTo services lengths i) (pieceOf services lengths i) p h bs d)
 
   -- and so it goes on
   carried-next : (i : ℕ) → i < length services → Carried services lengths fill i → Carried services lengths fill (suc i)
@@ -133,7 +135,7 @@ module _ (services lengths : List ℕ) (ok : packable services lengths ≡ true)
         now = s .new;
         here = s .is;
         alike = s .alike;
-        later = λ p g. others i p (λ e. omega arith) [] (c .later p (omega arith));
+        later = λ p g. others-next i p (λ e. omega arith) [] (c .later p (omega arith));
       }
 
   -- no piece, no block
@@ -155,14 +157,14 @@ module _ (services lengths : List ℕ) (ok : packable services lengths ≡ true)
       rw (described services fill _ _ (s .old) (s .was) (omega (arith, s .fewOld)), described services fill _ _ (s .new) (s .is) (omega (arith, s .fewNew))) (s .push)
 
 -- a list of what is made of numbers in their order, cut before one of them
-cut : {A : Type 0} (f : ℕ → A) (a n : ℕ) (ps : List A) (q : A) (qs : List A) → map f (countFrom a n) ≡ ps ++ (q ∷ qs)
+cut-counted : {A : Type 0} (f : ℕ → A) (a n : ℕ) (ps : List A) (q : A) (qs : List A) → map f (countFrom a n) ≡ ps ++ (q ∷ qs)
     → (ps ≡ map f (countFrom a (length ps))) × (q ≡ f (a + length ps)) × (length ps < n)
 unfolding countFrom
-cut f a zero [] q qs e = let z : _≡_ {A = ℕ} 0 1 = cc in absurd (omega arith)
-cut f a zero (p ∷ ps) q qs e = let z : _≡_ {A = ℕ} 0 1 = cc in absurd (omega arith)
-cut f a (suc n) [] q qs e = let z : a + 0 ≡ a = omega arith in (refl, rw z (cc), omega arith)
-cut f a (suc n) (p ∷ ps) q qs e =
-    let t = cut f (suc a) n ps q qs (cc) in
+cut-counted f a zero [] q qs e = let z : _≡_ {A = ℕ} 0 1 = cc in absurd (omega arith)
+cut-counted f a zero (p ∷ ps) q qs e = let z : _≡_ {A = ℕ} 0 1 = cc in absurd (omega arith)
+cut-counted f a (suc n) [] q qs e = let z : a + 0 ≡ a = omega arith in (refl, rw z (cc), omega arith)
+cut-counted f a (suc n) (p ∷ ps) q qs e =
+    let t = cut-counted f (suc a) n ps q qs (cc) in
     let z : suc a + length ps ≡ a + suc (length ps) = omega arith in
     (cc (t .0), t .1 ∙ ap f z, omega (arith, t .2))
 
@@ -184,7 +186,10 @@ pub pushed-as-proposed : (services lengths : List ℕ) → packable services len
 pushed-as-proposed services lengths ok fill long =
     record {
       begins = λ p. described services fill [] p [] (none-described services fill p) (omega arith);
-      taken = taken-by;
+      taken = λ ps q qs e n.
+          let t = cut-counted (pieceOf services lengths) 0 (length services) ps q qs (sym all ∙ e) in
+          let z : 0 + length ps ≡ length ps = omega arith in
+          rw (t .0, t .1, z, ← pieces-more services lengths (length ps)) (run-pushed services lengths ok fill sized (length ps) n (t .2));
       others = λ ps q qs e p h. others-same services fill ps q p h;
     }
   where
@@ -192,12 +197,6 @@ pushed-as-proposed services lengths ok fill long =
     all = first-come-pieces services lengths
 
     sized : (r : ℕ) → r < length services → length (fill (pieceOf services lengths r)) ≡ getD lengths r 0
-    sized r h = long (pieceOf services lengths r) (rw all (in-map (pieceOf services lengths) (countFrom 0 (length services)) (in-count r 0 (length services) (omega arith) (omega arith))))
-
-    taken-by : (ps : List Piece) (q : Piece) (qs : List Piece) → firstCome services lengths ≡ ps ++ (q ∷ qs) → (n : ℕ)
-        → pushRun (serviceOf services (q .run)) (fill q) (record { sequence = n; blocks = blocksIn services fill ps (q .packet) })
-        ≡ gave (record { sequence = n; blocks = blocksIn services fill (ps ++ (q ∷ [])) (q .packet) })
-    taken-by ps q qs e n =
-        let t = cut (pieceOf services lengths) 0 (length services) ps q qs (sym all ∙ e) in
-        let z : 0 + length ps ≡ length ps = omega arith in
-        rw (t .0, t .1, z, ← pieces-more services lengths (length ps)) (run-pushed services lengths ok fill sized (length ps) n (t .2))
+    sized r h =
+        long (pieceOf services lengths r)
+        (rw all (in-map (pieceOf services lengths) (countFrom 0 (length services)) (in-count r 0 (length services) (omega arith) (omega arith))))

@@ -1,7 +1,7 @@
 -- The states of the first-come packer: what placing a run makes of one, the bounds that every one keeps, and the pieces of the proposal by their runs.
 -- Assumes nothing.
 use mathlib.Core.Path.{_≡_, refl, ap}
-use mathlib.Core.Bool.{true}
+use mathlib.Core.Bool.{true, false}
 use mathlib.Core.List.{List, [], _∷_, map}
 use mathlib.Core.Option.{some}
 use Prim.Native.Nat.{ℕ, zero, suc, _≤_, _<_}
@@ -37,12 +37,14 @@ bare-takes s run c =
     let b : Block = record { number = s; payload = run } in
     let l : blockLength b ≤ 33 = omega (arith, block-length b (c .filled), written-length b, written-header-most s, c .small) in
     let e : packetLength noPacket ≡ 0 = length-empty noPacket refl in
-    simp (e, le-ltb 63 s (c .known), ne-eqb (length run) 0 (λ z. omega (arith, c .filled)), ne-eqb s 0 (λ z. omega (arith, c .named)), le-ltb 31 (length run) (c .small), le-ltb 128 (blockLength b) (omega arith))
+    let some : eqb (length run) 0 ≡ false = ne-eqb (length run) 0 (λ z. omega (arith, c .filled)) in
+    let named : eqb s 0 ≡ false = ne-eqb s 0 (λ z. omega (arith, c .named)) in
+    simp (e, le-ltb 63 s (c .known), some, named, le-ltb 31 (length run) (c .small), le-ltb 128 (blockLength b) (omega arith))
 
 -- How a run is placed: the packet that is being filled takes it, or refuses it and one without blocks does.
 pub data Placing (s : ℕ) (run : List ℕ) (at to : Filling) : Type 0 where
-  same : to .before ≡ at .before → pushRun s run (at .packet) ≡ gave (to .packet) → Placing s run at to
-  next : {why : Said} → to .before ≡ suc (at .before) → pushRun s run (at .packet) ≡ refused why → pushRun s run noPacket ≡ gave (to .packet)
+  intoSame : to .before ≡ at .before → pushRun s run (at .packet) ≡ gave (to .packet) → Placing s run at to
+  intoNext : {why : Said} → to .before ≡ suc (at .before) → pushRun s run (at .packet) ≡ refused why → pushRun s run noPacket ≡ gave (to .packet)
       → Placing s run at to
 
 -- every run that may stand in a packet as a block is placed so
@@ -51,8 +53,8 @@ unfolding placed
 placing s run at c = by-push (pushRun s run (at .packet)) refl
   where
     by-push : (o : Outcome Packet) → pushRun s run (at .packet) ≡ o → Placing s run at (filledWith s run at o)
-    by-push (gave p) e = same refl e
-    by-push (refused why) e = next refl e (rw (bare-takes s run c))
+    by-push (gave p) e = intoSame refl e
+    by-push (refused why) e = intoNext refl e (rw (bare-takes s run c))
 
 -- What placing a run of a service makes of a state of the packer.
 pub record PlacedAt (s : ℕ) (at to : Filling) : Type 0 where
@@ -77,8 +79,8 @@ module _ (s : ℕ) (run : List ℕ) (at to : Filling) where
 
   -- as it was, or is one without blocks
   placing-bounds : Valid (at .packet) → Placing s run at to → PlacedAt s at to
-  placing-bounds v (same b e) = taken-bounds (at .packet) v e (omega arith) (omega arith)
-  placing-bounds v (next b r e) = taken-bounds noPacket bare-valid e (omega arith) (omega arith)
+  placing-bounds v (intoSame b e) = taken-bounds (at .packet) v e (omega arith) (omega arith)
+  placing-bounds v (intoNext b r e) = taken-bounds noPacket bare-valid e (omega arith) (omega arith)
 
 -- The bounds of the packer with i runs placed.
 pub record Bounded (i : ℕ) (at : Filling) : Type 0 where
@@ -110,8 +112,8 @@ module _ (services lengths : List ℕ) (i : ℕ) (fits : runFits services length
 
     -- the first run goes to the first packet
     first-placed : at ≡ start → (to : Filling) → Placing (serviceOf services i) (blank (getD lengths i 0)) at to → to .before ≡ 0
-    first-placed e to (same b t) = rw e at b
-    first-placed e to (next b r t) =
+    first-placed e to (intoSame b t) = rw e at b
+    first-placed e to (intoNext b r t) =
         let f = rw e at r in
         let g = bare-takes (serviceOf services i) (blank (getD lengths i 0)) fits-carriable in
         let z : _≡_ {A = ℕ} 0 1 = cc in

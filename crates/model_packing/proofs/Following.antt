@@ -15,7 +15,7 @@ use Rattle.model_packing.specs.Pieces.{Piece, serviceOf}
 use Rattle.model_packing.specs.Proposals.{blank}
 use Rattle.model_packing.specs.FirstCome.{Filling, placeOr0, pieceFor, packable}
 use Rattle.model_packing.proofs.Taking.{Took, push-takes, latest-is, latest-last}
-use Rattle.model_packing.proofs.Filling.{Placing, same, next, PlacedAt, packedTo, pieceOf, placing-from, placed-from}
+use Rattle.model_packing.proofs.Filling.{Placing, intoSame, intoNext, PlacedAt, packedTo, pieceOf, placing-from, placed-from}
 
 -- A piece that was proposed before the packer came to a state: its packet is not behind the one that is being filled, and if it is that one its block is
 -- there, of its service.
@@ -26,14 +26,14 @@ pub record Standing (services : List ℕ) (q : Piece) (at : Filling) : Type 0 wh
 
 -- it stands so when one run more is placed
 standing-next : (services : List ℕ) (q : Piece) (s : ℕ) (run : List ℕ) (at to : Filling) → Standing services q at → Placing s run at to → Standing services q to
-standing-next services q s run at to d (same b e) =
+standing-next services q s run at to d (intoSame b e) =
     let t = gives-at (Took s run (at .packet)) (pushRun s run (at .packet)) e (push-takes s run (at .packet)) in
     record {
       early = omega (arith, d .early);
       there = λ p. t .kept (q .block) (d .there (p ∙ b)) .0;
       named = λ p. t .kept (q .block) (d .there (p ∙ b)) .1 ∙ d .named (p ∙ b);
     }
-standing-next services q s run at to d (next b r e) =
+standing-next services q s run at to d (intoNext b r e) =
     record { early = omega (arith, d .early); there = λ p. absurd (omega (arith, d .early)); named = λ p. absurd (omega (arith, d .early)) }
 
 -- a piece stands so when its own run is placed
@@ -50,11 +50,11 @@ standing-own services r n at to k =
 pub record Follows (services : List ℕ) (r q : Piece) : Type 0 where
   pub packets : r .packet ≤ q .packet
   pub blocks : r .packet ≡ q .packet → serviceOf services (r .run) ≡ serviceOf services (q .run) → r .block ≤ q .block
-  pub alike : r .packet ≡ q .packet → r .block ≡ q .block → serviceOf services (r .run) ≡ serviceOf services (q .run)
+  pub inOneBlock : r .packet ≡ q .packet → r .block ≡ q .block → serviceOf services (r .run) ≡ serviceOf services (q .run)
 
 module _ (services lengths : List ℕ) (ok : packable services lengths ≡ true) where
   -- every piece stands so from then on
-  standing : (i r : ℕ) → r < i → i ≤ length services → Standing services (pieceOf services lengths r) (packedTo services lengths i)
+  pub standing : (i r : ℕ) → r < i → i ≤ length services → Standing services (pieceOf services lengths r) (packedTo services lengths i)
   standing zero r g h = absurd (omega arith)
   standing (suc i) r g h =
       by-test (eqb r i)
@@ -73,12 +73,12 @@ module _ (services lengths : List ℕ) (ok : packable services lengths ≡ true)
       record {
         packets = d .early;
         blocks = λ p s. omega (arith, latest-last (serviceOf services q) (length bs) bs (k .place) (pieceOf services lengths r .block) (k .found) (d .there p) (d .named p ∙ s));
-        alike = λ p b. sym (d .named p) ∙ ap (λ (j : ℕ). getD bs j noBlock .number) b ∙ o .named refl;
+        inOneBlock = λ p b. sym (d .named p) ∙ ap (λ (j : ℕ). getD bs j noBlock .number) b ∙ o .named refl;
       }
 
   -- and so does every piece itself
   pub follows : (r q : ℕ) → r ≤ q → q < length services → Follows services (pieceOf services lengths r) (pieceOf services lengths q)
   follows r q g h =
       by-test (eqb r q)
-      (λ e. let z : r ≡ q = eqb-true r q e in rw z (record { packets = omega arith; blocks = λ p s. omega arith; alike = λ p b. refl }))
+      (λ e. let z : r ≡ q = eqb-true r q e in rw z (record { packets = omega arith; blocks = λ p s. omega arith; inOneBlock = λ p b. refl }))
       (λ e. later-follows r q (omega (arith, eqb-false r q e)) h)

@@ -8,3 +8,4 @@ pub mod AsProposed
 pub mod Following
 pub mod Sending
 pub mod Passing
+pub mod Counting

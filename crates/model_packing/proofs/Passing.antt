@@ -44,10 +44,11 @@ module _ (services lengths : List ℕ) (ok : packable services lengths ≡ true)
   unfolding covers inside heldOnce
   all-covered =
       and-both _ _
-      (each-piece (inside services lengths) (λ r h. simp (le-leb 1 (getD lengths r 0) (run-some services lengths ok r h), lt-ltb r (length services) h, le-leb (0 + getD lengths r 0) (getD lengths r 0) (omega arith))))
+      (each-piece (inside services lengths) (λ r h.
+      simp (le-leb 1 (getD lengths r 0) (run-some services lengths ok r h), lt-ltb r (length services) h, le-leb (0 + getD lengths r 0) (getD lengths r 0) (omega arith))))
       (each-byte (heldOnce all) (λ r k h l. eq-eqb _ _ (held-once services lengths r k h l)))
 
-  -- the bytes of each service keep their order
+  -- two bytes of a service keep their order
   keeps : (i j : ℕ) → i ≤ j → j < length services → (k l : ℕ) → k < getD lengths i 0 → l < getD lengths j 0 → keepsOrder services all (byte i k) (byte j l) ≡ true
   unfolding keepsOrder
   keeps i j h g k l hk hl =
@@ -57,6 +58,7 @@ module _ (services lengths : List ℕ) (ok : packable services lengths ≡ true)
       (not-after-three _ _ _ _ i j (f .packets) (λ p. f .blocks p (eqb-true _ _ e)) h))
       (λ e. rw e)
 
+  -- all bytes of all services
   all-ordered : ordered services lengths all ≡ true
   unfolding ordered bytesOf
   all-ordered =
@@ -86,16 +88,16 @@ module _ (services lengths : List ℕ) (ok : packable services lengths ≡ true)
       (lt-ltb (pieceOf services lengths r .block) 256 (omega (arith, k .within, k .few))))
 
   -- two pieces in one block are of one service,
-  alike : (r q : ℕ) → r < length services → q < length services
+  one-service : (r q : ℕ) → r < length services → q < length services
       → liesIn (pieceOf services lengths q .packet) (pieceOf services lengths q .block) (pieceOf services lengths r) ≡ true → serviceOf services r ≡ serviceOf services q
   unfolding liesIn
-  alike r q g h e =
+  one-service r q g h e =
       let t = both (eqb (pieceOf services lengths r .packet) (pieceOf services lengths q .packet)) (eqb (pieceOf services lengths r .block) (pieceOf services lengths q .block)) e in
       let p : pieceOf services lengths r .packet ≡ pieceOf services lengths q .packet = eqb-true _ _ (t .0) in
       let b : pieceOf services lengths r .block ≡ pieceOf services lengths q .block = eqb-true _ _ (t .1) in
       by-test (leb r q)
-      (λ f. follows services lengths ok r q (leb-true r q f) h .alike p b)
-      (λ f. sym (follows services lengths ok q r (omega (arith, leb-false r q f)) g .alike (sym p) (sym b)))
+      (λ f. follows services lengths ok r q (leb-true r q f) h .inOneBlock p b)
+      (λ f. sym (follows services lengths ok q r (omega (arith, leb-false r q f)) g .inOneBlock (sym p) (sym b)))
 
   -- so every block is
   all-one : every (oneService services all) all ≡ true
@@ -106,14 +108,15 @@ module _ (services lengths : List ℕ) (ok : packable services lengths ≡ true)
       let t = those-in (liesIn (pieceOf services lengths r .packet) (pieceOf services lengths r .block)) all i in
       let u = map-in (pieceOf services lengths) (countFrom 0 (length services)) (t .0) in
       let g : u .0 < length services = omega (arith, count-in (u .0) 0 (length services) (u .1) .1) in
-      rw (u .2) (eq-eqb _ _ (alike (u .0) r g h (rw (u .2) at (t .1))))))
+      rw (u .2) (eq-eqb _ _ (one-service (u .0) r g h (rw (u .2) at (t .1))))))
 
   -- zeros for the bytes of a piece, as many as it has
   abbrev zeros : Piece → List ℕ
   zeros q = blank (q .size)
 
-  sized : (r : ℕ) → r < length services → length (zeros (pieceOf services lengths r)) ≡ getD lengths r 0
-  sized r h = length-replicate (getD lengths r 0) 0
+  -- they are as many as the run has bytes
+  zeros-sized : (r : ℕ) → r < length services → length (zeros (pieceOf services lengths r)) ≡ getD lengths r 0
+  zeros-sized r h = length-replicate (getD lengths r 0) 0
 
   -- no packet breaks a limit
   valid-to : (i : ℕ) → i ≤ length services → (p : ℕ) → Valid (blankPacket services (piecesTo services lengths i) p)
@@ -122,9 +125,10 @@ module _ (services lengths : List ℕ) (ok : packable services lengths ≡ true)
   valid-to (suc i) h p =
       by-test (eqb (pieceOf services lengths i .packet) p)
       (λ e. let z : pieceOf services lengths i .packet ≡ p = eqb-true _ _ e in
-      rw (← z) (gives-at Valid _ (run-pushed services lengths ok zeros sized i 0 h) (run-valid _ (valid-to i (omega arith) (pieceOf services lengths i .packet)) true (serviceOf services i) _)))
+      rw (← z) (gives-at Valid _ (run-pushed services lengths ok zeros zeros-sized i 0 h) (run-valid _ (valid-to i (omega arith) (pieceOf services lengths i .packet)) true (serviceOf services i) _)))
       (λ e. rw (pieces-more services lengths i, others-same services zeros (piecesTo services lengths i) (pieceOf services lengths i) p (eqb-false _ _ e)) (valid-to i (omega arith) p))
 
+  -- no limit is broken
   all-limited : limits services lengths all ≡ true
   unfolding limits packable
   all-limited =

@@ -51,10 +51,11 @@ module _ (services lengths : List ℕ) (r k : ℕ) where
       (λ e. rw (holds-other i (eqb-false i r e)) (sent-own n (suc i) (omega (arith, eqb-false i r e)) (omega arith) l))
 
   module _ (there : r < length services) (l : k < getD lengths r 0) where
-    -- in all of the proposal
+    -- so of all of the proposal it is in one piece
     pub held-once : holders (byte r k) (piecesTo services lengths (length services)) ≡ 1
     held-once = one-holds (length services) 0 (omega arith) (omega arith) l
 
+    -- and it is sent with that of its run
     pub sent-with : sent (piecesTo services lengths (length services)) (byte r k) ≡ (pieceOf services lengths r .packet ∷ (pieceOf services lengths r .block ∷ (r ∷ [])))
     sent-with = sent-own (length services) 0 (omega arith) (omega arith) l
 
@@ -88,7 +89,9 @@ module _ {A : Type 0} (test : A → A → Bool) where
       (two-both l m (t .1) g (λ y z i j. f y z (there i) j))
 
   -- and every two of what is made of numbers in their order
-  pub two-counted : (f : ℕ → List A) (n a : ℕ) → ((i j : ℕ) → i ≤ j → j < a + n → (x y : A) → In x (f i) → In y (f j) → test x y ≡ true) → everyTwo test (flatMap f (countFrom a n)) ≡ true
+  pub two-counted : (f : ℕ → List A) (n a : ℕ)
+      → ((i j : ℕ) → i ≤ j → j < a + n → (x y : A) → In x (f i) → In y (f j) → test x y ≡ true)
+      → everyTwo test (flatMap f (countFrom a n)) ≡ true
   unfolding flatMap countFrom everyTwo
   two-counted f zero a g = refl
   two-counted f (suc n) a g =
