@@ -3,3 +3,12 @@ pub mod Counts
 pub mod Crowded
 pub mod Limits
 pub mod Examples
+pub mod Blanks
+pub mod Taking
+pub mod Filling
+pub mod Growing
+pub mod AsProposed
+pub mod Following
+pub mod Sending
+pub mod Passing
+pub mod Counting
