@@ -9,6 +9,6 @@ pub mod Filling
 pub mod Growing
 pub mod AsProposed
 pub mod Following
-pub mod Sending
+pub mod WholeRuns
 pub mod Passing
 pub mod Counting

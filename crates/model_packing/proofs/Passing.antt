@@ -17,12 +17,12 @@ use Rattle.model.proofs.Pushing.{run-valid}
 use Rattle.model_packing.specs.Pieces.{Piece, Byte, byte, countFrom, runBytes, bytesOf, serviceOf}
 use Rattle.model_packing.specs.Proposals.{inside, heldOnce, covers, keepsOrder, ordered, withFirst, unsplit, liesIn, piecesIn, blank, blankPacket, runsFit, numbered, oneService, limits, checkProposal}
 use Rattle.model_packing.specs.FirstCome.{placeOr0, firstCome, packable}
-use Rattle.model_packing.proofs.Lists.{in-every, those-in, map-in, count-in, count-every, bytes-in}
+use Rattle.model_packing.proofs.Lists.{in-every, those-in, map-in, count-in, bytes-in}
 use Rattle.model_packing.proofs.Filling.{bare-valid, packedTo, pieceOf, piecesTo, first-come-pieces, few-runs, run-some, bounded, placed-from}
 use Rattle.model_packing.proofs.Growing.{described, none-described, others-same}
 use Rattle.model_packing.proofs.AsProposed.{pieces-more, run-pushed}
 use Rattle.model_packing.proofs.Following.{follows}
-use Rattle.model_packing.proofs.Sending.{held-once, sent-with, not-after-three, two-counted, run-bytes-in}
+use Rattle.model_packing.proofs.WholeRuns.{held-once, sent-with, not-after-three, two-counted, run-bytes-in}
 
 module _ (services lengths : List ℕ) (ok : packable services lengths ≡ true) where
   -- the proposal, by its runs
@@ -135,7 +135,7 @@ module _ (services lengths : List ℕ) (ok : packable services lengths ≡ true)
       and-both _ _ (both (leb (length services) 256) (runsFit services lengths) ok .1)
       (and-both _ _ all-numbered
       (and-both _ _ all-one
-      (count-every (λ p. validPacket (blankPacket services all p)) 0 256 (λ p h g. facts-valid (blankPacket services all p) (valid-to (length services) (omega arith) p)))))
+      (in-every _ all (λ q _. facts-valid (blankPacket services all (q .packet)) (valid-to (length services) (omega arith) (q .packet))))))
 
   -- What the packer proposes passes.
   pub passes : checkProposal services lengths (firstCome services lengths) ≡ accepted []
