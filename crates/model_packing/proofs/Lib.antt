@@ -1,2 +1,5 @@
 pub mod Lists
 pub mod Examples
+pub mod Maps
+pub mod Sorted
+pub mod Sending
