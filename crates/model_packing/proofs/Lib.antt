@@ -3,3 +3,7 @@ pub mod Examples
 pub mod Maps
 pub mod Sorted
 pub mod Sending
+pub mod Accepted
+pub mod Bytes
+pub mod Spoken
+pub mod Alike
