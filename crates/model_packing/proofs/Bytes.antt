@@ -40,6 +40,10 @@ by-order x y same less more =
 abbrev pub bytesFrom : ℕ → ℕ → ℕ → List Byte
 bytesFrom r a n = map (byte r) (countFrom a n)
 
+-- they are of that run
+pub bytes-run : (x : Byte) (r a n : ℕ) → In x (bytesFrom r a n) → x .run ≡ r
+bytes-run x r a n i = ap (λ (y : Byte). y .run) (map-in (byte r) (countFrom a n) i .2)
+
 -- the bytes of a piece
 abbrev pub pieceBytes : Piece → List Byte
 pieceBytes q = bytesFrom (q .run) (q .first) (q .size)
@@ -59,7 +63,7 @@ piece-in x q i =
     let t = map-in (byte (q .run)) (countFrom (q .first) (q .size)) i in
     let f = count-in (t .0) (q .first) (q .size) (t .1) in
     let p : x .place ≡ t .0 = ap (λ (y : Byte). y .place) (t .2) in
-    (ap (λ (y : Byte). y .run) (t .2), omega (arith, f .0), omega (arith, f .1))
+    (bytes-run x (q .run) (q .first) (q .size) i, omega (arith, f .0), omega (arith, f .1))
 
 -- so it holds them
 pub piece-holds : (x : Byte) (q : Piece) → In x (pieceBytes q) → holds x q ≡ true
@@ -75,10 +79,7 @@ pub all-sorted : (services lengths : List ℕ) → Sorted Earlier (bytesOf servi
 unfolding bytesOf runBytes
 all-sorted services lengths =
     sorted-flatMap (runBytes lengths) (sorted-count 0 (length services)) (λ r _. bytes-sorted r 0 (getD lengths r 0))
-    (λ r v x y h _ _ i j.
-    let e : x .run ≡ r = ap (λ (z : Byte). z .run) (map-in (byte r) (countFrom 0 (getD lengths r 0)) i .2) in
-    let f : y .run ≡ v = ap (λ (z : Byte). z .run) (map-in (byte v) (countFrom 0 (getD lengths v 0)) j .2) in
-    byRun (omega arith))
+    (λ r v x y h _ _ i j. byRun (omega (arith, bytes-run x r 0 (getD lengths r 0) i, bytes-run y v 0 (getD lengths v 0) j)))
 
 -- the number that a byte is
 abbrev pub numberAt : List (List ℕ) → Byte → ℕ

@@ -7,3 +7,5 @@ pub mod Accepted
 pub mod Bytes
 pub mod Spoken
 pub mod Alike
+pub mod Heard
+pub mod Carried

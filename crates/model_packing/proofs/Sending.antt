@@ -78,7 +78,7 @@ unfoldable pub sending : List Piece → List Listed
 sending ps = flatMap (λ p. flatMap (λ b. listedIn p b ps) (countFrom 0 mostNumbers)) (countFrom 0 mostNumbers)
 
 -- the packet and the block of a piece that lies in them
-lies-facts : (p b : ℕ) (q : Piece) → liesIn p b q ≡ true → (q .packet ≡ p) × (q .block ≡ b)
+pub lies-facts : (p b : ℕ) (q : Piece) → liesIn p b q ≡ true → (q .packet ≡ p) × (q .block ≡ b)
 unfolding liesIn
 lies-facts p b q e = let f = both (eqb (q .packet) p) (eqb (q .block) b) e in (eqb-true _ _ (f .0), eqb-true _ _ (f .1))
 
