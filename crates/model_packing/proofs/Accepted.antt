@@ -2,16 +2,18 @@
 use mathlib.Core.Path.{_≡_, refl, ap}
 use mathlib.Core.Bool.{Bool, true, false, cond, _&&_}
 use mathlib.Core.List.{List, []}
-use Prim.Native.Nat.{ℕ}
+use Prim.Native.Nat.{ℕ, _+_, _≤_, _<_}
 use native.Mathlib.Omega.{arith}
-use lib.Dec.{ltb}
-use lib.ListN.{length}
+use lib.Dec.{leb, ltb}
+use lib.ListN.{length, getD}
+use borrow.Author.Tests.{leb-true, ltb-true}
 use Rattle.model.specs.Lists.{every}
 use Rattle.model.specs.Said.{Said, accepted, badCover, outOfOrder, runSplit, overLimit}
 use Rattle.model.specs.Packet.{validPacket}
 use Rattle.model.proofs.Cases.{both}
 use Rattle.model_packing.specs.Pieces.{Piece, countFrom, bytesOf, everyTwo}
 use Rattle.model_packing.specs.Proposals.{inside, heldOnce, covers, keepsOrder, ordered, unsplit, blankPacket, mostNumbers, runsFit, numbered, oneService, limits, mostRuns, checkProposal}
+use Rattle.model_packing.proofs.Lists.{In, every-in}
 
 -- the tests of a proposal that its packets rest on
 pub record Passes (services lengths : List ℕ) (ps : List Piece) : Type 0 where
@@ -51,3 +53,18 @@ accepted-passes services lengths ps e =
     let g = both (every numbered ps) (every (oneService services ps) ps && within) (f .1) in
     let h = both (every (oneService services ps) ps) within (g .1) in
     record { all-there = c .0; each-once = c .1; in-order = order .0; one-byte = g .0; of-one = h .0; in-limits = h .1 }
+
+-- a piece that is inside its run, as facts
+pub record Inside (services lengths : List ℕ) (q : Piece) : Type 0 where
+  pub some : 1 ≤ q .size
+  pub there : q .run < length services
+  pub ends : q .first + q .size ≤ getD lengths (q .run) 0
+
+-- each piece is
+pub piece-inside : {services lengths : List ℕ} {ps : List Piece} → Passes services lengths ps → (q : Piece) → In q ps → Inside services lengths q
+unfolding inside
+piece-inside {services} {lengths} {ps} ok q i =
+    let e = every-in (inside services lengths) ps (ok .all-there) i in
+    let f = both (leb 1 (q .size)) (ltb (q .run) (length services) && leb (q .first + q .size) (getD lengths (q .run) 0)) e in
+    let g = both (ltb (q .run) (length services)) (leb (q .first + q .size) (getD lengths (q .run) 0)) (f .1) in
+    record { some = leb-true _ _ (f .0); there = ltb-true _ _ (g .0); ends = leb-true _ _ (g .1) }

@@ -1,18 +1,15 @@
 -- Blocks that differ in what their bytes say alone: such packets are within the limits alike. Assumes nothing.
-use mathlib.Core.Path.{_≡_, refl, sym, ap, ap₂, subst, _∙_}
-use mathlib.Core.Bool.{Bool, true, false, cond, _&&_}
-use mathlib.Core.List.{List, [], _∷_, _++_, map, flatMap}
-use Prim.Native.Nat.{ℕ, zero, suc, _+_, _≤_, _<_}
+use mathlib.Core.Path.{_≡_, refl, ap, ap₂, _∙_}
+use mathlib.Core.Bool.{true}
+use mathlib.Core.List.{List, [], _∷_, _++_, flatMap}
+use Prim.Native.Nat.{ℕ, suc, _+_, _≤_}
 use native.Mathlib.Omega.{arith}
-use lib.Dec.{eqb, leb, ltb}
 use lib.ListN.{length, length-append}
-use borrow.Author.Tests.{ltb-true, ltb-false}
 use Rattle.model.specs.Lists.{every}
 use Rattle.model.specs.Block.{Block, blockLength}
-use Rattle.model.specs.Packet.{Packet, carriable, blocksLength, packetLength, validPacket}
-use Rattle.model.proofs.Cases.{by-test, both}
+use Rattle.model.specs.Packet.{carriable, blocksLength, packetLength, validPacket}
 use Rattle.model.proofs.Blocks.{written-length}
-use Rattle.model.proofs.Packets.{Valid, valid-facts, facts-valid}
+use Rattle.model.proofs.Packets.{valid-facts, facts-valid}
 use Rattle.model_packing.specs.Pieces.{Piece, countFrom}
 use Rattle.model_packing.specs.Proposals.{mostNumbers, liesIn, piecesIn, blockFor, blocksIn}
 use Rattle.model_packing.proofs.Lists.{In, here, there, those-in}

@@ -1,14 +1,14 @@
 -- Bytes of pieces and of runs: their order, and the numbers that they are. Assumes nothing.
-use mathlib.Core.Path.{_≡_, refl, sym, ap, ap₂, subst, _∙_}
-use mathlib.Core.Bool.{Bool, true, false, cond, _&&_}
-use mathlib.Core.List.{List, [], _∷_, map, flatMap}
+use mathlib.Core.Path.{_≡_, refl, sym, ap, ap₂, subst}
+use mathlib.Core.Bool.{true, _&&_}
+use mathlib.Core.List.{List, [], _∷_, map}
 use Prim.Native.Nat.{ℕ, zero, suc, _+_, _≤_, _<_}
 use native.Mathlib.Omega.{arith}
 use lib.Dec.{eqb, leb, ltb}
 use lib.ListN.{length, getD, take, drop}
 use lib.Seq.{drop-cons}
-use borrow.Author.Tests.{eq-eqb, le-leb, lt-ltb, eqb-true, eqb-false, leb-true, ltb-true, ltb-false}
-use Rattle.model.proofs.Cases.{by-test, both, and-both}
+use borrow.Author.Tests.{eq-eqb, le-leb, lt-ltb, eqb-true, leb-true, ltb-true, ltb-false}
+use Rattle.model.proofs.Cases.{by-test, both}
 use Rattle.model_packing.specs.Pieces.{Piece, Byte, byte, countFrom, runBytes, bytesOf}
 use Rattle.model_packing.specs.Proposals.{holds}
 use Rattle.model_packing.proofs.Lists.{In, in-map, map-in, in-count, count-in}

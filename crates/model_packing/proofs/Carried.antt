@@ -1,9 +1,9 @@
 -- Any accepted proposal can be carried out: its packets are within the limits and are read back as they were written, and what they say to each service
--- is all that it is to hear, in order. Assumes nothing.
+-- is all that is spoken to it, in order. Assumes nothing.
 use mathlib.Core.Path.{_≡_, refl, sym, ap, _∙_}
 use mathlib.Core.Bool.{true}
 use mathlib.Core.List.{List, [], _∷_, _++_, map, flatMap}
-use Prim.Native.Nat.{ℕ, suc, _+_, _≤_}
+use Prim.Native.Nat.{ℕ, suc, _≤_}
 use native.Mathlib.Omega.{arith}
 use lib.ListN.{length, getD, drop, length-drop, length-replicate, List·getD-map}
 use lib.Seq.{length-take-le}
@@ -15,35 +15,37 @@ use Rattle.model.specs.Demux.{closed, packetsOf}
 use Rattle.model.proofs.Packets.{valid-facts, plain-back}
 use Rattle.model.proofs.Fill.{tidy-back}
 use Rattle.model_packing.specs.Pieces.{Piece, countFrom}
-use Rattle.model_packing.specs.Proposals.{inside, mostNumbers, blocksIn, blank, blankPacket, checkProposal}
+use Rattle.model_packing.specs.Proposals.{mostNumbers, blocksIn, blank, blankPacket, checkProposal}
 use Rattle.model_packing.specs.Carrying.{bytesIn, someBlock, proposedPackets, sequencedFrom, spoken, heardIn, heard}
 use Rattle.model_packing.proofs.Lists.{In, here, there, every-in, those-in, map-in}
 use Rattle.model_packing.proofs.Alike.{valid-alike, packet-alike}
-use Rattle.model_packing.proofs.Accepted.{Passes, accepted-passes}
-use Rattle.model_packing.proofs.Spoken.{inside-facts}
+use Rattle.model_packing.proofs.Accepted.{Passes, accepted-passes, Inside, piece-inside}
 use Rattle.model_packing.proofs.Heard.{heard-spoken}
 
--- a packet of blocks and a sequence number
-abbrev packet : ℕ → List Block → Packet
-packet n bs = record { sequence = n; blocks = bs }
+-- a packet that can be sent: it is within the limits, and both readers give it back as it was written
+pub record Sendable (p : Packet) : Type 0 where
+  pub within-limits : validPacket p ≡ true
+  pub read-plainly : readPacket (writtenPacket p) ≡ gave p
+  pub read-tidily : readTidy (writtenPacket p) ≡ gave p
 
--- A proposal carried out: each of its packets, whatever its sequence number, is within the limits; the plain reader and the tidy one give it back as it
--- was written; and the packets, written with any sequence numbers and read back, say to each service all that it is to hear, in order, once.
+-- blocks that make such a packet with any sequence number
+abbrev pub AnySendable : List Block → Type 0
+AnySendable bs = (n : ℕ) → n ≤ 3 → Sendable (record { sequence = n; blocks = bs })
+
+-- A proposal carried out with the bytes of runs: each of its packets can be sent; and where they are written, with any sequence numbers, and read
+-- back, they say to each service all that is spoken to it, in order, once each.
 pub record Carries (services : List ℕ) (runs : List (List ℕ)) (ps : List Piece) : Type 0 where
-  pub within-limits : (bs : List Block) → In bs (proposedPackets services runs ps) → (n : ℕ) → n ≤ 3 → validPacket (packet n bs) ≡ true
-  pub read-plainly : (bs : List Block) → In bs (proposedPackets services runs ps) → (n : ℕ) → n ≤ 3 → readPacket (writtenPacket (packet n bs)) ≡ gave (packet n bs)
-  pub read-tidily : (bs : List Block) → In bs (proposedPackets services runs ps) → (n : ℕ) → n ≤ 3 → readTidy (writtenPacket (packet n bs)) ≡ gave (packet n bs)
+  pub each-sendable : (bs : List Block) → In bs (proposedPackets services runs ps) → AnySendable bs
   pub heard-in-order : (sequence : ℕ → ℕ) → ((i : ℕ) → sequence i ≤ 3) → (s : ℕ)
-    → heard s (packetsOf (map writtenPacket (sequencedFrom sequence 0 (proposedPackets services runs ps)))) ≡ spoken s services runs
+      → heard s (packetsOf (map writtenPacket (sequencedFrom sequence 0 (proposedPackets services runs ps)))) ≡ spoken s services runs
 
--- packets that are within the limits are read back as they were written, with any sequence numbers
-packets-back : (sequence : ℕ → ℕ) → ((i : ℕ) → sequence i ≤ 3) → (i : ℕ) (l : List (List Block))
-    → ((bs : List Block) → In bs l → (n : ℕ) → n ≤ 3 → readPacket (writtenPacket (packet n bs)) ≡ gave (packet n bs))
+-- such packets are read back as they were written, one after the other
+packets-back : (sequence : ℕ → ℕ) → ((i : ℕ) → sequence i ≤ 3) → (i : ℕ) (l : List (List Block)) → ((bs : List Block) → In bs l → AnySendable bs)
     → packetsOf (map writtenPacket (sequencedFrom sequence i l)) ≡ sequencedFrom sequence i l
 unfolding packetsOf closed sequencedFrom
-packets-back sequence few i [] back = refl
-packets-back sequence few i (bs ∷ l) back =
-    rw (back bs (here refl) (sequence i) (few i), packets-back sequence few (suc i) l (λ cs j. back cs (there j)))
+packets-back sequence few i [] can = refl
+packets-back sequence few i (bs ∷ l) can =
+    rw (can bs (here refl) (sequence i) (few i) .read-plainly, packets-back sequence few (suc i) l (λ cs j. can cs (there j)))
 
 -- what they say is what their blocks say
 sequenced-heard : (sequence : ℕ → ℕ) (i : ℕ) (l : List (List Block)) (s : ℕ) → heard s (sequencedFrom sequence i l) ≡ flatMap (heardIn s) l
@@ -52,48 +54,44 @@ sequenced-heard sequence i [] s = refl
 sequenced-heard sequence i (bs ∷ l) s = ap (λ (h : List ℕ). heardIn s bs ++ h) (sequenced-heard sequence (suc i) l s)
 
 module _ (services : List ℕ) (runs : List (List ℕ)) (ps : List Piece) (ok : Passes services (map length runs) ps) where
-  -- a piece has as many bytes as it says
+  -- a piece has as many bytes as it says,
   piece-length : (q : Piece) → In q ps → length (bytesIn runs q) ≡ q .size
   unfolding bytesIn
   piece-length q i =
-      let f = inside-facts services (map length runs) q (every-in (inside services (map length runs)) ps (ok .all-there) i) in
+      let f : Inside services (map length runs) q = piece-inside ok q i in
       let run : List ℕ = getD runs (q .run) [] in
-      length-take-le (q .size) (drop (q .first) run) (omega (arith, f .end, length-drop (q .first) run, List·getD-map length runs (q .run) []))
+      length-take-le (q .size) (drop (q .first) run) (omega (arith, length-drop (q .first) run, List·getD-map length runs (q .run) []))
 
-  -- so its packets are within the limits, as they are with other bytes
-  packets-within : (bs : List Block) → In bs (proposedPackets services runs ps) → (n : ℕ) → n ≤ 3 → validPacket (packet n bs) ≡ true
+  -- so a packet with these bytes is within the limits, as it is with any others
+  filled-valid : (p n : ℕ) → n ≤ 3 → In p (countFrom 0 mostNumbers) → validPacket (record { sequence = n; blocks = blocksIn services (bytesIn runs) ps p }) ≡ true
+  filled-valid p n few i =
+      let same-lengths : (q : Piece) → In q ps → length (bytesIn runs q) ≡ length (blank (q .size)) = λ q j. piece-length q j ∙ sym (length-replicate (q .size) 0) in
+      valid-alike n 0 few (packet-alike services (bytesIn runs) (λ q. blank (q .size)) ps p same-lengths)
+      (every-in (λ r. validPacket (blankPacket services ps r)) (countFrom 0 mostNumbers) (ok .in-limits) i)
+
+  -- a packet of the proposal has a block, and can be sent
+  packet-sendable : (bs : List Block) → In bs (proposedPackets services runs ps) → AnySendable bs
   unfolding proposedPackets
-  packets-within bs i n few =
-      let f = map-in (blocksIn services (bytesIn runs) ps) (countFrom 0 mostNumbers) (those-in someBlock (map (blocksIn services (bytesIn runs) ps) (countFrom 0 mostNumbers)) i .0) in
-      let p : ℕ = f .0 in
-      let v : validPacket (blankPacket services ps p) ≡ true = every-in (λ r. validPacket (blankPacket services ps r)) (countFrom 0 mostNumbers) (ok .in-limits) (f .1) in
-      rw (f .2) (valid-alike n 0 few (packet-alike services (bytesIn runs) (λ q. blank (q .size)) ps p (λ q j. piece-length q j ∙ sym (length-replicate (q .size) 0))) v)
-
-  -- each has a block
-  packets-some : (bs : List Block) → In bs (proposedPackets services runs ps) → 1 ≤ length bs
-  unfolding proposedPackets
-  packets-some bs i = leb-true _ _ (those-in someBlock (map (blocksIn services (bytesIn runs) ps) (countFrom 0 mostNumbers)) i .1)
-
-  -- so both readers give them back
-  packet-plainly : (bs : List Block) → In bs (proposedPackets services runs ps) → (n : ℕ) → n ≤ 3 → readPacket (writtenPacket (packet n bs)) ≡ gave (packet n bs)
-  packet-plainly bs i n few = plain-back (packet n bs) (valid-facts (packet n bs) (packets-within bs i n few))
-
-  packet-tidily : (bs : List Block) → In bs (proposedPackets services runs ps) → (n : ℕ) → n ≤ 3 → readTidy (writtenPacket (packet n bs)) ≡ gave (packet n bs)
-  packet-tidily bs i n few = tidy-back (packet n bs) (valid-facts (packet n bs) (packets-within bs i n few)) (packets-some bs i)
-
-  -- a proposal that passes its tests is carried out
-  passes-carried : Carries services runs ps
-  passes-carried =
+  packet-sendable bs i n few =
+      let p : Packet = record { sequence = n; blocks = bs } in
+      let f = those-in someBlock (map (blocksIn services (bytesIn runs) ps) (countFrom 0 mostNumbers)) i in
+      let g = map-in (blocksIn services (bytesIn runs) ps) (countFrom 0 mostNumbers) (f .0) in
+      let valid : validPacket p ≡ true = rw (g .2) (filled-valid (g .0) n few (g .1)) in
       record {
-        within-limits = packets-within;
-        read-plainly = packet-plainly;
-        read-tidily = packet-tidily;
-        heard-in-order = λ sequence few s.
-          ap (heard s) (packets-back sequence few 0 (proposedPackets services runs ps) packet-plainly)
-          ∙ sequenced-heard sequence 0 (proposedPackets services runs ps) s
-          ∙ heard-spoken services runs ps ok s;
+        within-limits = valid;
+        read-plainly = plain-back p (valid-facts p valid);
+        read-tidily = tidy-back p (valid-facts p valid) (leb-true _ _ (f .1));
       }
 
 -- Any accepted proposal can be carried out.
 pub accepted-carried : (services : List ℕ) (runs : List (List ℕ)) (ps : List Piece) → checkProposal services (map length runs) ps ≡ accepted [] → Carries services runs ps
-accepted-carried services runs ps e = passes-carried services runs ps (accepted-passes services (map length runs) ps e)
+accepted-carried services runs ps e =
+    let ok : Passes services (map length runs) ps = accepted-passes services (map length runs) ps e in
+    let packets : List (List Block) = proposedPackets services runs ps in
+    record {
+      each-sendable = packet-sendable services runs ps ok;
+      heard-in-order = λ sequence few s.
+          ap (heard s) (packets-back sequence few 0 packets (packet-sendable services runs ps ok))
+          ∙ sequenced-heard sequence 0 packets s
+          ∙ heard-spoken services runs ps ok s;
+    }

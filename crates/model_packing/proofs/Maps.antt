@@ -1,6 +1,6 @@
 -- What maps of lists make one after the other, and of those elements that pass a test. Assumes nothing.
-use mathlib.Core.Path.{_≡_, refl, sym, ap, _∙_}
-use mathlib.Core.Bool.{Bool, true, false, cond}
+use mathlib.Core.Path.{_≡_, refl, sym, _∙_}
+use mathlib.Core.Bool.{Bool, true, false}
 use mathlib.Core.List.{List, [], _∷_, _++_, map, flatMap, append-assoc}
 use Rattle.model.proofs.Cases.{by-test}
 use Rattle.model_packing.specs.Pieces.{those}

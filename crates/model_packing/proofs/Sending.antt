@@ -1,16 +1,16 @@
 -- The order in which the pieces of a proposal are sent: by packet, then by block, then by their places in the list. Assumes nothing.
-use mathlib.Core.Path.{_≡_, refl, sym, ap, subst, _∙_}
-use mathlib.Core.Bool.{Bool, true, false, cond, _&&_, false≢true}
-use mathlib.Core.List.{List, [], _∷_, _++_, map, flatMap}
-use Prim.Native.Nat.{ℕ, zero, suc, _+_, _≤_, _<_}
+use mathlib.Core.Path.{_≡_, refl, sym, ap, _∙_}
+use mathlib.Core.Bool.{true, false, false≢true}
+use mathlib.Core.List.{List, [], _∷_, map, flatMap}
+use Prim.Native.Nat.{ℕ, suc, _≤_, _<_}
 use native.Mathlib.Omega.{arith}
 use lib.Dec.{eqb, ltb}
-use borrow.Author.Tests.{eq-eqb, ne-eqb, le-ltb, lt-ltb, eqb-true, ltb-true}
+use borrow.Author.Tests.{eq-eqb, ne-eqb, le-ltb, eqb-true, ltb-true}
 use Rattle.model.specs.Lists.{every}
 use Rattle.model.proofs.Cases.{by-test, both, and-both}
 use Rattle.model_packing.specs.Pieces.{Piece, Byte, countFrom, those, notAfter}
-use Rattle.model_packing.specs.Proposals.{holds, holders, sentFrom, sent, mostNumbers, liesIn, piecesIn, numbered}
-use Rattle.model_packing.proofs.Lists.{In, here, there, every-in, in-those, those-in, in-flatMap, flatMap-in, in-count, count-in}
+use Rattle.model_packing.specs.Proposals.{holds, holders, sentFrom, mostNumbers, liesIn, piecesIn, numbered}
+use Rattle.model_packing.proofs.Lists.{In, here, there, every-in, in-those, those-in, in-flatMap, flatMap-in, in-count}
 use Rattle.model_packing.proofs.Maps.{those-map}
 use Rattle.model_packing.proofs.Sorted.{Sorted, none, next, sorted-those, sorted-by, sorted-flatMap, sorted-count}
 
@@ -73,9 +73,13 @@ pub listed-block : (p b : ℕ) (ps : List Piece) → piecesIn p b ps ≡ map (λ
 listed-block p b ps =
     ap (those (liesIn p b)) (sym (listed-pieces 0 ps)) ∙ those-map (liesIn p b) (λ (t : Listed). t .piece) (listedFrom 0 ps)
 
--- all pieces, as they are sent
-unfoldable pub sending : List Piece → List Listed
-sending ps = flatMap (λ p. flatMap (λ b. listedIn p b ps) (countFrom 0 mostNumbers)) (countFrom 0 mostNumbers)
+-- the pieces of a packet, by its blocks
+abbrev pub packetListed : ℕ → List Piece → List Listed
+packetListed p ps = flatMap (λ b. listedIn p b ps) (countFrom 0 mostNumbers)
+
+-- all pieces, as they are sent: by their packets
+unfoldable pub sendingOrder : List Piece → List Listed
+sendingOrder ps = flatMap (λ p. packetListed p ps) (countFrom 0 mostNumbers)
 
 -- the packet and the block of a piece that lies in them
 pub lies-facts : (p b : ℕ) (q : Piece) → liesIn p b q ≡ true → (q .packet ≡ p) × (q .block ≡ b)
@@ -90,7 +94,7 @@ block-facts p b ps {t} i =
     (f .0, g .0, g .1)
 
 -- a piece of a packet: it is in one of its blocks
-packet-facts : (p : ℕ) (ps : List Piece) {t : Listed} → In t (flatMap (λ b. listedIn p b ps) (countFrom 0 mostNumbers)) → In t (listedFrom 0 ps) × (t .piece .packet ≡ p)
+packet-facts : (p : ℕ) (ps : List Piece) {t : Listed} → In t (packetListed p ps) → In t (listedFrom 0 ps) × (t .piece .packet ≡ p)
 packet-facts p ps i =
     let f = flatMap-in (λ b. listedIn p b ps) (countFrom 0 mostNumbers) i in
     let g = block-facts p (f .0) ps (f .2) in
@@ -113,7 +117,7 @@ block-sorted p b ps =
     after-rest _ _ _ _ (g .1 ∙ sym (f .1)) (after-rest _ _ _ _ (g .2 ∙ sym (f .2)) (after-first (u .place) (t .place) _ _ less)))
 
 -- those of a packet by their blocks,
-packet-sorted : (p : ℕ) (ps : List Piece) → Sorted SentBefore (flatMap (λ b. listedIn p b ps) (countFrom 0 mostNumbers))
+packet-sorted : (p : ℕ) (ps : List Piece) → Sorted SentBefore (packetListed p ps)
 packet-sorted p ps =
     sorted-flatMap (λ b. listedIn p b ps) (sorted-count 0 mostNumbers) (λ b _. block-sorted p b ps)
     (λ b c t u less _ _ i j.
@@ -122,25 +126,25 @@ packet-sorted p ps =
     after-rest _ _ _ _ (g .1 ∙ sym (f .1)) (after-first (u .piece .block) (t .piece .block) _ _ (omega (arith, f .2, g .2))))
 
 -- and all by their packets
-pub sending-sorted : (ps : List Piece) → Sorted SentBefore (sending ps)
-unfolding sending
+pub sending-sorted : (ps : List Piece) → Sorted SentBefore (sendingOrder ps)
+unfolding sendingOrder
 sending-sorted ps =
-    sorted-flatMap (λ p. flatMap (λ b. listedIn p b ps) (countFrom 0 mostNumbers)) (sorted-count 0 mostNumbers) (λ p _. packet-sorted p ps)
+    sorted-flatMap (λ p. packetListed p ps) (sorted-count 0 mostNumbers) (λ p _. packet-sorted p ps)
     (λ p r t u less _ _ i j. after-first (u .piece .packet) (t .piece .packet) _ _ (omega (arith, packet-facts p ps i .1, packet-facts r ps j .1)))
 
 -- what is sent is listed,
-pub sending-in : (ps : List Piece) {t : Listed} → In t (sending ps) → In t (listedFrom 0 ps)
-unfolding sending
-sending-in ps i = let f = flatMap-in (λ p. flatMap (λ b. listedIn p b ps) (countFrom 0 mostNumbers)) (countFrom 0 mostNumbers) i in packet-facts (f .0) ps (f .2) .0
+pub sending-in : (ps : List Piece) {t : Listed} → In t (sendingOrder ps) → In t (listedFrom 0 ps)
+unfolding sendingOrder
+sending-in ps i = let f = flatMap-in (λ p. packetListed p ps) (countFrom 0 mostNumbers) i in packet-facts (f .0) ps (f .2) .0
 
 -- and what is listed is sent, if packets and blocks have numbers of one byte
-pub in-sending : (ps : List Piece) → every numbered ps ≡ true → {t : Listed} → In t (listedFrom 0 ps) → In t (sending ps)
-unfolding sending numbered liesIn
+pub in-sending : (ps : List Piece) → every numbered ps ≡ true → {t : Listed} → In t (listedFrom 0 ps) → In t (sendingOrder ps)
+unfolding sendingOrder numbered liesIn
 in-sending ps e {t} i =
     let q : Piece = t .piece in
     let f = both (ltb (q .packet) mostNumbers) (ltb (q .block) mostNumbers) (every-in numbered ps e (listed-in 0 ps i .1)) in
     let lies : liesIn (q .packet) (q .block) q ≡ true = and-both (eqb (q .packet) (q .packet)) (eqb (q .block) (q .block)) (eq-eqb (q .packet) (q .packet) refl) (eq-eqb (q .block) (q .block) refl) in
-    in-flatMap (λ p. flatMap (λ b. listedIn p b ps) (countFrom 0 mostNumbers)) (countFrom 0 mostNumbers)
+    in-flatMap (λ p. packetListed p ps) (countFrom 0 mostNumbers)
     (in-count (q .packet) 0 mostNumbers (omega arith) (omega (arith, ltb-true (q .packet) mostNumbers (f .0))))
     (in-flatMap (λ b. listedIn (q .packet) b ps) (countFrom 0 mostNumbers)
     (in-count (q .block) 0 mostNumbers (omega arith) (omega (arith, ltb-true (q .block) mostNumbers (f .1))))
