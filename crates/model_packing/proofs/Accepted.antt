@@ -47,11 +47,10 @@ accepted-passes services lengths ps e =
     let order = both-passed (ordered services lengths ps) _ outOfOrder (λ z. omega arith) (cover .1) in
     let whole = both-passed (unsplit services lengths ps) _ runSplit (λ z. omega arith) (order .1) in
     let limit = both-passed (limits services lengths ps) _ overLimit (λ z. omega arith) (whole .1) in
-    let c = both (every (inside services lengths) ps) (every (heldOnce ps) (bytesOf services lengths)) (cover .0) in
-    let within : Bool = every (λ p. validPacket (blankPacket services ps p)) (countFrom 0 mostNumbers) in
-    let f = both (runsFit services lengths) (every numbered ps && (every (oneService services ps) ps && within)) (limit .0) in
-    let g = both (every numbered ps) (every (oneService services ps) ps && within) (f .1) in
-    let h = both (every (oneService services ps) ps) within (g .1) in
+    let c = both _ _ (cover .0) in
+    let f = both (runsFit services lengths) _ (limit .0) in
+    let g = both _ _ (f .1) in
+    let h = both _ _ (g .1) in
     record { all-there = c .0; each-once = c .1; in-order = order .0; one-byte = g .0; of-one = h .0; in-limits = h .1 }
 
 -- a piece that is inside its run, as facts
@@ -65,6 +64,6 @@ pub piece-inside : {services lengths : List ℕ} {ps : List Piece} → Passes se
 unfolding inside
 piece-inside {services} {lengths} {ps} ok q i =
     let e = every-in (inside services lengths) ps (ok .all-there) i in
-    let f = both (leb 1 (q .size)) (ltb (q .run) (length services) && leb (q .first + q .size) (getD lengths (q .run) 0)) e in
-    let g = both (ltb (q .run) (length services)) (leb (q .first + q .size) (getD lengths (q .run) 0)) (f .1) in
+    let f = both _ _ e in
+    let g = both _ _ (f .1) in
     record { some = leb-true _ _ (f .0); there = ltb-true _ _ (g .0); ends = leb-true _ _ (g .1) }

@@ -76,5 +76,5 @@ block-alike services f g (q ∷ qs) e = next refl (filled-alike f g (q ∷ qs) e
 pub packet-alike : (services : List ℕ) (f g : Piece → List ℕ) (ps : List Piece) (p : ℕ) → ((q : Piece) → In q ps → length (f q) ≡ length (g q)) → Alike (blocksIn services f ps p) (blocksIn services g ps p)
 unfolding blocksIn
 packet-alike services f g ps p e =
-    alike-flatMap (λ b. blockFor services f (piecesIn p b ps)) (λ b. blockFor services g (piecesIn p b ps)) (countFrom 0 mostNumbers)
-    (λ b. block-alike services f g (piecesIn p b ps) (λ q i. e q (those-in (liesIn p b) ps i .0)))
+    alike-flatMap _ _ (countFrom 0 mostNumbers)
+    (λ b. block-alike services f g _ (λ q i. e q (those-in _ ps i .0)))

@@ -52,8 +52,8 @@ pieceBytes q = bytesFrom (q .run) (q .first) (q .size)
 pub in-piece : (x : Byte) (q : Piece) → holds x q ≡ true → In x (pieceBytes q)
 unfolding holds
 in-piece x q e =
-    let f = both (eqb (q .run) (x .run)) (leb (q .first) (x .place) && ltb (x .place) (q .first + q .size)) e in
-    let g = both (leb (q .first) (x .place)) (ltb (x .place) (q .first + q .size)) (f .1) in
+    let f = both _ _ e in
+    let g = both _ _ (f .1) in
     let i : In (x .place) (countFrom (q .first) (q .size)) = in-count (x .place) (q .first) (q .size) (leb-true _ _ (g .0)) (ltb-true _ _ (g .1)) in
     subst (λ (r : ℕ). In (byte r (x .place)) (pieceBytes q)) (eqb-true _ _ (f .0)) (in-map (byte (q .run)) (countFrom (q .first) (q .size)) i)
 

@@ -84,7 +84,12 @@ sendingOrder ps = flatMap (λ p. packetListed p ps) (countFrom 0 mostNumbers)
 -- the packet and the block of a piece that lies in them
 pub lies-facts : (p b : ℕ) (q : Piece) → liesIn p b q ≡ true → (q .packet ≡ p) × (q .block ≡ b)
 unfolding liesIn
-lies-facts p b q e = let f = both (eqb (q .packet) p) (eqb (q .block) b) e in (eqb-true _ _ (f .0), eqb-true _ _ (f .1))
+lies-facts p b q e = let f = both _ _ e in (eqb-true _ _ (f .0), eqb-true _ _ (f .1))
+
+-- each piece lies in its own
+lies-itself : (q : Piece) → liesIn (q .packet) (q .block) q ≡ true
+unfolding liesIn
+lies-itself q = and-both _ _ (eq-eqb (q .packet) (q .packet) refl) (eq-eqb (q .block) (q .block) refl)
 
 -- a piece of a block: it is listed, and lies there
 pub block-facts : (p b : ℕ) (ps : List Piece) {t : Listed} → In t (listedIn p b ps) → In t (listedFrom 0 ps) × (t .piece .packet ≡ p) × (t .piece .block ≡ b)
@@ -137,18 +142,22 @@ pub sending-in : (ps : List Piece) {t : Listed} → In t (sendingOrder ps) → I
 unfolding sendingOrder
 sending-in ps i = let f = flatMap-in (λ p. packetListed p ps) (countFrom 0 mostNumbers) i in packet-facts (f .0) ps (f .2) .0
 
--- and what is listed is sent, if packets and blocks have numbers of one byte
+-- the numbers of a piece that has numbers of one byte
+numbered-facts : (q : Piece) → numbered q ≡ true → (q .packet < mostNumbers) × (q .block < mostNumbers)
+unfolding numbered
+numbered-facts q e = let f = both _ _ e in (ltb-true _ _ (f .0), ltb-true _ _ (f .1))
+
+-- and what is listed is sent, if packets and blocks have such numbers
 pub in-sending : (ps : List Piece) → every numbered ps ≡ true → {t : Listed} → In t (listedFrom 0 ps) → In t (sendingOrder ps)
-unfolding sendingOrder numbered liesIn
+unfolding sendingOrder
 in-sending ps e {t} i =
     let q : Piece = t .piece in
-    let f = both (ltb (q .packet) mostNumbers) (ltb (q .block) mostNumbers) (every-in numbered ps e (listed-in 0 ps i .1)) in
-    let lies : liesIn (q .packet) (q .block) q ≡ true = and-both (eqb (q .packet) (q .packet)) (eqb (q .block) (q .block)) (eq-eqb (q .packet) (q .packet) refl) (eq-eqb (q .block) (q .block) refl) in
+    let f = numbered-facts q (every-in numbered ps e (listed-in 0 ps i .1)) in
     in-flatMap (λ p. packetListed p ps) (countFrom 0 mostNumbers)
-    (in-count (q .packet) 0 mostNumbers (omega arith) (omega (arith, ltb-true (q .packet) mostNumbers (f .0))))
+    (in-count (q .packet) 0 mostNumbers (omega arith) (omega (arith, f .0)))
     (in-flatMap (λ b. listedIn (q .packet) b ps) (countFrom 0 mostNumbers)
-    (in-count (q .block) 0 mostNumbers (omega arith) (omega (arith, ltb-true (q .block) mostNumbers (f .1))))
-    (in-those (λ (u : Listed). liesIn (q .packet) (q .block) (u .piece)) (listedFrom 0 ps) i lies))
+    (in-count (q .block) 0 mostNumbers (omega arith) (omega (arith, f .1)))
+    (in-those (λ (u : Listed). liesIn (q .packet) (q .block) (u .piece)) (listedFrom 0 ps) i (lies-itself q)))
 
 -- a byte that is in a piece is in one at least
 held-some : (i : ℕ) (ps : List Piece) (x : Byte) {t : Listed} → In t (listedFrom i ps) → holds x (t .piece) ≡ true → 1 ≤ holders x ps

@@ -96,6 +96,6 @@ module _ {A : Type 0} (Before : A → A → Type 0) (one-way : (x y : A) → Bef
   unfolding everyTwo
   every-two-before test {x} {y} (z ∷ l) s e (here p) (here q) b = absurd (not-itself x y (p ∙ sym q) b)
   every-two-before test {x} {y} (z ∷ l) s e (here p) (there j) b =
-      ap (λ (w : A). test w y) p ∙ every-in (test z) l (both (every (test z) l) (everyTwo test l) e .0) j
+      ap (λ (w : A). test w y) p ∙ every-in (test z) l (both _ _ e .0) j
   every-two-before test {x} {y} (z ∷ l) (next h s) e (there i) (here q) b = absurd (one-way x y b (subst (λ (w : A). Before w x) (sym q) (h x i)))
-  every-two-before test {x} {y} (z ∷ l) (next h s) e (there i) (there j) b = every-two-before test l s (both (every (test z) l) (everyTwo test l) e .1) i j b
+  every-two-before test {x} {y} (z ∷ l) (next h s) e (there i) (there j) b = every-two-before test l s (both (every (test z) l) _ e .1) i j b
