@@ -8,16 +8,17 @@ use lib.Dec.{eqb, leb, ltb}
 use lib.ListN.{length, getD, length-replicate}
 use borrow.Author.Tests.{eq-eqb, le-leb, lt-ltb, le-ltb, eqb-true, eqb-false, leb-true, leb-false, ltb-false}
 use Rattle.model.specs.Lists.{every}
-use Rattle.model.specs.Said.{Said, accepted, badCover, outOfOrder, runSplit, overLimit}
+use Rattle.model.specs.Said.{accepted}
 use Rattle.model.specs.Packet.{validPacket}
-use Rattle.model.proofs.Cases.{by-test, by-cond, both, and-both, gives-at, NotAccepted}
+use Rattle.model.proofs.Cases.{by-test, both, and-both, gives-at}
 use Rattle.model.proofs.Lists.{same-self}
 use Rattle.model.proofs.Packets.{Valid, facts-valid}
 use Rattle.model.proofs.Pushing.{run-valid}
 use Rattle.model_packing.specs.Pieces.{Piece, Byte, byte, countFrom, runBytes, bytesOf, serviceOf}
-use Rattle.model_packing.specs.Proposals.{inside, heldOnce, covers, keepsOrder, ordered, withFirst, unsplit, liesIn, piecesIn, blank, blankPacket, runsFit, numbered, oneService, limits, checkProposal}
+use Rattle.model_packing.specs.Proposals.{inside, heldOnce, covers, keepsOrder, ordered, withFirst, unsplit, liesIn, piecesIn, blank, blankPacket, runsFit, numbered, oneService, limits, mostRuns, checkProposal}
 use Rattle.model_packing.specs.FirstCome.{placeOr0, firstCome, packable}
 use Rattle.model_packing.proofs.Lists.{in-every, those-in, map-in, count-in, bytes-in}
+use Rattle.model_packing.proofs.Accepted.{Passes, accepted-passes}
 use Rattle.model_packing.proofs.Filling.{bare-valid, packedTo, pieceOf, piecesTo, first-come-pieces, few-runs, run-some, bounded, placed-from}
 use Rattle.model_packing.proofs.Growing.{described, none-described, others-same}
 use Rattle.model_packing.proofs.AsProposed.{pieces-more, run-pushed}
@@ -144,21 +145,7 @@ module _ (services lengths : List ℕ) (ok : packable services lengths ≡ true)
 
 -- Where the packer makes none, no proposal passes.
 pub only-packable : (services lengths : List ℕ) (ps : List Piece) → checkProposal services lengths ps ≡ accepted [] → packable services lengths ≡ true
-unfolding checkProposal limits packable
-only-packable services lengths ps =
-    by-cond Then (ltb 256 (length services)) (λ _. never overLimit (λ e. omega arith))
-    (λ few. by-cond Then (covers services lengths ps)
-    (λ _. by-cond Then (ordered services lengths ps)
-    (λ _. by-cond Then (unsplit services lengths ps)
-    (λ _. by-cond Then (limits services lengths ps)
-    (λ t e. and-both _ _ (le-leb (length services) 256 (ltb-false 256 (length services) few)) (both (runsFit services lengths) _ t .0))
-    (λ _. never overLimit (λ e. omega arith)))
-    (λ _. never runSplit (λ e. omega arith)))
-    (λ _. never outOfOrder (λ e. omega arith)))
-    (λ _. never badCover (λ e. omega arith)))
-  where
-    Then : Said → Type 0
-    Then said = said ≡ accepted [] → packable services lengths ≡ true
-
-    never : (said : Said) → NotAccepted said → Then said
-    never said n e = absurd (n (ap (λ (s : Said). s .number) e))
+unfolding packable
+only-packable services lengths ps e =
+    let ok : Passes services lengths ps = accepted-passes services lengths ps e in
+    and-both _ _ (le-leb (length services) mostRuns (ok .few-runs)) (ok .each-fits)

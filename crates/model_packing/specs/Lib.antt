@@ -1,3 +1,4 @@
 pub mod Pieces
 pub mod Proposals
 pub mod FirstCome
+pub mod Carrying
