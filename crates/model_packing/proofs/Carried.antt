@@ -55,7 +55,7 @@ sequenced-heard sequence i (bs ∷ l) s = ap (λ (h : List ℕ). heardIn s bs ++
 
 module _ (services : List ℕ) (runs : List (List ℕ)) (ps : List Piece) (ok : Passes services (map length runs) ps) where
   -- a piece has as many bytes as it says,
-  piece-length : (q : Piece) → In q ps → length (bytesIn runs q) ≡ q .size
+  pub piece-length : (q : Piece) → In q ps → length (bytesIn runs q) ≡ q .size
   unfolding bytesIn
   piece-length q i =
       let f : Inside services (map length runs) q = piece-inside ok q i in
