@@ -3,13 +3,12 @@ ghost use mathlib.Core.Path.{_≡_};
 ghost use Prim.Native.Nat.{_<_};
 ghost use lib.ListN.{getD};
 ghost use Rattle.model_packing.specs.Proposals.{runFits, runsFit};
+use basics::MOST_NUMBER;
+use basics::MOST_PAYLOAD;
 use basics::wide;
 
-// The most bytes of a run.
-const MOST_PAYLOAD: usize = 31;
-
 // The highest service.
-const MOST_SERVICE: usize = 63;
+const MOST_SERVICE: usize = MOST_NUMBER as usize;
 
 // The number at a place; 0 where there is none.
 pub fn number_at(numbers: &[u8], at: usize) -> usize
