@@ -11,7 +11,7 @@ use Rattle.model.specs.Packet.{carriable, blocksLength, packetLength, validPack
 use Rattle.model.proofs.Blocks.{written-length}
 use Rattle.model.proofs.Packets.{valid-facts, facts-valid}
 use Rattle.model_packing.specs.Pieces.{Piece, countFrom}
-use Rattle.model_packing.specs.Proposals.{mostNumbers, liesIn, piecesIn, blockFor, blocksIn}
+use Rattle.model_packing.specs.Proposals.{mostNumbers, blockFor, blocksIn}
 use Rattle.model_packing.proofs.Lists.{In, here, there, those-in}
 
 -- as many blocks, of the same numbers and lengths
@@ -40,12 +40,13 @@ length-alike : (b c : Block) → b .number ≡ c .number → length (b .payload)
 unfolding blockLength
 length-alike b c n l = rw (written-length b, written-length c, n, l)
 
--- lists of them
+-- so it is with lists of them: whether all may stand in a packet,
 every-alike : {bs cs : List Block} → Alike bs cs → every carriable bs ≡ every carriable cs
 unfolding every
 every-alike none = refl
 every-alike (next {b = b} {c} n l a) = rw (carriable-alike b c n l, every-alike a)
 
+-- how many they are, and how long
 blocks-alike : {bs cs : List Block} → Alike bs cs → (length bs ≡ length cs) × (blocksLength bs ≡ blocksLength cs)
 unfolding blocksLength
 blocks-alike none = (refl, refl)

@@ -15,10 +15,10 @@ use Rattle.model_packing.specs.Proposals.{mostNumbers, liesIn, piecesIn,
 use Rattle.model_packing.specs.Carrying.{bytesIn, someBlock, proposedPackets, spoken, heardIn}
 use Rattle.model_packing.proofs.Lists.{In, here, every-in, those-in}
 use Rattle.model_packing.proofs.Maps.{those-all, those-none, flatMap-same, flatMap-those, those-map, those-flatMap, map-flatMap, flatMap-map, flatMap-flatMap}
-use Rattle.model_packing.proofs.Sending.{Listed, listed-in, listedIn, listed-block, packetListed, lies-facts, sendingOrder, sending-in}
+use Rattle.model_packing.proofs.Sending.{Listed, pieceOf, listed-in, listedIn, listed-block, packetListed, lies-facts, sendingOrder, sending-in}
 use Rattle.model_packing.proofs.Bytes.{bytesFrom, bytes-run, pieceBytes, numberAt, part-numbers}
 use Rattle.model_packing.proofs.Accepted.{Passes, Inside, piece-inside}
-use Rattle.model_packing.proofs.Spoken.{isOf, isByteOf, isListedOf, spokenBytes, sendingTo, sentBytes, sent-spoken}
+use Rattle.model_packing.proofs.Spoken.{isOf, isByteOf, isListedOf, listedBytes, spokenBytes, sendingTo, sentBytes, sent-spoken}
 
 -- what one block says to a service
 heard-one : (s : ℕ) (b : Block) → heardIn s (b ∷ []) ≡ cond (eqb (b .number) s) (b .payload) []
@@ -51,14 +51,14 @@ heard-block services fill s (q ∷ qs) one =
 
 module _ (services : List ℕ) (runs : List (List ℕ)) (ps : List Piece) (ok : Passes services (map length runs) ps) where
   -- all pieces of a block are of one service
-  block-of-one : (p b : ℕ) (q r : Piece) → In q (piecesIn p b ps) → In r (piecesIn p b ps) → serviceOf services (r .run) ≡ serviceOf services (q .run)
+  one-service-in : (p b : ℕ) (q r : Piece) → In q (piecesIn p b ps) → In r (piecesIn p b ps) → serviceOf services (r .run) ≡ serviceOf services (q .run)
   unfolding oneService
-  block-of-one p b q r i j =
+  one-service-in p b q r i j =
       let f = those-in (liesIn p b) ps i in
       let g = lies-facts p b q (f .1) in
       let k : In r (piecesIn (q .packet) (q .block) ps) = rw (g .0, g .1) j in
       let ours : Piece → Bool = λ u. eqb (serviceOf services (u .run)) (serviceOf services (q .run)) in
-      eqb-true _ _ (every-in ours (piecesIn (q .packet) (q .block) ps) (every-in (oneService services ps) ps (ok .of-one) (f .0)) k)
+      eqb-true _ _ (every-in ours (piecesIn (q .packet) (q .block) ps) (every-in (oneService services ps) ps (ok .one-service) (f .0)) k)
 
   -- what a piece is filled with is the numbers of its bytes
   piece-numbers : (q : Piece) → In q ps → bytesIn runs q ≡ map (numberAt runs) (pieceBytes q)
@@ -75,9 +75,8 @@ module _ (services : List ℕ) (runs : List (List ℕ)) (ps : List Piece) (ok : 
     -- what a block says to the service is the bytes of its pieces of that service,
     said-block : (p b : ℕ) → heardIn s (blockFor services (bytesIn runs) (piecesIn p b ps)) ≡ flatMap saidIn (those (isListedOf services s) (listedIn p b ps))
     said-block p b =
-        let bare : Listed → Piece = λ t. t .piece in
-        heard-block services (bytesIn runs) s (piecesIn p b ps) (block-of-one p b)
-        ∙ rw (listed-block p b ps, those-map (λ (q : Piece). isOf services s (q .run)) bare (listedIn p b ps)) (flatMap-map (bytesIn runs) bare (those (isListedOf services s) (listedIn p b ps)))
+        heard-block services (bytesIn runs) s (piecesIn p b ps) (one-service-in p b)
+        ∙ rw (listed-block p b ps, those-map (λ (q : Piece). isOf services s (q .run)) pieceOf (listedIn p b ps)) (flatMap-map (bytesIn runs) pieceOf (those (isListedOf services s) (listedIn p b ps)))
 
     -- so it is with a packet,
     said-packet : (p : ℕ) → heardIn s (blocksIn services (bytesIn runs) ps p) ≡ flatMap saidIn (those (isListedOf services s) (packetListed p ps))
@@ -99,9 +98,9 @@ module _ (services : List ℕ) (runs : List (List ℕ)) (ps : List Piece) (ok : 
     -- these are the numbers of the bytes that are sent
     said-sent : flatMap saidIn (sendingTo s services ps) ≡ map (numberAt runs) (sentBytes s services ps)
     said-sent =
-        flatMap-same saidIn (λ (t : Listed). map (numberAt runs) (pieceBytes (t .piece))) (sendingTo s services ps)
+        flatMap-same saidIn (λ t. map (numberAt runs) (listedBytes t)) (sendingTo s services ps)
         (λ t i. piece-numbers (t .piece) (listed-in 0 ps (sending-in ps (those-in (isListedOf services s) (sendingOrder ps) i .0)) .1))
-        ∙ sym (map-flatMap (numberAt runs) (λ (t : Listed). pieceBytes (t .piece)) (sendingTo s services ps))
+        ∙ sym (map-flatMap (numberAt runs) listedBytes (sendingTo s services ps))
 
 module _ (services : List ℕ) (runs : List (List ℕ)) where
   -- a run is the numbers of its bytes

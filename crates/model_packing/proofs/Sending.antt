@@ -1,10 +1,9 @@
 -- The order in which the pieces of a proposal are sent: by packet, then by block, then by their places in the list. Assumes nothing.
 use mathlib.Core.Path.{_≡_, refl, sym, ap, _∙_}
-use mathlib.Core.Bool.{true, false, false≢true}
+use mathlib.Core.Bool.{Bool, true, false, false≢true}
 use mathlib.Core.List.{List, [], _∷_, map, flatMap}
 use Prim.Native.Nat.{ℕ, suc, _≤_, _<_}
 use native.Mathlib.Omega.{arith}
-use lib.Dec.{eqb, ltb}
 use borrow.Author.Tests.{eq-eqb, ne-eqb, le-ltb, eqb-true, ltb-true}
 use Rattle.model.specs.Lists.{every}
 use Rattle.model.proofs.Cases.{by-test, both, and-both}
@@ -24,8 +23,12 @@ unfoldable pub listedFrom : ℕ → List Piece → List Listed
 listedFrom i [] = []
 listedFrom i (q ∷ qs) = record { place = i; piece = q } ∷ listedFrom (suc i) qs
 
+-- a piece without its place
+abbrev pub pieceOf : Listed → Piece
+pieceOf t = t .piece
+
 -- without their places they are the pieces
-pub listed-pieces : (i : ℕ) (ps : List Piece) → map (λ (t : Listed). t .piece) (listedFrom i ps) ≡ ps
+pub listed-pieces : (i : ℕ) (ps : List Piece) → map pieceOf (listedFrom i ps) ≡ ps
 unfolding listedFrom
 listed-pieces i [] = refl
 listed-pieces i (q ∷ qs) = rw (listed-pieces (suc i) qs)
@@ -33,7 +36,7 @@ listed-pieces i (q ∷ qs) = rw (listed-pieces (suc i) qs)
 -- each of them is one of the list
 pub listed-in : (i : ℕ) (ps : List Piece) {t : Listed} → In t (listedFrom i ps) → (i ≤ t .place) × In (t .piece) ps
 unfolding listedFrom
-listed-in i (q ∷ qs) (here e) = (omega (arith, ap (λ (t : Listed). t .place) e), here (ap (λ (t : Listed). t .piece) e))
+listed-in i (q ∷ qs) (here e) = (omega (arith, ap (λ (t : Listed). t .place) e), here (ap pieceOf e))
 listed-in i (q ∷ qs) (there j) = let k = listed-in (suc i) qs j in (omega (arith, k .0), there (k .1))
 
 -- when a piece is sent
@@ -64,14 +67,18 @@ not-after-itself (x ∷ l) = rw (eq-eqb x x refl) (not-after-itself l)
 pub same-not-before : (t u : Listed) → sentAt t ≡ sentAt u → SentBefore t u → ⊥
 same-not-before t u e b = false≢true (sym b ∙ ap (notAfter (sentAt u)) e ∙ not-after-itself (sentAt u))
 
+-- whether a piece lies in a block
+abbrev pub isListedIn : ℕ → ℕ → Listed → Bool
+isListedIn p b t = liesIn p b (t .piece)
+
 -- the pieces of a block, with their places
 abbrev pub listedIn : ℕ → ℕ → List Piece → List Listed
-listedIn p b ps = those (λ (t : Listed). liesIn p b (t .piece)) (listedFrom 0 ps)
+listedIn p b ps = those (isListedIn p b) (listedFrom 0 ps)
 
 -- without them they are the pieces of the block
-pub listed-block : (p b : ℕ) (ps : List Piece) → piecesIn p b ps ≡ map (λ (t : Listed). t .piece) (listedIn p b ps)
+pub listed-block : (p b : ℕ) (ps : List Piece) → piecesIn p b ps ≡ map pieceOf (listedIn p b ps)
 listed-block p b ps =
-    ap (those (liesIn p b)) (sym (listed-pieces 0 ps)) ∙ those-map (liesIn p b) (λ (t : Listed). t .piece) (listedFrom 0 ps)
+    ap (those (liesIn p b)) (sym (listed-pieces 0 ps)) ∙ those-map (liesIn p b) pieceOf (listedFrom 0 ps)
 
 -- the pieces of a packet, by its blocks
 abbrev pub packetListed : ℕ → List Piece → List Listed
@@ -94,7 +101,7 @@ lies-itself q = and-both _ _ (eq-eqb (q .packet) (q .packet) refl) (eq-eqb (q .b
 -- a piece of a block: it is listed, and lies there
 pub block-facts : (p b : ℕ) (ps : List Piece) {t : Listed} → In t (listedIn p b ps) → In t (listedFrom 0 ps) × (t .piece .packet ≡ p) × (t .piece .block ≡ b)
 block-facts p b ps {t} i =
-    let f = those-in (λ (u : Listed). liesIn p b (u .piece)) (listedFrom 0 ps) i in
+    let f = those-in (isListedIn p b) (listedFrom 0 ps) i in
     let g = lies-facts p b (t .piece) (f .1) in
     (f .0, g .0, g .1)
 
@@ -115,7 +122,7 @@ places-grow i (q ∷ qs) =
 -- so the pieces of a block are sent in the order of the list,
 block-sorted : (p b : ℕ) (ps : List Piece) → Sorted SentBefore (listedIn p b ps)
 block-sorted p b ps =
-    sorted-by (sorted-those (λ (t : Listed). liesIn p b (t .piece)) (places-grow 0 ps))
+    sorted-by (sorted-those (isListedIn p b) (places-grow 0 ps))
     (λ t u i j less.
     let f = block-facts p b ps i in
     let g = block-facts p b ps j in
@@ -137,15 +144,15 @@ sending-sorted ps =
     sorted-flatMap (λ p. packetListed p ps) (sorted-count 0 mostNumbers) (λ p _. packet-sorted p ps)
     (λ p r t u less _ _ i j. after-first (u .piece .packet) (t .piece .packet) _ _ (omega (arith, packet-facts p ps i .1, packet-facts r ps j .1)))
 
--- what is sent is listed,
-pub sending-in : (ps : List Piece) {t : Listed} → In t (sendingOrder ps) → In t (listedFrom 0 ps)
-unfolding sendingOrder
-sending-in ps i = let f = flatMap-in (λ p. packetListed p ps) (countFrom 0 mostNumbers) i in packet-facts (f .0) ps (f .2) .0
-
 -- the numbers of a piece that has numbers of one byte
 numbered-facts : (q : Piece) → numbered q ≡ true → (q .packet < mostNumbers) × (q .block < mostNumbers)
 unfolding numbered
 numbered-facts q e = let f = both _ _ e in (ltb-true _ _ (f .0), ltb-true _ _ (f .1))
+
+-- what is sent is listed,
+pub sending-in : (ps : List Piece) {t : Listed} → In t (sendingOrder ps) → In t (listedFrom 0 ps)
+unfolding sendingOrder
+sending-in ps i = let f = flatMap-in (λ p. packetListed p ps) (countFrom 0 mostNumbers) i in packet-facts (f .0) ps (f .2) .0
 
 -- and what is listed is sent, if packets and blocks have such numbers
 pub in-sending : (ps : List Piece) → every numbered ps ≡ true → {t : Listed} → In t (listedFrom 0 ps) → In t (sendingOrder ps)
@@ -157,20 +164,22 @@ in-sending ps e {t} i =
     (in-count (q .packet) 0 mostNumbers (omega arith) (omega (arith, f .0)))
     (in-flatMap (λ b. listedIn (q .packet) b ps) (countFrom 0 mostNumbers)
     (in-count (q .block) 0 mostNumbers (omega arith) (omega (arith, f .1)))
-    (in-those (λ (u : Listed). liesIn (q .packet) (q .block) (u .piece)) (listedFrom 0 ps) i (lies-itself q)))
+    (in-those (isListedIn (q .packet) (q .block)) (listedFrom 0 ps) i (lies-itself q)))
+
+-- a byte that is in a listed piece is in what is listed there
+same-held : (x : Byte) {t : Listed} (i : ℕ) (q : Piece) → t ≡ record { place = i; piece = q } → holds x (t .piece) ≡ true → holds x q ≡ true
+same-held x i q e h = ap (λ (u : Listed). holds x (u .piece)) (sym e) ∙ h
 
 -- a byte that is in a piece is in one at least
 held-some : (i : ℕ) (ps : List Piece) (x : Byte) {t : Listed} → In t (listedFrom i ps) → holds x (t .piece) ≡ true → 1 ≤ holders x ps
 unfolding listedFrom holders
-held-some i (q ∷ qs) x (here e) h = let k : holds x q ≡ true = ap (λ (t : Listed). holds x (t .piece)) (sym e) ∙ h in rw k (omega arith)
+held-some i (q ∷ qs) x (here e) h = rw (same-held x i q e h) (omega arith)
 held-some i (q ∷ qs) x (there j) h = omega (arith, held-some (suc i) qs x j h)
 
 -- a byte that is in one piece is sent when that is
 pub sent-with : (i : ℕ) (ps : List Piece) (x : Byte) {t : Listed} → In t (listedFrom i ps) → holds x (t .piece) ≡ true → holders x ps ≡ 1 → sentFrom i ps x ≡ sentAt t
 unfolding listedFrom holders sentFrom
-sent-with i (q ∷ qs) x (here e) h once =
-    let k : holds x q ≡ true = ap (λ (t : Listed). holds x (t .piece)) (sym e) ∙ h in
-    rw k (ap sentAt (sym e))
+sent-with i (q ∷ qs) x (here e) h once = rw (same-held x i q e h) (ap sentAt (sym e))
 sent-with i (q ∷ qs) x (there j) h once =
     by-test (holds x q)
     (λ e. absurd (omega (arith, held-some (suc i) qs x j h, rw e at once)))

@@ -26,6 +26,10 @@ isByteOf services s x = isOf services s (x .run)
 abbrev pub isListedOf : List ℕ → ℕ → Listed → Bool
 isListedOf services s t = isOf services s (t .piece .run)
 
+-- the bytes of a piece with its place
+abbrev pub listedBytes : Listed → List Byte
+listedBytes t = pieceBytes (t .piece)
+
 -- the bytes of a service, in the order of the runs
 abbrev pub spokenBytes : ℕ → List ℕ → List ℕ → List Byte
 spokenBytes s services lengths = those (isByteOf services s) (bytesOf services lengths)
@@ -36,11 +40,11 @@ sendingTo s services ps = those (isListedOf services s) (sendingOrder ps)
 
 -- and their bytes
 abbrev pub sentBytes : ℕ → List ℕ → List Piece → List Byte
-sentBytes s services ps = flatMap (λ (t : Listed). pieceBytes (t .piece)) (sendingTo s services ps)
+sentBytes s services ps = flatMap listedBytes (sendingTo s services ps)
 
 module _ (services lengths : List ℕ) (ps : List Piece) (ok : Passes services lengths ps) where
   -- a byte of a piece is a byte of a run
-  held-there : (x : Byte) (t : Listed) → In t (listedFrom 0 ps) → In x (pieceBytes (t .piece)) → In x (bytesOf services lengths)
+  held-there : (x : Byte) (t : Listed) → In t (listedFrom 0 ps) → In x (listedBytes t) → In x (bytesOf services lengths)
   held-there x t i j =
       let f : Inside services lengths (t .piece) = piece-inside ok (t .piece) (listed-in 0 ps i .1) in
       let g = piece-in x (t .piece) j in
@@ -52,7 +56,7 @@ module _ (services lengths : List ℕ) (ps : List Piece) (ok : Passes services l
   held-once x i = eqb-true _ _ (every-in (heldOnce ps) (bytesOf services lengths) (ok .each-once) i)
 
   -- so it is sent with the piece that it is in
-  sent-then : (x : Byte) (t : Listed) → In t (listedFrom 0 ps) → In x (pieceBytes (t .piece)) → sent ps x ≡ sentAt t
+  sent-then : (x : Byte) (t : Listed) → In t (listedFrom 0 ps) → In x (listedBytes t) → sent ps x ≡ sentAt t
   sent-then x t i j = sent-with 0 ps x i (piece-holds x (t .piece) j) (held-once x (held-there x t i j))
 
   -- of two bytes of a service, the earlier one is not sent later
@@ -69,7 +73,7 @@ module _ (services lengths : List ℕ) (ps : List Piece) (ok : Passes services l
     to-service i = let f = those-in (isListedOf services s) (sendingOrder ps) i in (sending-in ps (f .0), eqb-true _ _ (f .1))
 
     -- bytes of two such pieces, of which one is sent before the other, are in this order
-    across : (t u : Listed) (x y : Byte) → SentBefore t u → In t (sendingTo s services ps) → In u (sendingTo s services ps) → In x (pieceBytes (t .piece)) → In y (pieceBytes (u .piece)) → Earlier x y
+    across : (t u : Listed) (x y : Byte) → SentBefore t u → In t (sendingTo s services ps) → In u (sendingTo s services ps) → In x (listedBytes t) → In y (listedBytes u) → Earlier x y
     across t u x y b i j k l =
         let f = to-service i in
         let g = to-service j in
@@ -87,13 +91,13 @@ module _ (services lengths : List ℕ) (ps : List Piece) (ok : Passes services l
     -- so all that are sent to the service are in their order;
     sent-sorted : Sorted Earlier (sentBytes s services ps)
     sent-sorted =
-        sorted-flatMap (λ (t : Listed). pieceBytes (t .piece)) (sorted-those (isListedOf services s) (sending-sorted ps))
+        sorted-flatMap listedBytes (sorted-those (isListedOf services s) (sending-sorted ps))
         (λ t _. bytes-sorted (t .piece .run) (t .piece .first) (t .piece .size)) across
 
     -- they are bytes of the service,
     sent-is-spoken : (x : Byte) → In x (sentBytes s services ps) → In x (spokenBytes s services lengths)
     sent-is-spoken x i =
-        let f = flatMap-in (λ (t : Listed). pieceBytes (t .piece)) (sendingTo s services ps) i in
+        let f = flatMap-in listedBytes (sendingTo s services ps) i in
         let g = to-service (f .1) in
         in-those (isByteOf services s) (bytesOf services lengths) (held-there x (f .0) (g .0) (f .2))
         (eq-eqb _ _ (ap (serviceOf services) (piece-in x (f .0 .piece) (f .2) .0) ∙ g .1))
@@ -104,8 +108,8 @@ module _ (services lengths : List ℕ) (ps : List Piece) (ok : Passes services l
         let f = those-in (isByteOf services s) (bytesOf services lengths) i in
         let h = held-by 0 ps x (omega (arith, held-once x (f .0))) in
         let t : Listed = h .0 in
-        let j : In x (pieceBytes (t .piece)) = in-piece x (t .piece) (h .2) in
-        in-flatMap (λ (u : Listed). pieceBytes (u .piece)) (sendingTo s services ps)
+        let j : In x (listedBytes t) = in-piece x (t .piece) (h .2) in
+        in-flatMap listedBytes (sendingTo s services ps)
         (in-those (isListedOf services s) (sendingOrder ps) (in-sending ps (ok .one-byte) (h .1)) (ap (isOf services s) (sym (piece-in x (t .piece) j .0)) ∙ f .1)) j
 
     -- Each service's bytes are sent in their order, once each.
