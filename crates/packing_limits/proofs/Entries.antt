@@ -1,23 +1,22 @@
 -- A piece entered into the tables, way out by way out. Assumes nothing.
-use mathlib.Core.Path.{_≡_, refl, sym, ap, _∙_}
+use mathlib.Core.Path.{_≡_, refl, _∙_}
 use mathlib.Core.Bool.{Bool, true, false}
 use mathlib.Core.List.{List}
 use Prim.Native.Nat.{ℕ, _+_, _≤_, _<_}
-use native.Mathlib.Omega.{arith}
 use lib.Dec.{eqb}
 use lib.ListN.{getD, set}
 use borrow.Author.Tests.{eq-eqb, ne-eqb, le-leb, lt-leb}
 use Rattle.packing_limits.specs.Tables.{agrees, enters, Entered}
 
 -- a block without pieces takes any,
-pub takes-any : (number service : ℕ) → number ≡ 0 → true ≡ agrees number service
+pub admits-any : (number service : ℕ) → number ≡ 0 → true ≡ agrees number service
 unfolding agrees
-takes-any number service e = simp (eq-eqb number 0 e)
+admits-any number service e = simp (eq-eqb number 0 e)
 
 -- and one with pieces those of its service
-pub takes-same : (number service : ℕ) (r : Bool) → (number ≡ 0 → ⊥) → r ≡ eqb number service → r ≡ agrees number service
+pub admits-same : (number service : ℕ) (r : Bool) → (number ≡ 0 → ⊥) → r ≡ eqb number service → r ≡ agrees number service
 unfolding agrees
-takes-same number service r n e = e ∙ simp (ne-eqb number 0 n)
+admits-same number service r n e = e ∙ simp (ne-eqb number 0 n)
 
 module _ (service size place : ℕ) (ns ss : List ℕ) where
   -- 0 is no service

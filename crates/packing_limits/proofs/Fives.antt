@@ -4,7 +4,7 @@ use mathlib.Core.List.{List, [], _∷_}
 use Prim.Native.Nat.{ℕ, zero, suc, _+_, _-_, _%_, _≤_, _<_}
 use native.Mathlib.Omega.{arith}
 use lib.Dec.{ltb}
-use lib.ListN.{length, getD, drop, length-drop}
+use lib.ListN.{length, drop, length-drop}
 use lib.Seq.{getD-drop, drop-drop}
 use borrow.Author.Tests.{ltb-true, ltb-false}
 use Rattle.model.proofs.Cases.{by-test}
@@ -54,8 +54,8 @@ piece-left P fewer (suc k) l o few five there all =
     by-test (ltb o 5)
     (λ t. let z : o ≡ 0 = omega (arith, ltb-true o 5 t) in rw z all)
     (λ f.
-      let w : 5 ≤ o = ltb-false o 5 f in
-      let z : o ≡ 5 + (o - 5) = omega arith in
-      let e = five-some l (omega arith) in
-      let m = piece-left P fewer k (drop 5 l) (o - 5) (omega arith) (omega arith) (simp length-drop (omega arith)) (fewer (pieceAt l 0) (piecesOf (drop 5 l)) (rw e at all)) in
-      rw z (rw drop-drop at m))
+    let w : 5 ≤ o = ltb-false o 5 f in
+    let z : o ≡ 5 + (o - 5) = omega arith in
+    let e = five-some l (omega arith) in
+    let m = piece-left P fewer k (drop 5 l) (o - 5) (omega arith) (omega arith) (simp length-drop (omega arith)) (fewer (pieceAt l 0) (piecesOf (drop 5 l)) (rw e at all)) in
+    rw z (rw drop-drop at m))

@@ -5,46 +5,50 @@ use mathlib.Core.List.{List, [], _∷_, _++_, flatMap}
 use Prim.Native.Nat.{ℕ, zero, suc, _+_, _≤_, _<_}
 use native.Mathlib.Omega.{arith}
 use lib.Dec.{eqb, ltb}
-use lib.ListN.{length, getD, replicate, length-replicate, getD-replicate, replicate-append-replicate}
+use lib.ListN.{getD, length-replicate, replicate-append-replicate}
 use borrow.Author.Tests.{eqb-true, ltb-true, eq-eqb, ne-eqb, not-true, not-false}
 use Rattle.model.specs.Lists.{every}
 use Rattle.model.specs.Block.{Block}
-use Rattle.model.specs.Packet.{Packet, carriable, validPacket}
+use Rattle.model.specs.Packet.{carriable, validPacket}
 use Rattle.model.proofs.Cases.{by-test, both}
 use Rattle.model.proofs.Blocks.{Carriable, carriable-facts}
 use Rattle.model.proofs.Packets.{valid-facts}
-use Rattle.model_packing.specs.Pieces.{Piece, serviceOf, countFrom, those}
+use Rattle.model_packing.specs.Pieces.{Piece, serviceOf, countFrom}
 use Rattle.model_packing.specs.Proposals.{liesIn, piecesIn, blockFor, blocksIn, blank, blankPacket, runsFit, numbered, oneService, limits}
-use Rattle.model_packing.proofs.Lists.{In, here, there, every-in, in-those, those-in, in-flatMap, in-count, every-count}
-use Rattle.packing_limits.specs.Tables.{placeOf, firstService, sizes, allJoin, Tables, blockAt, blocksAt, packetAt}
+use Rattle.model_packing.proofs.Lists.{In, here, every-in, in-those, those-in, in-flatMap, in-count, every-count}
+use Rattle.packing_limits.specs.Tables.{placeOf, firstService, totalSize, allJoin, Tables, blockAt, blocksAt, packetAt}
 use Rattle.packing_limits.proofs.Tabled.{lies-own}
 use Rattle.packing_limits.proofs.Joining.{joined-first, joined-one, Sound, sound-joins}
 
--- what is made of numbers one after the other, by functions that agree on them
-flat-same : {A : Type 0} (f g : ℕ → List A) (a n : ℕ) → ((k : ℕ) → k < a + n → f k ≡ g k) → flatMap f (countFrom a n) ≡ flatMap g (countFrom a n)
-unfolding countFrom flatMap
-flat-same f g a zero h = refl
-flat-same f g a (suc n) h =
+-- what is made along numbers one after the other, of functions that agree on them: `made` is nothing at first, and `more` with each number
+same-along : {B C : Type 0} (more : B → C → C) (nothing : C) (made : (ℕ → B) → ℕ → ℕ → C) → ((f : ℕ → B) (a : ℕ) → made f a 0 ≡ nothing)
+    → ((f : ℕ → B) (a n : ℕ) → made f a (suc n) ≡ more (f a) (made f (suc a) n)) → (f g : ℕ → B) (a n : ℕ) → ((k : ℕ) → k < a + n → f k ≡ g k)
+    → made f a n ≡ made g a n
+same-along more nothing made first next f g a zero h = first f a ∙ sym (first g a)
+same-along more nothing made first next f g a (suc n) h =
     let e : f a ≡ g a = h a (omega arith) in
-    rw e (ap (λ l. g a ++ l) (flat-same f g (suc a) n (λ k o. h k (omega arith))))
+    let m = same-along more nothing made first next f g (suc a) n (λ k o. h k (omega arith)) in
+    next f a n ∙ rw (e, m) (sym (next g a n))
 
--- and what they pass
-every-same : (f g : ℕ → Bool) (a n : ℕ) → ((k : ℕ) → k < a + n → f k ≡ g k) → every f (countFrom a n) ≡ every g (countFrom a n)
+-- the lists of them, one behind the other
+flat-same : {A : Type 0} (f g : ℕ → List A) (n : ℕ) → ((k : ℕ) → k < n → f k ≡ g k) → flatMap f (countFrom 0 n) ≡ flatMap g (countFrom 0 n)
+unfolding countFrom flatMap
+flat-same f g n h = same-along _++_ [] (λ x a m. flatMap x (countFrom a m)) (λ _ _. refl) (λ _ _ _. refl) f g 0 n (λ k o. h k (omega arith))
+
+-- and whether every number passes them
+every-same : (f g : ℕ → Bool) (n : ℕ) → ((k : ℕ) → k < n → f k ≡ g k) → every f (countFrom 0 n) ≡ every g (countFrom 0 n)
 unfolding countFrom every
-every-same f g a zero h = refl
-every-same f g a (suc n) h =
-    let e : f a ≡ g a = h a (omega arith) in
-    rw e (ap (λ l. g a && l) (every-same f g (suc a) n (λ k o. h k (omega arith))))
+every-same f g n h = same-along _&&_ true (λ x a m. every x (countFrom a m)) (λ _ _. refl) (λ _ _ _. refl) f g 0 n (λ k o. h k (omega arith))
 
 -- the bytes of pieces, whatever they say
-flat-blank : (qs : List Piece) → flatMap (λ (q : Piece). blank (q .size)) qs ≡ blank (sizes qs)
-unfolding flatMap sizes
+flat-blank : (qs : List Piece) → flatMap (λ (q : Piece). blank (q .size)) qs ≡ blank (totalSize qs)
+unfolding flatMap totalSize
 flat-blank [] = refl
-flat-blank (q ∷ qs) = ap (λ l. blank (q .size) ++ l) (flat-blank qs) ∙ replicate-append-replicate (q .size) (sizes qs) 0
+flat-blank (q ∷ qs) = ap (λ l. blank (q .size) ++ l) (flat-blank qs) ∙ replicate-append-replicate (q .size) (totalSize qs) 0
 
 -- the block of some pieces
 abbrev blankBlock : List ℕ → List Piece → Block
-blankBlock services qs = record { number = firstService services qs; payload = blank (sizes qs) }
+blankBlock services qs = record { number = firstService services qs; payload = blank (totalSize qs) }
 
 -- is the one that they make
 block-of : (services : List ℕ) (q : Piece) (qs : List Piece) → blockFor services (λ r. blank (r .size)) (q ∷ qs) ≡ blankBlock services (q ∷ qs) ∷ []
@@ -53,17 +57,6 @@ block-of services q qs = rw (flat-blank (q ∷ qs))
 
 block-in : (services : List ℕ) (q : Piece) (qs : List Piece) → In q qs → In (blankBlock services qs) (blockFor services (λ r. blank (r .size)) qs)
 block-in services q (r ∷ qs) i = rw (block-of services r qs) (here refl)
-
--- tables without pieces tell none
-pub tables-blank : (services : List ℕ) (n : ℕ) → n ≡ 65536 → Tables services [] (replicate n 0) (replicate n 0)
-unfolding those firstService sizes every
-tables-blank services n e =
-    record {
-      long = (length-replicate n 0 ∙ e, length-replicate n 0 ∙ e);
-      number = λ p b hp hb. getD-replicate n (placeOf p b) 0 0 (omega arith);
-      size = λ p b hp hb. getD-replicate n (placeOf p b) 0 0 (omega arith);
-      bytes = refl;
-    }
 
 module _ (services lengths : List ℕ) (ps : List Piece) where
   -- a proposal within the limits, as facts
@@ -111,12 +104,12 @@ module _ (services lengths : List ℕ) (ps : List Piece) where
   within-sound w =
       record {
         named = λ q i.
-          let own = in-those (liesIn (q .packet) (q .block)) ps i (lies-own q) in
-          let e = first-same (serviceOf services (q .run)) q (piecesIn (q .packet) (q .block) ps) own
+            let own = in-those (liesIn (q .packet) (q .block)) ps i (lies-own q) in
+            let e = first-same (serviceOf services (q .run)) q (piecesIn (q .packet) (q .block) ps) own
             (λ r j. let t = those-in (liesIn (q .packet) (q .block)) ps j in within-same w q r i (t .0) (t .1)) in
-          omega (arith, within-block w q i .named);
+            omega (arith, within-block w q i .named);
         alike = within-same w;
-        small = λ q i. omega (arith, within-block w q i .small, length-replicate {A = ℕ} (sizes (piecesIn (q .packet) (q .block) ps)) 0);
+        small = λ q i. omega (arith, within-block w q i .small, length-replicate {A = ℕ} (totalSize (piecesIn (q .packet) (q .block) ps)) 0);
       }
 
   -- a run does not fit
@@ -133,7 +126,7 @@ module _ (services lengths : List ℕ) (ps : List Piece) where
 
   module _ (ns ss : List ℕ) (joined : allJoin services ps ≡ true) (t : Tables services ps ns ss) where
     -- the tables tell a block,
-    told-block : (qs : List Piece) (n k : ℕ) → n ≡ firstService services qs → k ≡ sizes qs → ((q : Piece) → In q qs → 1 ≤ serviceOf services (q .run))
+    told-block : (qs : List Piece) (n k : ℕ) → n ≡ firstService services qs → k ≡ totalSize qs → ((q : Piece) → In q qs → 1 ≤ serviceOf services (q .run))
         → blockFor services (λ r. blank (r .size)) qs ≡ cond (eqb n 0) [] (record { number = n; payload = blank k } ∷ [])
     unfolding blockFor firstService
     told-block [] n k en ek f = rw (eq-eqb n 0 en)
@@ -145,7 +138,7 @@ module _ (services lengths : List ℕ) (ps : List Piece) where
     told-packet : (p : ℕ) → p < 256 → blocksIn services (λ r. blank (r .size)) ps p ≡ blocksAt ns ss p 0 256
     unfolding blocksIn blocksAt blockAt
     told-packet p hp =
-        flat-same (λ b. blockFor services (λ r. blank (r .size)) (piecesIn p b ps)) (λ b. blockAt ns ss (placeOf p b)) 0 256
+        flat-same (λ b. blockFor services (λ r. blank (r .size)) (piecesIn p b ps)) (λ b. blockAt ns ss (placeOf p b)) 256
         (λ b hb. told-block (piecesIn p b ps) (getD ns (placeOf p b) 0) (getD ss (placeOf p b) 0) (t .number p b hp hb) (t .size p b hp hb)
         (λ q i. joined-first services ps joined q (those-in (liesIn p b) ps i .0) .0))
 
@@ -154,7 +147,7 @@ module _ (services lengths : List ℕ) (ps : List Piece) where
     unfolding limits
     limits-told fit =
         rw (fit, t .bytes, joined-one services ps joined)
-        (every-same (λ p. validPacket (blankPacket services ps p)) (λ p. validPacket (packetAt ns ss p)) 0 256
+        (every-same (λ p. validPacket (blankPacket services ps p)) (λ p. validPacket (packetAt ns ss p)) 256
         (λ p hp. ap (λ bs. validPacket (record { sequence = 0; blocks = bs })) (told-packet p hp)))
 
   pub limits-packets : (ns ss : List ℕ) (fit joined r : Bool) → fit ≡ runsFit services lengths → not fit ≡ false → joined ≡ allJoin services ps → joined ≡ true

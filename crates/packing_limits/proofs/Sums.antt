@@ -1,10 +1,10 @@
 -- What blocks take of their packet: the length of a block at a place of the tables, and the sum of what is left of a packet. Assumes nothing.
 use mathlib.Core.Path.{_≡_, refl, sym, ap, _∙_}
-use mathlib.Core.Bool.{Bool, true, false, cond, _&&_, false≢true}
+use mathlib.Core.Bool.{true, false, cond, _&&_, false≢true}
 use mathlib.Core.List.{List, [], _∷_, _++_, flatMap}
-use Prim.Native.Nat.{ℕ, zero, suc, _+_, _*_, _-_, _≤_, _<_}
+use Prim.Native.Nat.{ℕ, suc, _+_, _*_, _-_, _≤_, _<_}
 use native.Mathlib.Omega.{arith}
-use lib.Dec.{eqb, leb, ltb}
+use lib.Dec.{eqb, leb}
 use lib.ListN.{length, getD, length-replicate}
 use borrow.Author.Tests.{eq-eqb, ne-eqb, le-leb, lt-leb}
 use Rattle.model.specs.Lists.{every}
@@ -13,10 +13,9 @@ use Rattle.model.specs.Packet.{Packet, carriable, blocksLength, packetLength, v
 use Rattle.model.proofs.Cases.{by-test, by-cond, both}
 use Rattle.model.proofs.Blocks.{written-header-most}
 use Rattle.model_packing.specs.Pieces.{countFrom}
-use Rattle.model_packing.specs.Proposals.{blank}
 use Rattle.service_headers.specs.Head.{lengthFor}
 use Rattle.service_headers.proofs.Heads.{length-by}
-use Rattle.packing_limits.specs.Tables.{placeOf, blockAt, blocksAt, packetAt, taken}
+use Rattle.packing_limits.specs.Tables.{placeOf, blockAt, blocksAt, taken}
 
 -- the block at a place of the tables
 module _ (ns ss : List ℕ) (i : ℕ) where
@@ -98,10 +97,6 @@ module _ (ns ss : List ℕ) (p n : ℕ) where
   -- what is left of a packet from block b on
   abbrev pub rest : ℕ → ℕ
   rest b = taken (blocksAt ns ss p b (n - b))
-
-  -- at first all blocks
-  pub rest-first : 1 + taken (blocksAt ns ss p 0 n) ≡ 1 + rest 0
-  rest-first = let z : n - 0 ≡ n = omega arith in rw z
 
   module _ (b l : ℕ) (e : 1 + taken (blocksAt ns ss p 0 n) ≡ l + rest b) where
     module _ (r : ℕ) (is : r ≡ taken (blockAt ns ss (p * 256 + b))) (h : b < n) where

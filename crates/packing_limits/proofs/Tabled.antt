@@ -1,10 +1,10 @@
--- Tables that tell the blocks of some pieces tell those of one piece more, when it is entered. Assumes nothing.
+-- Tables of the blocks of some pieces: of none, and of one piece more when it is entered. Assumes nothing.
 use mathlib.Core.Path.{_≡_, refl, sym, ap, _∙_}
-use mathlib.Core.Bool.{Bool, true, false, cond, not, _&&_, false≢true}
+use mathlib.Core.Bool.{Bool, true, false, not, false≢true}
 use mathlib.Core.List.{List, [], _∷_}
-use Prim.Native.Nat.{ℕ, _+_, _*_, _-_, _%_, _≤_, _<_}
+use Prim.Native.Nat.{ℕ, _+_, _-_, _%_, _≤_, _<_}
 use native.Mathlib.Omega.{arith}
-use lib.Dec.{eqb, ltb}
+use lib.Dec.{eqb}
 use lib.ListN.{length, getD, set, drop, replicate, length-set, length-replicate, getD-replicate}
 use lib.Seq.{getD-set-same, getD-set-other}
 use borrow.Author.Tests.{eqb-true, eq-eqb, lt-ltb, not-true, not-false}
@@ -12,15 +12,24 @@ use Rattle.model.specs.Lists.{every}
 use Rattle.model.proofs.Cases.{by-test, both, and-both}
 use Rattle.model_packing.specs.Pieces.{Piece, piecesOf, serviceOf, those}
 use Rattle.model_packing.specs.Proposals.{liesIn, piecesIn, numbered}
-use Rattle.packing_limits.specs.Tables.{pieceAt, placeOf, firstService, sizes, Entered, EnteredPiece, joins, allJoin, Tables}
+use Rattle.packing_limits.specs.Tables.{pieceAt, placeOf, Placed, firstService, totalSize, Entered, EnteredPiece, joins, allJoin, Tables}
 use Rattle.packing_limits.proofs.Fives.{piece-first, piece-none, piece-left}
+
+-- tables without pieces tell none
+pub tables-blank : (services : List ℕ) (n : ℕ) → n ≡ 65536 → Tables services [] (replicate n 0) (replicate n 0)
+unfolding those firstService totalSize every
+tables-blank services n e =
+    record {
+      long = (length-replicate n 0 ∙ e, length-replicate n 0 ∙ e);
+      number = λ p b hp hb. getD-replicate n (placeOf p b) 0 0 (omega arith);
+      size = λ p b hp hb. getD-replicate n (placeOf p b) 0 0 (omega arith);
+      bytes = refl;
+    }
 
 -- the piece of the list that is entered
 pub piece-entered : (services l : List ℕ) (o run service place : ℕ) (ns ss ms ts : List ℕ) (r : Bool) → run ≡ getD l o 0 → service ≡ getD services run 0
-    → place ≡ placeOf (getD l (o + 3) 0) (getD l (o + 4) 0) → getD l (o + 3) 0 < 256 → getD l (o + 4) 0 < 256
-    → Entered service (getD l (o + 2) 0) place ns ss r ms ts → EnteredPiece services (pieceAt l o) ns ss r ms ts
-piece-entered services l o run service place ns ss ms ts r er es ep hp hb e =
-    record { packet = hp; block = hb; entered = rw (← er, ← es, ← ep) e }
+    → Placed (pieceAt l o) place → Entered service (getD l (o + 2) 0) place ns ss r ms ts → EnteredPiece services (pieceAt l o) ns ss r ms ts
+piece-entered services l o run service place ns ss ms ts r er es p e = record { packet = p .packet; block = p .block; entered = rw (← er, ← es, ← p .is) e }
 
 -- a piece lies in its block,
 pub lies-own : (q : Piece) → liesIn (q .packet) (q .block) q ≡ true
@@ -48,9 +57,9 @@ module _ (f : List Piece → ℕ) (ns : List ℕ) (long : length ns ≡ 65536) (
   told-more p b gp gb before own =
       by-test (liesIn p b q)
       (λ t.
-        let e = lies-facts p b q t in
-        let z : placeOf (q .packet) (q .block) ≡ placeOf p b = omega (arith, e .0, e .1) in
-        rw (t, z) (getD-set-same ns (placeOf p b) v 0 (omega arith) ∙ own t))
+      let e = lies-facts p b q t in
+      let z : placeOf (q .packet) (q .block) ≡ placeOf p b = omega (arith, e .0, e .1) in
+      rw (t, z) (getD-set-same ns (placeOf p b) v 0 (omega arith) ∙ own t))
       (λ o. rw o (getD-set-other ns (placeOf (q .packet) (q .block)) (placeOf p b) v 0 (other-place p b q gb hb o) ∙ before))
 
 module _ (services : List ℕ) (q : Piece) (qs : List Piece) (ns ss ms ts : List ℕ) (r : Bool) (t : Tables services qs ns ss) (e : EnteredPiece services q ns ss r ms ts) where
@@ -61,7 +70,7 @@ module _ (services : List ℕ) (q : Piece) (qs : List Piece) (ns ss ms ts : List
 
   -- and the tables are told then
   entered-tables : r ≡ true → Tables services (q ∷ qs) ms ts
-  unfolding firstService sizes every numbered
+  unfolding firstService totalSize every numbered
   entered-tables y =
       let en : ms ≡ set ns (placeOf (q .packet) (q .block)) (serviceOf services (q .run)) = rw y at (e .entered .numbers) in
       let es : ts ≡ set ss (placeOf (q .packet) (q .block)) (getD ss (placeOf (q .packet) (q .block)) 0 + q .size) = rw y at (e .entered .sizes) in
@@ -69,9 +78,9 @@ module _ (services : List ℕ) (q : Piece) (qs : List Piece) (ns ss ms ts : List
         long = (ap length en ∙ simp length-set (t .long .0), ap length es ∙ simp length-set (t .long .1));
         number = λ p b hp hb. rw en (told-more (firstService services) ns (t .long .0) q qs (e .packet) (e .block) _ p b hp hb (t .number p b hp hb) (λ _. refl));
         size = λ p b hp hb.
-          rw es
-          (told-more sizes ss (t .long .1) q qs (e .packet) (e .block) _ p b hp hb (t .size p b hp hb)
-          (λ o.
+            rw es
+            (told-more totalSize ss (t .long .1) q qs (e .packet) (e .block) _ p b hp hb (t .size p b hp hb)
+            (λ o.
             let w = lies-facts p b q o in
             let z : placeOf (q .packet) (q .block) ≡ placeOf p b = omega (arith, w .0, w .1) in
             let k = t .size p b hp hb in
@@ -115,10 +124,10 @@ module _ (services l ns ss ms ts : List ℕ) (o : ℕ) (r : Bool) (five : o % 5 
   join-stops n =
       by-test (allJoin services (piecesOf l))
       (λ y.
-        let w : allJoin services (piecesOf (drop (o - 5) l)) ≡ true =
-        piece-left (λ ps. allJoin services ps ≡ true) (join-fewer services) (o - 5) l (o - 5) (omega arith) (omega arith) (omega arith) y in
-        let v = both (joins services (pieceAt l (o - 5)) (piecesOf (drop o l))) _ (rw first-left at w) in
-        absurd (false≢true (sym (not-true r n) ∙ entered-joins services _ _ ns ss ms ts r t e ∙ v .0)))
+      let w : allJoin services (piecesOf (drop (o - 5) l)) ≡ true =
+      piece-left (λ ps. allJoin services ps ≡ true) (join-fewer services) (o - 5) l (o - 5) (omega arith) (omega arith) (omega arith) y in
+      let v = both (joins services (pieceAt l (o - 5)) (piecesOf (drop o l))) _ (rw first-left at w) in
+      absurd (false≢true (sym (not-true r n) ∙ entered-joins services _ _ ns ss ms ts r t e ∙ v .0)))
       (λ f. sym f)
 
 -- all pieces are entered

@@ -1,7 +1,7 @@
 -- The blocks of a proposal in two tables, for functions that are not public: at 256 places for each packet, the service and the bytes of each of its
 -- blocks. Assumes nothing.
 use mathlib.Core.Path.{_≡_}
-use mathlib.Core.Bool.{Bool, true, cond, not, _&&_, _||_}
+use mathlib.Core.Bool.{Bool, true, cond, _&&_, _||_}
 use mathlib.Core.List.{List, [], _∷_, flatMap}
 use Prim.Native.Nat.{ℕ, _+_, _*_, _<_}
 use lib.Dec.{eqb, leb}
@@ -27,15 +27,21 @@ pieceAt l o =
 abbrev pub placeOf : ℕ → ℕ → ℕ
 placeOf p b = 256 * p + b
 
+-- the place of the block that a piece lies in, whose packet and block have numbers of one byte
+pub record Placed (q : Piece) (place : ℕ) : Type 0 where
+  pub is : place ≡ placeOf (q .packet) (q .block)
+  pub packet : q .packet < 256
+  pub block : q .block < 256
+
 -- the service of the first of some pieces; 0 of none
 unfoldable pub firstService : List ℕ → List Piece → ℕ
 firstService services [] = 0
 firstService services (q ∷ qs) = serviceOf services (q .run)
 
 -- how many bytes some pieces have
-unfoldable pub sizes : List Piece → ℕ
-sizes [] = 0
-sizes (q ∷ qs) = q .size + sizes qs
+unfoldable pub totalSize : List Piece → ℕ
+totalSize [] = 0
+totalSize (q ∷ qs) = q .size + totalSize qs
 
 -- whether a block of this number takes a piece of that service: one without pieces has the number 0 and takes any
 unfoldable pub agrees : ℕ → ℕ → Bool
@@ -60,7 +66,7 @@ pub record EnteredPiece (services : List ℕ) (q : Piece) (ns ss : List ℕ) (r 
 -- whether a piece may stand in its block before the others
 unfoldable pub joins : List ℕ → Piece → List Piece → Bool
 joins services q qs =
-    enters (serviceOf services (q .run)) (q .size) (firstService services (piecesIn (q .packet) (q .block) qs)) (sizes (piecesIn (q .packet) (q .block) qs))
+    enters (serviceOf services (q .run)) (q .size) (firstService services (piecesIn (q .packet) (q .block) qs)) (totalSize (piecesIn (q .packet) (q .block) qs))
 
 -- whether each piece may stand before those that follow it
 unfoldable pub allJoin : List ℕ → List Piece → Bool
@@ -71,7 +77,7 @@ allJoin services (q ∷ qs) = joins services q qs && allJoin services qs
 pub record Tables (services : List ℕ) (ps : List Piece) (ns ss : List ℕ) : Type 0 where
   pub long : (length ns ≡ 65536) × (length ss ≡ 65536)
   pub number : (p b : ℕ) → p < 256 → b < 256 → getD ns (placeOf p b) 0 ≡ firstService services (piecesIn p b ps)
-  pub size : (p b : ℕ) → p < 256 → b < 256 → getD ss (placeOf p b) 0 ≡ sizes (piecesIn p b ps)
+  pub size : (p b : ℕ) → p < 256 → b < 256 → getD ss (placeOf p b) 0 ≡ totalSize (piecesIn p b ps)
   pub bytes : every numbered ps ≡ true
 
 -- the block at a place of the tables; none where the number is 0

@@ -9,11 +9,11 @@ ghost use Rattle.model.specs.Lists.{every};
 ghost use Rattle.model.specs.Packet.{validPacket};
 ghost use Rattle.model_packing.specs.Pieces.{piecesOf, countFrom};
 ghost use Rattle.model_packing.specs.Proposals.{limits, mostNumbers};
-ghost use Rattle.packing_limits.specs.Tables.{pieceAt, placeOf, agrees, Entered, EnteredPiece, allJoin, Tables, blockAt, packetAt, taken};
-use basics::wide;
+ghost use Rattle.packing_limits.specs.Tables.{pieceAt, Placed, agrees, Entered, EnteredPiece, allJoin, Tables, blockAt, packetAt, taken};
 use basics::MOST_NUMBER;
 use basics::MOST_PACKET;
 use basics::MOST_PAYLOAD;
+use basics::wide;
 use packing_runs::number_at;
 use packing_runs::runs_fit;
 use service_headers::block_length;
@@ -39,13 +39,13 @@ fn pieces_end(pieces: &[u8]) -> usize
 // The place in the tables of the block that a piece lies in.
 fn place_of(pieces: &[u8], at: usize) -> usize
     requires { ⌜ at + 5 ≤ length (now pieces) ⌝ }
-    ensures { λ r. ⌜ (r ≡ placeOf (pieceAt (now (pieces .entry)) at .packet) (pieceAt (now (pieces .entry)) at .block)) × (pieceAt (now (pieces .entry)) at .packet < 256) × (pieceAt (now (pieces .entry)) at .block < 256) ⌝ }
+    ensures { λ r. ⌜ Placed (pieceAt (now (pieces .entry)) at) r ⌝ }
 {
     wide(pieces[at + 3]) * 256 + wide(pieces[at + 4])
 }
 
 // Whether a block of this number takes a piece of that service; 0 is the number of a block without pieces.
-fn takes(number: u8, service: u8) -> bool
+fn admits(number: u8, service: u8) -> bool
     ensures { λ r. ⌜ r ≡ agrees number service ⌝ }
 {
     if number == 0 {
@@ -55,14 +55,20 @@ fn takes(number: u8, service: u8) -> bool
 }
 
 // Enters a piece of this service and size into the tables, at the place of its block; not one that may not stand there.
-fn enter(service: u8, size: u8, place: usize, numbers: &mut [u8; 65536], sizes: &mut [u8; 65536]) -> bool
+fn enter(
+    service: u8,
+    size: u8,
+    place: usize,
+    numbers: &mut [u8; 65536],
+    sizes: &mut [u8; 65536],
+) -> bool
     requires { ⌜ place < 65536 ⌝ }
     ensures { λ r. ⌜ Entered service size place (now (numbers .entry)) (now (sizes .entry)) r (now (numbers .exit)) (now (sizes .exit)) ⌝ }
 {
     if service < 1 {
         return false;
     }
-    if takes(numbers[place], service) {
+    if admits(numbers[place], service) {
         let used = wide(sizes[place]) + wide(size);
         if used <= MOST_PAYLOAD {
             numbers[place] = service;
@@ -74,7 +80,13 @@ fn enter(service: u8, size: u8, place: usize, numbers: &mut [u8; 65536], sizes: 
 }
 
 // Enters the piece at a place of the list.
-fn enter_piece(services: &[u8], pieces: &[u8], at: usize, numbers: &mut [u8; 65536], sizes: &mut [u8; 65536]) -> bool
+fn enter_piece(
+    services: &[u8],
+    pieces: &[u8],
+    at: usize,
+    numbers: &mut [u8; 65536],
+    sizes: &mut [u8; 65536],
+) -> bool
     requires { ⌜ at + 5 ≤ length (now pieces) ⌝ }
     ensures { λ r. ⌜ EnteredPiece (now (services .entry)) (pieceAt (now (pieces .entry)) at) (now (numbers .entry)) (now (sizes .entry)) r (now (numbers .exit)) (now (sizes .exit)) ⌝ }
 {
@@ -84,7 +96,12 @@ fn enter_piece(services: &[u8], pieces: &[u8], at: usize, numbers: &mut [u8; 655
 }
 
 // Enters all pieces into tables that have none, from the last to the first; until one may not stand in its block.
-fn enter_pieces(services: &[u8], pieces: &[u8], numbers: &mut [u8; 65536], sizes: &mut [u8; 65536]) -> bool
+fn enter_pieces(
+    services: &[u8],
+    pieces: &[u8],
+    numbers: &mut [u8; 65536],
+    sizes: &mut [u8; 65536],
+) -> bool
     requires { ⌜ Tables (now services) [] (now numbers) (now sizes) ⌝ }
     ensures { λ r. ⌜ (r ≡ allJoin (now (services .entry)) (piecesOf (now (pieces .entry)))) × (r ≡ true → Tables (now (services .entry)) (piecesOf (now (pieces .entry))) (now (numbers .exit)) (now (sizes .exit))) ⌝ }
 {

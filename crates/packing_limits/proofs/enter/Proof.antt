@@ -7,11 +7,11 @@ use Rattle.packing_limits.proofs.enter.Tie as tie
 returns : tie.Need-returns
 returns c = search (needs, enter-unnamed)
 
-element-copy-out-takes : tie.Need-element-copy-out-takes
-element-copy-out-takes c = search needs
+element-copy-out-admits : tie.Need-element-copy-out-admits
+element-copy-out-admits c = search needs
 
-takes-requires : tie.Need-takes-requires
-takes-requires c κs = search needs
+admits-requires : tie.Need-admits-requires
+admits-requires c κs = search needs
 
 element-copy-out-wide : tie.Need-element-copy-out-wide
 element-copy-out-wide c = search needs
@@ -48,8 +48,8 @@ enter-spec =
     tie.close
     (tie.spec
     returns
-    element-copy-out-takes
-    takes-requires
+    element-copy-out-admits
+    admits-requires
     element-copy-out-wide
     wide-requires
     wide-requires-2

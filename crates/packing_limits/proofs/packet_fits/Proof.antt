@@ -4,7 +4,7 @@ use Prim.Native.Nat.{_+_, _-_, _≤_}
 use native.Mathlib.Omega.{arith}
 use borrow.Author.Needs.{needs}
 use Rattle.packing_limits.specs.Tables.{blocksAt, taken}
-use Rattle.packing_limits.proofs.Sums.{rest, rest-first, rest-more, rest-over, rest-none}
+use Rattle.packing_limits.proofs.Sums.{rest, rest-more, rest-over, rest-none}
 use Rattle.packing_limits.proofs.packet_fits.Statement.{statement}
 use Rattle.packing_limits.proofs.packet_fits.Tie as tie
 
@@ -15,7 +15,7 @@ abbrev μ-loop : tie.MeasureT-loop
 μ-loop numbers sizes packet length₀ block₀ length block = 256 - block
 
 loop-holds : tie.Need-loop-holds Inv-loop μ-loop
-loop-holds c = (omega arith, omega arith, search (needs, rest-first))
+loop-holds c = (omega arith, omega arith, search needs)
 
 mul-length-at : tie.Need-mul-length-at Inv-loop μ-loop
 mul-length-at c = search needs

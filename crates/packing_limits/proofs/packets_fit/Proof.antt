@@ -6,7 +6,7 @@ use borrow.Author.Needs.{needs}
 use Rattle.model.specs.Lists.{every}
 use Rattle.model.specs.Packet.{validPacket}
 use Rattle.model_packing.specs.Pieces.{countFrom}
-use Rattle.model_packing.proofs.Counts.{left, left-first, left-none, left-stops, left-more}
+use Rattle.model_packing.proofs.Counts.{left, left-none, left-stops, left-more}
 use Rattle.packing_limits.specs.Tables.{packetAt}
 use Rattle.packing_limits.proofs.packets_fit.Statement.{statement}
 use Rattle.packing_limits.proofs.packets_fit.Tie as tie
@@ -18,7 +18,7 @@ abbrev μ-loop : tie.MeasureT-loop
 μ-loop numbers sizes packet₀ packet = 256 - packet
 
 loop-holds : tie.Need-loop-holds Inv-loop μ-loop
-loop-holds c = (omega arith, search (needs, left-first))
+loop-holds c = (omega arith, search needs)
 
 packet-fits-requires : tie.Need-packet-fits-requires Inv-loop μ-loop
 packet-fits-requires c κs = search needs

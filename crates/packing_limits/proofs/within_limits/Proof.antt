@@ -1,6 +1,7 @@
 -- The runs fit, the tables tell the blocks of all pieces, and the packets that they make decide. Assumes nothing.
 use mathlib.Core.Path.{refl}
-use Rattle.packing_limits.proofs.Limits.{limits-unfit, limits-unjoined, limits-packets, tables-blank}
+use Rattle.packing_limits.proofs.Limits.{limits-unfit, limits-unjoined, limits-packets}
+use Rattle.packing_limits.proofs.Tabled.{tables-blank}
 use borrow.Author.Needs.{needs}
 use Rattle.packing_limits.proofs.within_limits.Statement.{statement}
 use Rattle.packing_limits.proofs.within_limits.Tie as tie
