@@ -1,0 +1,6 @@
+pub mod Entries
+pub mod Sums
+pub mod Fives
+pub mod Tabled
+pub mod Joining
+pub mod Limits
