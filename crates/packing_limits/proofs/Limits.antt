@@ -15,7 +15,8 @@ use Rattle.model.proofs.Blocks.{Carriable, carriable-facts}
 use Rattle.model.proofs.Packets.{valid-facts}
 use Rattle.model_packing.specs.Pieces.{Piece, serviceOf, countFrom}
 use Rattle.model_packing.specs.Proposals.{liesIn, piecesIn, blockFor, blocksIn, blank, blankPacket, runsFit, numbered, oneService, limits}
-use Rattle.model_packing.proofs.Lists.{In, here, every-in, in-those, those-in, in-flatMap, in-count, every-count}
+use Rattle.model_packing.proofs.Lists.{In, here, every-in, in-those, those-in, in-flatMap, in-count}
+use Rattle.model_packing.proofs.Limits.{limits-all}
 use Rattle.packing_limits.specs.Tables.{placeOf, firstService, totalSize, allJoin, Tables, blockAt, blocksAt, packetAt}
 use Rattle.packing_limits.proofs.Tabled.{lies-own}
 use Rattle.packing_limits.proofs.Joining.{joined-first, joined-one, Sound, sound-joins}
@@ -64,7 +65,7 @@ module _ (services lengths : List ℕ) (ps : List Piece) where
     fit : runsFit services lengths ≡ true
     bytes : every numbered ps ≡ true
     alike : every (oneService services ps) ps ≡ true
-    valid : every (λ p. validPacket (blankPacket services ps p)) (countFrom 0 256) ≡ true
+    valid : every (λ (q : Piece). validPacket (blankPacket services ps (q .packet))) ps ≡ true
 
   within-facts : limits services lengths ps ≡ true → Within
   unfolding limits
@@ -79,9 +80,8 @@ module _ (services lengths : List ℕ) (ps : List Piece) where
   unfolding numbered blocksIn
   within-block w q i =
       let n = both (ltb (q .packet) 256) (ltb (q .block) 256) (every-in numbered ps (w .bytes) i) in
-      let hp : q .packet < 256 = ltb-true _ _ (n .0) in
       let hb : q .block < 256 = ltb-true _ _ (n .1) in
-      let v = valid-facts (blankPacket services ps (q .packet)) (every-count (λ p. validPacket (blankPacket services ps p)) 0 256 (q .packet) (w .valid) (omega arith) (omega arith)) in
+      let v = valid-facts (blankPacket services ps (q .packet)) (every-in (λ (r : Piece). validPacket (blankPacket services ps (r .packet))) ps (w .valid) i) in
       carriable-facts _
       (every-in carriable (blocksIn services (λ r. blank (r .size)) ps (q .packet)) (v .blocks)
       (in-flatMap (λ b. blockFor services (λ r. blank (r .size)) (piecesIn (q .packet) b ps)) (countFrom 0 256) (in-count (q .block) 0 256 (omega arith) (omega arith))
@@ -144,9 +144,8 @@ module _ (services lengths : List ℕ) (ps : List Piece) where
 
     -- the packets decide
     limits-told : runsFit services lengths ≡ true → limits services lengths ps ≡ every (λ p. validPacket (packetAt ns ss p)) (countFrom 0 256)
-    unfolding limits
     limits-told fit =
-        rw (fit, t .bytes, joined-one services ps joined)
+        limits-all services lengths ps ∙ rw (fit, t .bytes, joined-one services ps joined)
         (every-same (λ p. validPacket (blankPacket services ps p)) (λ p. validPacket (packetAt ns ss p)) 256
         (λ p hp. ap (λ bs. validPacket (record { sequence = 0; blocks = bs })) (told-packet p hp)))
 
