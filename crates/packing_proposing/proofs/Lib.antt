@@ -1,0 +1,4 @@
+pub mod Pushes
+pub mod Fillings
+pub mod Going
+pub mod Answers
