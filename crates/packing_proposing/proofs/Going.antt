@@ -49,13 +49,21 @@ module _ (services lengths : List ℕ) (packs : packable services lengths ≡ tr
       carriable-facts (record { number = serviceOf services i; payload = blank (getD lengths i 0) })
       (every-count (runFits services lengths) 0 (length services) i (fits .1) (omega arith) (omega arith))
 
--- how many packets are filled, without runs and with some
+-- an output with all pieces in front
+abbrev whole : List ℕ → List ℕ → List ℕ → List ℕ
+whole services lengths out = sets out 0 (numbersOf (firstCome services lengths))
+
+-- and how many packets are filled then
+abbrev packetsOf : List ℕ → List ℕ → ℕ
+packetsOf services lengths = packetsFrom services lengths (length services) 0 start
+
+-- none without runs, and so many with some
 pub none-filled : (services lengths : List ℕ) → length services ≡ 0 → 0 ≡ packetsFilled services lengths
 unfolding packetsFilled
 none-filled [] lengths h = refl
 none-filled (s ∷ services) lengths h = absurd (omega arith)
 
-some-filled : (services lengths : List ℕ) → (length services ≡ 0 → ⊥) → packetsFrom services lengths (length services) 0 start ≡ packetsFilled services lengths
+some-filled : (services lengths : List ℕ) → (length services ≡ 0 → ⊥) → packetsOf services lengths ≡ packetsFilled services lengths
 unfolding packetsFilled
 some-filled [] lengths h = absurd (h refl)
 some-filled (s ∷ services) lengths h = refl
@@ -67,12 +75,12 @@ pub record Going (services lengths before : List ℕ) (i : ℕ) (at : Filling) (
   pub valid : validDTVCC (at .packet) ≡ true
   pub first : i ≡ 0 → fillingOf at ≡ start
   pub few : 1 ≤ i → at .before < i
-  pub left : sets out (5 * i) (numbersOf (piecesFrom services lengths (length services - i) i (fillingOf at))) ≡ sets before 0 (numbersOf (firstCome services lengths))
-  pub packets : packetsFrom services lengths (length services - i) i (fillingOf at) ≡ packetsFrom services lengths (length services) 0 start
+  pub left : sets out (5 * i) (numbersOf (piecesFrom services lengths (length services - i) i (fillingOf at))) ≡ whole services lengths before
+  pub packets : packetsFrom services lengths (length services - i) i (fillingOf at) ≡ packetsOf services lengths
 
 module _ (services lengths before : List ℕ) where
   -- without runs there is nothing to put
-  pub none-put : length services ≡ 0 → before ≡ sets before 0 (numbersOf (firstCome services lengths))
+  pub none-put : length services ≡ 0 → before ≡ whole services lengths before
   unfolding piecesFrom numbersOf
   none-put h = rw h
 
@@ -107,7 +115,7 @@ module _ (services lengths before : List ℕ) where
         ∙ ap length (g .left) ∙ length-sets before 0 (numbersOf (firstCome services lengths))
 
     -- at last all are
-    pub going-put : length services ≤ i → out ≡ sets before 0 (numbersOf (firstCome services lengths))
+    pub going-put : length services ≤ i → out ≡ whole services lengths before
     unfolding piecesFrom numbersOf
     going-put h = let z : length services - i ≡ 0 = omega arith in rw z at (g .left)
 
@@ -115,7 +123,7 @@ module _ (services lengths before : List ℕ) where
     unfolding packetsFrom
     going-filled h some =
         let z : length services - i ≡ 0 = omega arith in
-        let p : suc (at .before) ≡ packetsFrom services lengths (length services) 0 start = rw z at (g .packets) in
+        let p : suc (at .before) ≡ packetsOf services lengths = rw z at (g .packets) in
         add-one (at .before) ∙ p ∙ some-filled services lengths some
 
     -- between them, run i is next
@@ -161,11 +169,11 @@ module _ (services lengths before : List ℕ) where
             let k : ℕ = length services - suc i in
             let z : length services - i ≡ suc k = omega arith in
             let w : 5 * (i + 1) ≡ 5 * i + 5 = omega arith in
-            let l : sets out (5 * i) (numbersOf (piecesFrom services lengths (suc k) i (fillingOf at))) ≡ sets before 0 (numbersOf (firstCome services lengths)) = rw z at (g .left) in
-            let m : sets out (5 * i) (numbersOf (pieceFor i s n (fillingOf to) ∷ piecesFrom services lengths k (suc i) (fillingOf to))) ≡ sets before 0 (numbersOf (firstCome services lengths)) =
-            subst (λ (f : model.Filling). sets out (5 * i) (numbersOf (pieceFor i s n f ∷ piecesFrom services lengths k (suc i) f)) ≡ sets before 0 (numbersOf (firstCome services lengths))) (sym to-is) l in
-            let p : packetsFrom services lengths (suc k) i (fillingOf at) ≡ packetsFrom services lengths (length services) 0 start = rw z at (g .packets) in
-            let q : packetsFrom services lengths k (suc i) (placedRun services lengths i (fillingOf at)) ≡ packetsFrom services lengths (length services) 0 start = p in
+            let l : sets out (5 * i) (numbersOf (piecesFrom services lengths (suc k) i (fillingOf at))) ≡ whole services lengths before = rw z at (g .left) in
+            let m : sets out (5 * i) (numbersOf (pieceFor i s n (fillingOf to) ∷ piecesFrom services lengths k (suc i) (fillingOf to))) ≡ whole services lengths before =
+            subst (λ (f : model.Filling). sets out (5 * i) (numbersOf (pieceFor i s n f ∷ piecesFrom services lengths k (suc i) f)) ≡ whole services lengths before) (sym to-is) l in
+            let p : packetsFrom services lengths (suc k) i (fillingOf at) ≡ packetsOf services lengths = rw z at (g .packets) in
+            let q : packetsFrom services lengths k (suc i) (placedRun services lengths i (fillingOf at)) ≡ packetsOf services lengths = p in
             record {
               packs = g .packs;
               upto = omega arith;

@@ -1,4 +1,5 @@
 pub mod Pushes
 pub mod Fillings
 pub mod Going
-pub mod Answers
+pub mod Calls
+pub mod Told

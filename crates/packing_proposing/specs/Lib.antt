@@ -1,2 +1,2 @@
-pub mod Proposals
+pub mod Calls
 pub mod Fillings

@@ -8,7 +8,7 @@ ghost use Rattle.model.specs.Packet.{latest};
 ghost use Rattle.packet.specs.Packet.{validDTVCC, packetOf};
 ghost use Rattle.model_packing.specs.Pieces.{numbersOf};
 ghost use Rattle.model_packing.specs.FirstCome.{firstCome, packetsFilled, packable, placeOr0};
-ghost use Rattle.packing_proposing.specs.Proposals.{Proposes};
+ghost use Rattle.packing_proposing.specs.Calls.{Proposes};
 ghost use Rattle.packing_proposing.specs.Fillings.{BeginsWith, PlacesRun};
 use basics::put_bytes;
 use caption::Answer;

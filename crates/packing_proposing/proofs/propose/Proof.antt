@@ -1,7 +1,7 @@
 -- Each refusal where what comes before it has passed; else the pieces of all runs are put. Assumes nothing.
 use borrow.Author.Tests.{not-true, not-false}
 use borrow.Author.Needs.{needs}
-use Rattle.packing_proposing.proofs.Answers.{too-many, one-unfit, all-fit, out-short, made}
+use Rattle.packing_proposing.proofs.Calls.{too-many, one-unfit, all-fit, out-short, made}
 use Rattle.packing_proposing.proofs.propose.Statement.{statement}
 use Rattle.packing_proposing.proofs.propose.Tie as tie
 

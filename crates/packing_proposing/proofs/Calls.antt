@@ -15,7 +15,7 @@ use Rattle.model_packing.specs.Pieces.{Piece, numbersOf}
 use Rattle.model_packing.specs.Proposals.{runsFit}
 use Rattle.model_packing.specs.FirstCome.{Filling, start, placedRun, piecesFrom, firstCome, packetsFilled, packable, propose}
 use Rattle.packing_proposing.specs.declared.Proposal.the-variants.{Made, Refused}
-use Rattle.packing_proposing.specs.Proposals.{Proposes}
+use Rattle.packing_proposing.specs.Calls.{Proposes}
 
 -- five numbers for each piece
 length-numbers : (ps : List Piece) → length (numbersOf ps) ≡ 5 * length ps
