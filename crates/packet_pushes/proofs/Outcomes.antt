@@ -52,7 +52,7 @@ pub same-stores : (o o′ : Outcome Fields) (f : Fields) (r : Counted) (x : Arra
 same-stores o o′ f r x e a = rw e a
 
 -- the place of the latest block, in the model's words
-abbrev placeOf : Found → Option ℕ
+abbrev pub placeOf : Found → Option ℕ
 placeOf (At i) = some i
 placeOf Nothing = none
 
@@ -65,7 +65,7 @@ module _ (p : Fields) (w : Within p) (places : Places p) (n : ℕ) where
       rw (number-held p w places k (omega arith))
       (by-test (eqb (getD (p .numbers) k 0) n) (λ e. rw e) (λ e. rw e (latest-up k (omega arith))))
 
-  latest-held : latest n (packetIn p) ≡ placeOf (extent.latestOf (p .count) (p .numbers) n)
+  pub latest-held : latest n (packetIn p) ≡ placeOf (extent.latestOf (p .count) (p .numbers) n)
   latest-held = rw (blocks-count p, latest-few (p .numbers) n (p .count) (w .count)) (latest-up (p .count) (omega arith))
 
 -- the place that is found is one of the blocks

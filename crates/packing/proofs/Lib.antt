@@ -1,1 +1,6 @@
+pub mod Pushes
+pub mod Fillings
+pub mod Going
+pub mod Calls
+pub mod Told
 pub mod Pushed

@@ -1,1 +1,3 @@
+pub mod Calls
+pub mod Fillings
 pub mod Pushing

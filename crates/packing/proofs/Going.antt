@@ -1,0 +1,185 @@
+-- The packer between two runs: what it has placed, and what is left to place, make the whole proposal. Assumes nothing.
+use mathlib.Core.Path.{_≡_, refl, sym, ap, subst, _∙_}
+use mathlib.Core.Bool.{true}
+use mathlib.Core.List.{List, [], _∷_}
+use Prim.Native.Nat.{ℕ, suc, _+_, _-_, _*_, _≤_, _<_}
+use native.Mathlib.Omega.{arith}
+use native.Mathlib.Numerals.{add-one}
+use lib.Dec.{eqb, leb}
+use lib.ListN.{length, getD, length-replicate}
+use lib.Seq.{sets, length-sets}
+use borrow.Author.Tests.{leb-true, eqb-true, eqb-false}
+use Rattle.model.specs.Packet.{latest, newPacket}
+use Rattle.model.proofs.Cases.{by-test, both}
+use Rattle.model.proofs.Blocks.{Carriable, carriable-facts}
+use Rattle.packet.specs.declared.PacketAnswer.{PacketAnswer}
+use Rattle.packet.specs.Packet.{Answers, packetOf, validDTVCC}
+use Rattle.packet.specs.Packet as packet
+use Rattle.packet.proofs.Holds.{within-facts, held-valid}
+use Rattle.packet.proofs.Keeps.{blank-valid}
+use Rattle.model_packing.specs.Pieces.{numbersOf, serviceOf}
+use Rattle.model_packing.specs.Proposals.{blank, runFits, runsFit}
+use Rattle.model_packing.specs.FirstCome.{start, placed, placedRun, placeOr0, pieceFor, piecesFrom, packetsFrom, firstCome, packetsFilled, packable}
+use Rattle.model_packing.specs.FirstCome as model
+use Rattle.model_packing.proofs.Lists.{every-count}
+use Rattle.packing.specs.declared.Filling.{Filling}
+use Rattle.packing.specs.Fillings.{fillingOf, PlacesRun}
+use Rattle.packing.proofs.Pushes.{first-before, placed-before, latest-small}
+use Rattle.packing.proofs.Fillings.{new-blank, blank-holds}
+
+-- five numbers stored, then the rest
+stored : (l : List ℕ) (o a b d e f : ℕ) (vs : List ℕ)
+    → sets l o (a ∷ (b ∷ (d ∷ (e ∷ (f ∷ vs))))) ≡ sets (sets l o (a ∷ b ∷ d ∷ e ∷ f ∷ [])) (o + 5) vs
+stored l o a b d e f vs = let p : o + 5 ≡ suc (suc (suc (suc (suc o)))) = omega arith in rw p
+
+-- runs that a proposal can be made for
+module _ (services lengths : List ℕ) (packs : packable services lengths ≡ true) where
+  fits : (leb (length services) 256 ≡ true) × (runsFit services lengths ≡ true)
+  unfolding packable
+  fits = both (leb (length services) 256) (runsFit services lengths) packs
+
+  -- are 256 at the most
+  pub runs-few : length services ≤ 256
+  runs-few = leb-true (length services) 256 (fits .0)
+
+  -- and each may stand in a packet as a block
+  pub run-carriable : (i : ℕ) → i < length services → Carriable (record { number = serviceOf services i; payload = blank (getD lengths i 0) })
+  unfolding runsFit runFits
+  run-carriable i h =
+      carriable-facts (record { number = serviceOf services i; payload = blank (getD lengths i 0) })
+      (every-count (runFits services lengths) 0 (length services) i (fits .1) (omega arith) (omega arith))
+
+-- an output with all pieces in front
+abbrev whole : List ℕ → List ℕ → List ℕ → List ℕ
+whole services lengths out = sets out 0 (numbersOf (firstCome services lengths))
+
+-- and how many packets are filled then
+abbrev packetsOf : List ℕ → List ℕ → ℕ
+packetsOf services lengths = packetsFrom services lengths (length services) 0 start
+
+-- none without runs, and so many with some
+pub none-filled : (services lengths : List ℕ) → length services ≡ 0 → 0 ≡ packetsFilled services lengths
+unfolding packetsFilled
+none-filled [] lengths h = refl
+none-filled (s ∷ services) lengths h = absurd (omega arith)
+
+some-filled : (services lengths : List ℕ) → (length services ≡ 0 → ⊥) → packetsOf services lengths ≡ packetsFilled services lengths
+unfolding packetsFilled
+some-filled [] lengths h = absurd (h refl)
+some-filled (s ∷ services) lengths h = refl
+
+-- i runs are placed: the output with the pieces of the rest is the whole output, and their packets are all packets
+pub record Going (services lengths before : List ℕ) (i : ℕ) (at : Filling) (out : List ℕ) : Type 0 where
+  pub packs : packable services lengths ≡ true
+  pub upto : i ≤ length services
+  pub valid : validDTVCC (at .packet) ≡ true
+  pub first : i ≡ 0 → fillingOf at ≡ start
+  pub few : 1 ≤ i → at .before < i
+  pub left : sets out (5 * i) (numbersOf (piecesFrom services lengths (length services - i) i (fillingOf at))) ≡ whole services lengths before
+  pub packets : packetsFrom services lengths (length services - i) i (fillingOf at) ≡ packetsOf services lengths
+
+module _ (services lengths before : List ℕ) where
+  -- without runs there is nothing to put
+  pub none-put : length services ≡ 0 → before ≡ whole services lengths before
+  unfolding piecesFrom numbersOf
+  none-put h = rw h
+
+  -- at first nothing is placed
+  pub going-first : packable services lengths ≡ true → (new : PacketAnswer) → Answers (newPacket 0) packet.blank new
+      → Going services lengths before 0 (record { before = 0; packet = new .packet }) before
+  going-first e new n =
+      let z : length services - 0 ≡ length services = omega arith in
+      rw (new-blank new n)
+      (record {
+        packs = e;
+        upto = omega arith;
+        valid = blank-valid;
+        first = λ _. rw blank-holds;
+        few = λ h. absurd (omega arith);
+        left = rw (z, blank-holds);
+        packets = rw (z, blank-holds);
+      })
+
+  module _ (i : ℕ) (at : Filling) (out : List ℕ) (g : Going services lengths before i at out) where
+    -- there are few packets before the one that is being filled
+    pub going-few : at .before ≤ 255
+    going-few =
+        by-test (eqb i 0)
+        (λ z. let b : at .before ≡ 0 = ap (λ (f : model.Filling). f .before) (g .first (eqb-true i 0 z)) in omega arith)
+        (λ z. omega (arith, g .few (omega (arith, eqb-false i 0 z)), g .upto, runs-few services lengths (g .packs)))
+
+    -- the output keeps its length
+    pub going-length : length out ≡ length before
+    going-length =
+        sym (length-sets out (5 * i) (numbersOf (piecesFrom services lengths (length services - i) i (fillingOf at))))
+        ∙ ap length (g .left) ∙ length-sets before 0 (numbersOf (firstCome services lengths))
+
+    -- at last all are
+    pub going-put : length services ≤ i → out ≡ whole services lengths before
+    unfolding piecesFrom numbersOf
+    going-put h = let z : length services - i ≡ 0 = omega arith in rw z at (g .left)
+
+    pub going-filled : length services ≤ i → (length services ≡ 0 → ⊥) → at .before + 1 ≡ packetsFilled services lengths
+    unfolding packetsFrom
+    going-filled h some =
+        let z : length services - i ≡ 0 = omega arith in
+        let p : suc (at .before) ≡ packetsOf services lengths = rw z at (g .packets) in
+        add-one (at .before) ∙ p ∙ some-filled services lengths some
+
+    -- between them, run i is next
+    module _ (h : i < length services) where
+      abbrev s : ℕ
+      s = serviceOf services i
+
+      abbrev n : ℕ
+      n = getD lengths i 0
+
+      run-fits : Carriable (record { number = s; payload = blank n })
+      run-fits = run-carriable services lengths (g .packs) i h
+
+      -- it has few bytes
+      pub next-small : (size : ℕ) → size ≡ n → size ≤ 31
+      next-small size e = omega (arith, run-fits .small, length-replicate {A = ℕ} n 0)
+
+      -- the run is placed
+      module _ (service size : ℕ) (to : Filling) (es : service ≡ s) (en : size ≡ n) (t : PlacesRun service size at to) where
+        to-is : fillingOf to ≡ placedRun services lengths i (fillingOf at)
+        to-is = t .means ∙ rw (es, en)
+
+        -- so many packets are before it at the most
+        before-few : to .before ≤ i
+        before-few =
+            let b : to .before ≡ placed s (blank n) (fillingOf at) .before = ap (λ (f : model.Filling). f .before) to-is in
+            by-test (eqb i 0)
+            (λ z. let f : to .before ≡ 0 = b ∙ rw (g .first (eqb-true i 0 z)) (first-before s n run-fits) in omega arith)
+            (λ z. omega (arith, b, placed-before s (blank n) (fillingOf at), g .few (omega (arith, eqb-false i 0 z))))
+
+        pub piece-small : (block : ℕ) → block ≡ placeOr0 (latest service (packetOf (to .packet))) → (i < 256) × (size < 256) × (to .before < 256) × (block < 256)
+        piece-small block e = (
+          omega (arith, runs-few services lengths (g .packs)),
+          omega (arith, next-small size en),
+          omega (arith, before-few, runs-few services lengths (g .packs)),
+          omega (arith, latest-small (packetOf (to .packet)) (held-valid (to .packet) (within-facts (to .packet) (t .valid))) service),
+        )
+
+        pub going-on : (block : ℕ) → block ≡ placeOr0 (latest service (packetOf (to .packet)))
+            → (end : List ℕ) → end ≡ sets out (5 * i) (i ∷ 0 ∷ size ∷ to .before ∷ block ∷ []) → Going services lengths before (i + 1) to end
+        unfolding piecesFrom packetsFrom numbersOf
+        going-on block eb end e =
+            let k : ℕ = length services - suc i in
+            let z : length services - i ≡ suc k = omega arith in
+            let w : 5 * (i + 1) ≡ 5 * i + 5 = omega arith in
+            let l : sets out (5 * i) (numbersOf (piecesFrom services lengths (suc k) i (fillingOf at))) ≡ whole services lengths before = rw z at (g .left) in
+            let m : sets out (5 * i) (numbersOf (pieceFor i s n (fillingOf to) ∷ piecesFrom services lengths k (suc i) (fillingOf to))) ≡ whole services lengths before =
+            subst (λ (f : model.Filling). sets out (5 * i) (numbersOf (pieceFor i s n f ∷ piecesFrom services lengths k (suc i) f)) ≡ whole services lengths before) (sym to-is) l in
+            let p : packetsFrom services lengths (suc k) i (fillingOf at) ≡ packetsOf services lengths = rw z at (g .packets) in
+            let q : packetsFrom services lengths k (suc i) (placedRun services lengths i (fillingOf at)) ≡ packetsOf services lengths = p in
+            record {
+              packs = g .packs;
+              upto = omega arith;
+              valid = t .valid;
+              first = λ q. absurd (omega arith);
+              few = λ _. omega (arith, before-few);
+              left = rw (e, w, add-one i, eb, es, en, ← stored) m;
+              packets = rw (add-one i, to-is) q;
+            }
