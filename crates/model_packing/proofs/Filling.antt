@@ -97,7 +97,7 @@ bounded-start = record { valid = bare-valid; first = λ _. refl; fewer = λ h. a
 
 module _ (services lengths : List ℕ) (i : ℕ) (fits : runFits services lengths i ≡ true) where
   -- a run that fits may stand in a packet as a block
-  fits-carriable : Carriable (record { number = serviceOf services i; payload = blank (getD lengths i 0) })
+  pub fits-carriable : Carriable (record { number = serviceOf services i; payload = blank (getD lengths i 0) })
   unfolding runFits
   fits-carriable = carriable-facts (record { number = serviceOf services i; payload = blank (getD lengths i 0) }) fits
 

@@ -21,33 +21,15 @@ use Rattle.model_packing.specs.Pieces.{numbersOf, serviceOf}
 use Rattle.model_packing.specs.Proposals.{blank, runFits, runsFit}
 use Rattle.model_packing.specs.FirstCome.{start, placed, placedRun, placeOr0, pieceFor, piecesFrom, packetsFrom, firstCome, packetsFilled, packable}
 use Rattle.model_packing.specs.FirstCome as model
-use Rattle.model_packing.proofs.Lists.{every-count}
+use Rattle.model_packing.proofs.Filling.{PlacedAt, Bounded, bounded-start, fits-carriable, run-placed, bounded-next, few-runs, run-fits}
 use Rattle.packing.specs.declared.Filling.{Filling}
 use Rattle.packing.specs.Fillings.{fillingOf, PlacesRun}
-use Rattle.packing.proofs.Pushes.{first-before, placed-before, latest-small}
 use Rattle.packing.proofs.Fillings.{new-blank, blank-holds}
 
 -- five numbers stored, then the rest
 stored : (l : List ℕ) (o a b d e f : ℕ) (vs : List ℕ)
     → sets l o (a ∷ (b ∷ (d ∷ (e ∷ (f ∷ vs))))) ≡ sets (sets l o (a ∷ b ∷ d ∷ e ∷ f ∷ [])) (o + 5) vs
 stored l o a b d e f vs = let p : o + 5 ≡ suc (suc (suc (suc (suc o)))) = omega arith in rw p
-
--- runs that a proposal can be made for
-module _ (services lengths : List ℕ) (packs : packable services lengths ≡ true) where
-  fits : (leb (length services) 256 ≡ true) × (runsFit services lengths ≡ true)
-  unfolding packable
-  fits = both (leb (length services) 256) (runsFit services lengths) packs
-
-  -- are 256 at the most
-  pub runs-few : length services ≤ 256
-  runs-few = leb-true (length services) 256 (fits .0)
-
-  -- and each may stand in a packet as a block
-  pub run-carriable : (i : ℕ) → i < length services → Carriable (record { number = serviceOf services i; payload = blank (getD lengths i 0) })
-  unfolding runsFit runFits
-  run-carriable i h =
-      carriable-facts (record { number = serviceOf services i; payload = blank (getD lengths i 0) })
-      (every-count (runFits services lengths) 0 (length services) i (fits .1) (omega arith) (omega arith))
 
 -- an output with all pieces in front
 abbrev whole : List ℕ → List ℕ → List ℕ → List ℕ
@@ -73,8 +55,7 @@ pub record Going (services lengths before : List ℕ) (i : ℕ) (at : Filling) (
   pub packs : packable services lengths ≡ true
   pub upto : i ≤ length services
   pub valid : validDTVCC (at .packet) ≡ true
-  pub first : i ≡ 0 → fillingOf at ≡ start
-  pub few : 1 ≤ i → at .before < i
+  pub bounded : Bounded i (fillingOf at)
   pub left : sets out (5 * i) (numbersOf (piecesFrom services lengths (length services - i) i (fillingOf at))) ≡ whole services lengths before
   pub packets : packetsFrom services lengths (length services - i) i (fillingOf at) ≡ packetsOf services lengths
 
@@ -94,8 +75,7 @@ module _ (services lengths before : List ℕ) where
         packs = e;
         upto = omega arith;
         valid = blank-valid;
-        first = λ _. rw blank-holds;
-        few = λ h. absurd (omega arith);
+        bounded = rw blank-holds bounded-start;
         left = rw (z, blank-holds);
         packets = rw (z, blank-holds);
       })
@@ -105,8 +85,8 @@ module _ (services lengths before : List ℕ) where
     pub going-few : at .before ≤ 255
     going-few =
         by-test (eqb i 0)
-        (λ z. let b : at .before ≡ 0 = ap (λ (f : model.Filling). f .before) (g .first (eqb-true i 0 z)) in omega arith)
-        (λ z. omega (arith, g .few (omega (arith, eqb-false i 0 z)), g .upto, runs-few services lengths (g .packs)))
+        (λ z. let b : at .before ≡ 0 = ap (λ (f : model.Filling). f .before) (g .bounded .first (eqb-true i 0 z)) in omega arith)
+        (λ z. omega (arith, g .bounded .fewer (omega (arith, eqb-false i 0 z)), g .upto, few-runs services lengths (g .packs)))
 
     -- the output keeps its length
     pub going-length : length out ≡ length before
@@ -134,32 +114,34 @@ module _ (services lengths before : List ℕ) where
       abbrev n : ℕ
       n = getD lengths i 0
 
-      run-fits : Carriable (record { number = s; payload = blank n })
-      run-fits = run-carriable services lengths (g .packs) i h
+      fits : runFits services lengths i ≡ true
+      fits = run-fits services lengths (g .packs) i h
 
       -- it has few bytes
       pub next-small : (size : ℕ) → size ≡ n → size ≤ 31
-      next-small size e = omega (arith, run-fits .small, length-replicate {A = ℕ} n 0)
+      next-small size e = omega (arith, fits-carriable services lengths i fits .small, length-replicate {A = ℕ} n 0)
 
       -- the run is placed
       module _ (service size : ℕ) (to : Filling) (es : service ≡ s) (en : size ≡ n) (t : PlacesRun service size at to) where
         to-is : fillingOf to ≡ placedRun services lengths i (fillingOf at)
         to-is = t .means ∙ rw (es, en)
 
-        -- so many packets are before it at the most
-        before-few : to .before ≤ i
-        before-few =
-            let b : to .before ≡ placed s (blank n) (fillingOf at) .before = ap (λ (f : model.Filling). f .before) to-is in
-            by-test (eqb i 0)
-            (λ z. let f : to .before ≡ 0 = b ∙ rw (g .first (eqb-true i 0 z)) (first-before s n run-fits) in omega arith)
-            (λ z. omega (arith, b, placed-before s (blank n) (fillingOf at), g .few (omega (arith, eqb-false i 0 z))))
+        -- which keeps the bounds
+        to-bounded : Bounded (suc i) (fillingOf to)
+        to-bounded = rw to-is (bounded-next services lengths i fits (fillingOf at) (g .bounded))
+
+        to-placed : PlacedAt s (fillingOf at) (fillingOf to)
+        to-placed = rw to-is (run-placed services lengths i fits (fillingOf at) (g .bounded .valid))
+
+        block-small : placeOr0 (latest service (packetOf (to .packet))) < 63
+        block-small = rw (es, to-placed .found) (omega (arith, to-placed .within, to-placed .few))
 
         pub piece-small : (block : ℕ) → block ≡ placeOr0 (latest service (packetOf (to .packet))) → (i < 256) × (size < 256) × (to .before < 256) × (block < 256)
         piece-small block e = (
-          omega (arith, runs-few services lengths (g .packs)),
+          omega (arith, few-runs services lengths (g .packs)),
           omega (arith, next-small size en),
-          omega (arith, before-few, runs-few services lengths (g .packs)),
-          omega (arith, latest-small (packetOf (to .packet)) (held-valid (to .packet) (within-facts (to .packet) (t .valid))) service),
+          omega (arith, to-bounded .fewer (omega arith), few-runs services lengths (g .packs)),
+          omega (arith, block-small),
         )
 
         pub going-on : (block : ℕ) → block ≡ placeOr0 (latest service (packetOf (to .packet)))
@@ -178,8 +160,7 @@ module _ (services lengths before : List ℕ) where
               packs = g .packs;
               upto = omega arith;
               valid = t .valid;
-              first = λ q. absurd (omega arith);
-              few = λ _. omega (arith, before-few);
+              bounded = rw (add-one i) to-bounded;
               left = rw (e, w, add-one i, eb, es, en, ← stored) m;
               packets = rw (add-one i, to-is) q;
             }

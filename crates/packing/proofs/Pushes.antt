@@ -1,4 +1,4 @@
--- The model's push of a run: its refusals, a run that fits alone, and the place of the latest block. Assumes nothing.
+-- The model's push of a run: its refusals, and the zeros that are pushed. Assumes nothing.
 use mathlib.Core.Path.{_≡_, refl, ap}
 use mathlib.Core.Bool.{Bool, false, _&&_}
 use mathlib.Core.List.{List, [], _∷_}
@@ -46,41 +46,6 @@ module _ (n : ℕ) (run : List ℕ) (p : Packet) where
   run-numbered needsRoom =
       by-cond (Refuses NotAccepted) (ltb 63 n) (λ _ e. omega (arith, e))
       (λ _. by-cond (Refuses NotAccepted) (eqb (length run) 0) (λ _ e. omega (arith, e)) (λ _. where-numbered needsRoom (latest n p)))
-
--- a run that may stand in a packet as a block is taken by a packet without blocks
-module _ (n : ℕ) (run : List ℕ) (c : Carriable (record { number = n; payload = run })) where
-  alone-fits : ltb (packetRoom noPacket) (blockLength (record { number = n; payload = run })) ≡ false
-  unfolding packetLength
-  alone-fits =
-      let b : Block = record { number = n; payload = run } in
-      le-ltb 128 (blockLength b) (omega (arith, block-length b (c .filled), written-length b, written-header-most n, c .small))
-
-  pub run-alone : pushRun n run noPacket ≡ gave (withBlocks (record { number = n; payload = run } ∷ []) noPacket)
-  unfolding pushRunBy pushRunAt latestOf pushNew
-  run-alone =
-      simp (le-ltb 63 n (c .known), ne-eqb (length run) 0 (λ e. omega (arith, c .filled)), ne-eqb n 0 (λ e. omega (arith, c .named)), le-ltb 31 (length run) (c .small), alone-fits)
-
--- so that the first run begins no further packet
-pub first-before : (s n : ℕ) → Carriable (record { number = s; payload = blank n }) → placed s (blank n) start .before ≡ 0
-unfolding placed
-first-before s n c = rw (run-alone s (blank n) c)
-
--- and every run begins one packet at the most
-filled-before : (s : ℕ) (run : List ℕ) (at : Filling) (o : Outcome Packet) → filledWith s run at o .before ≤ suc (at .before)
-filled-before s run at (gave p) = omega arith
-filled-before s run at (refused why) = omega arith
-
-pub placed-before : (s : ℕ) (run : List ℕ) (at : Filling) → placed s run at .before ≤ suc (at .before)
-unfolding placed
-placed-before s run at = filled-before s run at (pushRun s run (at .packet))
-
--- the place of the latest block has a small number
-pub latest-small : (p : Packet) → Valid p → (n : ℕ) → placeOr0 (latest n p) < 63
-latest-small p v n = by (latest n p) refl
-  where
-    by : (o : Option ℕ) → latest n p ≡ o → placeOr0 o < 63
-    by (some i) e = omega (arith, latest-within n (length (p .blocks)) (p .blocks) i e, few-blocks p v)
-    by none e = omega arith
 
 -- the first of more zeros
 take-blank : (n m : ℕ) → n ≤ m → take n (replicate m 0) ≡ blank n

@@ -4,7 +4,8 @@ use Prim.Native.Nat.{_-_}
 use native.Mathlib.Omega.{arith}
 use lib.ListN.{length}
 use borrow.Author.Needs.{needs}
-use Rattle.packing.proofs.Going.{runs-few, Going, none-filled, none-put, going-first, going-put, going-filled, going-few, going-length, next-small, piece-small, going-on}
+use Rattle.model_packing.proofs.Filling.{few-runs}
+use Rattle.packing.proofs.Going.{Going, none-filled, none-put, going-first, going-put, going-filled, going-few, going-length, next-small, piece-small, going-on}
 use Rattle.packing.proofs.put_pieces.Statement.{statement}
 use Rattle.packing.proofs.put_pieces.Tie as tie
 
@@ -41,7 +42,7 @@ block-of-requires c κs = c .place .ensures .valid
 mul-put-piece : tie.Need-mul-put-piece Inv-loop μ-loop
 mul-put-piece c =
     let l = c .before .before .before .before .before in
-    omega (arith, l .loop-test .taken, runs-few _ _ (l .before .loop .inv .packs))
+    omega (arith, l .loop-test .taken, few-runs _ _ (l .before .loop .inv .packs))
 
 put-piece-requires : tie.Need-put-piece-requires Inv-loop μ-loop
 put-piece-requires c κs =
