@@ -31,10 +31,12 @@ five-none (r ∷ f ∷ n ∷ []) h = refl
 five-none (r ∷ f ∷ n ∷ p ∷ []) h = refl
 five-none (r ∷ f ∷ n ∷ p ∷ b ∷ l) h = absurd (omega arith)
 
+-- no place further
 plus-zero : (o : ℕ) → o + 0 ≡ o
 plus-zero o = omega arith
 
 module _ (l : List ℕ) (o : ℕ) where
+  -- the piece at a place is the first from there on
   from-there : pieceAt (drop o l) 0 ≡ pieceAt l o
   from-there = simp (getD-drop, plus-zero)
 
@@ -46,7 +48,7 @@ module _ (l : List ℕ) (o : ℕ) where
   pub piece-none : length l < o + 5 → piecesOf (drop o l) ≡ []
   piece-none h = five-none (drop o l) (simp length-drop (omega arith))
 
--- what holds of all pieces and of fewer, holds of those from a fifth place on
+-- what holds of all pieces and, with more, of fewer, holds of those from a place on that is a multiple of five; k bounds that place
 pub piece-left : (P : List Piece → Type 0) → ((q : Piece) (qs : List Piece) → P (q ∷ qs) → P qs)
     → (k : ℕ) (l : List ℕ) (o : ℕ) → o ≤ k → o % 5 ≡ 0 → o ≤ length l → P (piecesOf l) → P (piecesOf (drop o l))
 piece-left P fewer zero l o few five there all = let z : o ≡ 0 = omega arith in rw z all

@@ -15,7 +15,7 @@ use Rattle.model_packing.proofs.Lists.{In, here, there, in-every, those-in}
 use Rattle.packing_limits.specs.Tables.{firstService, totalSize, agrees, enters, joins, allJoin}
 use Rattle.packing_limits.proofs.Tabled.{lies-own, lies-facts}
 
--- a block of a piece's service or of none takes it
+-- a block with pieces that takes another is of its service
 agrees-facts : (n s : ℕ) → agrees n s ≡ true → 1 ≤ n → n ≡ s
 unfolding agrees
 agrees-facts n s e h = eqb-true n s (rw (ne-eqb n 0 (λ z. omega arith)) at e)
@@ -27,6 +27,7 @@ module _ (services : List ℕ) where
     alike : agrees (firstService services (piecesIn (q .packet) (q .block) qs)) (serviceOf services (q .run)) ≡ true
     small : totalSize (piecesIn (q .packet) (q .block) qs) + q .size ≤ 31
 
+  -- what passes the test is so,
   joined-facts : (q : Piece) (qs : List Piece) → joins services q qs ≡ true → Joined q qs
   unfolding joins enters
   joined-facts q qs e =
@@ -34,6 +35,7 @@ module _ (services : List ℕ) where
       let b = both (agrees (firstService services (piecesIn (q .packet) (q .block) qs)) (serviceOf services (q .run))) _ (a .1) in
       record { named = leb-true _ _ (a .0); alike = b .0; small = leb-true _ _ (b .1) }
 
+  -- and what is so passes the test
   facts-joined : (q : Piece) (qs : List Piece) → Joined q qs → joins services q qs ≡ true
   unfolding joins enters
   facts-joined q qs f = simp (le-leb _ _ (f .named), f .alike, le-leb _ _ (f .small))

@@ -1,5 +1,6 @@
 pub mod Entries
 pub mod Sums
+pub mod Along
 pub mod Fives
 pub mod Tabled
 pub mod Joining

@@ -2,7 +2,7 @@
 use mathlib.Core.Path.{_≡_, refl, sym, ap, _∙_}
 use mathlib.Core.Bool.{Bool, true, false, cond, not, _&&_, false≢true}
 use mathlib.Core.List.{List, [], _∷_, _++_, flatMap}
-use Prim.Native.Nat.{ℕ, zero, suc, _+_, _≤_, _<_}
+use Prim.Native.Nat.{ℕ, _≤_, _<_}
 use native.Mathlib.Omega.{arith}
 use lib.Dec.{eqb, ltb}
 use lib.ListN.{getD, length-replicate, replicate-append-replicate}
@@ -18,28 +18,9 @@ use Rattle.model_packing.specs.Proposals.{liesIn, piecesIn, blockFor, blocksIn,
 use Rattle.model_packing.proofs.Lists.{In, here, every-in, in-those, those-in, in-flatMap, in-count}
 use Rattle.model_packing.proofs.Limits.{limits-all}
 use Rattle.packing_limits.specs.Tables.{placeOf, firstService, totalSize, allJoin, Tables, blockAt, blocksAt, packetAt}
+use Rattle.packing_limits.proofs.Along.{flat-same, every-same}
 use Rattle.packing_limits.proofs.Tabled.{lies-own}
 use Rattle.packing_limits.proofs.Joining.{joined-first, joined-one, Sound, sound-joins}
-
--- what is made along numbers one after the other, of functions that agree on them: `made` is nothing at first, and `more` with each number
-same-along : {B C : Type 0} (more : B → C → C) (nothing : C) (made : (ℕ → B) → ℕ → ℕ → C) → ((f : ℕ → B) (a : ℕ) → made f a 0 ≡ nothing)
-    → ((f : ℕ → B) (a n : ℕ) → made f a (suc n) ≡ more (f a) (made f (suc a) n)) → (f g : ℕ → B) (a n : ℕ) → ((k : ℕ) → k < a + n → f k ≡ g k)
-    → made f a n ≡ made g a n
-same-along more nothing made first next f g a zero h = first f a ∙ sym (first g a)
-same-along more nothing made first next f g a (suc n) h =
-    let e : f a ≡ g a = h a (omega arith) in
-    let m = same-along more nothing made first next f g (suc a) n (λ k o. h k (omega arith)) in
-    next f a n ∙ rw (e, m) (sym (next g a n))
-
--- the lists of them, one behind the other
-flat-same : {A : Type 0} (f g : ℕ → List A) (n : ℕ) → ((k : ℕ) → k < n → f k ≡ g k) → flatMap f (countFrom 0 n) ≡ flatMap g (countFrom 0 n)
-unfolding countFrom flatMap
-flat-same f g n h = same-along _++_ [] (λ x a m. flatMap x (countFrom a m)) (λ _ _. refl) (λ _ _ _. refl) f g 0 n (λ k o. h k (omega arith))
-
--- and whether every number passes them
-every-same : (f g : ℕ → Bool) (n : ℕ) → ((k : ℕ) → k < n → f k ≡ g k) → every f (countFrom 0 n) ≡ every g (countFrom 0 n)
-unfolding countFrom every
-every-same f g n h = same-along _&&_ true (λ x a m. every x (countFrom a m)) (λ _ _. refl) (λ _ _ _. refl) f g 0 n (λ k o. h k (omega arith))
 
 -- the bytes of pieces, whatever they say
 flat-blank : (qs : List Piece) → flatMap (λ (q : Piece). blank (q .size)) qs ≡ blank (totalSize qs)
@@ -47,15 +28,16 @@ unfolding flatMap totalSize
 flat-blank [] = refl
 flat-blank (q ∷ qs) = ap (λ l. blank (q .size) ++ l) (flat-blank qs) ∙ replicate-append-replicate (q .size) (totalSize qs) 0
 
--- the block of some pieces
+-- the block of some pieces, by their service and their bytes
 abbrev blankBlock : List ℕ → List Piece → Block
 blankBlock services qs = record { number = firstService services qs; payload = blank (totalSize qs) }
 
--- is the one that they make
+-- the pieces make it,
 block-of : (services : List ℕ) (q : Piece) (qs : List Piece) → blockFor services (λ r. blank (r .size)) (q ∷ qs) ≡ blankBlock services (q ∷ qs) ∷ []
 unfolding blockFor firstService
 block-of services q qs = rw (flat-blank (q ∷ qs))
 
+-- and it is there where one of them is
 block-in : (services : List ℕ) (q : Piece) (qs : List Piece) → In q qs → In (blankBlock services qs) (blockFor services (λ r. blank (r .size)) qs)
 block-in services q (r ∷ qs) i = rw (block-of services r qs) (here refl)
 
@@ -67,6 +49,7 @@ module _ (services lengths : List ℕ) (ps : List Piece) where
     alike : every (oneService services ps) ps ≡ true
     valid : every (λ (q : Piece). validPacket (blankPacket services ps (q .packet))) ps ≡ true
 
+  -- what passes the test is so
   within-facts : limits services lengths ps ≡ true → Within
   unfolding limits
   within-facts e =
@@ -87,7 +70,7 @@ module _ (services lengths : List ℕ) (ps : List Piece) where
       (in-flatMap (λ b. blockFor services (λ r. blank (r .size)) (piecesIn (q .packet) b ps)) (countFrom 0 256) (in-count (q .block) 0 256 (omega arith) (omega arith))
       (block-in services q (piecesIn (q .packet) (q .block) ps) (in-those (liesIn (q .packet) (q .block)) ps i (lies-own q)))))
 
-  -- pieces of its service
+  -- and all pieces there are of its service
   within-same : Within → (q r : Piece) → In q ps → In r ps → liesIn (q .packet) (q .block) r ≡ true → serviceOf services (r .run) ≡ serviceOf services (q .run)
   unfolding oneService
   within-same w q r i j e =
@@ -95,11 +78,12 @@ module _ (services lengths : List ℕ) (ps : List Piece) where
       (every-in (λ (x : Piece). eqb (serviceOf services (x .run)) (serviceOf services (q .run))) (piecesIn (q .packet) (q .block) ps) (every-in (oneService services ps) ps (w .alike) i)
       (in-those (liesIn (q .packet) (q .block)) ps j e))
 
-  -- the first of a block has its service
+  -- the first of pieces of one service has this service
   first-same : (s : ℕ) (q : Piece) (qs : List Piece) → In q qs → ((r : Piece) → In r qs → serviceOf services (r .run) ≡ s) → firstService services qs ≡ s
   unfolding firstService
   first-same s q (r ∷ qs) i f = f r (here refl)
 
+  -- so the pieces are within the limits of blocks
   within-sound : Within → Sound services ps
   within-sound w =
       record {
@@ -132,7 +116,7 @@ module _ (services lengths : List ℕ) (ps : List Piece) where
     told-block [] n k en ek f = rw (eq-eqb n 0 en)
     told-block (q ∷ qs) n k en ek f =
         let z : eqb n 0 ≡ false = ne-eqb n 0 (λ e. omega (arith, f q (here refl))) in
-        rw (z, en, ek, flat-blank (q ∷ qs))
+        rw (z, en, ek) (block-of services q qs)
 
     -- and so a packet
     told-packet : (p : ℕ) → p < 256 → blocksIn services (λ r. blank (r .size)) ps p ≡ blocksAt ns ss p 0 256
@@ -149,6 +133,7 @@ module _ (services lengths : List ℕ) (ps : List Piece) where
         (every-same (λ p. validPacket (blankPacket services ps p)) (λ p. validPacket (packetAt ns ss p)) 256
         (λ p hp. ap (λ bs. validPacket (record { sequence = 0; blocks = bs })) (told-packet p hp)))
 
+  -- whatever tells that the runs fit, that the pieces are entered, and that the packets keep their limits
   pub limits-packets : (ns ss : List ℕ) (fit joined r : Bool) → fit ≡ runsFit services lengths → not fit ≡ false → joined ≡ allJoin services ps → joined ≡ true
       → (joined ≡ true → Tables services ps ns ss) → r ≡ every (λ p. validPacket (packetAt ns ss p)) (countFrom 0 256) → r ≡ limits services lengths ps
   limits-packets ns ss fit joined r ef nf ej y t e = e ∙ sym (limits-told ns ss (sym ej ∙ y) (t y) (sym ef ∙ not-false fit nf))

@@ -25,11 +25,13 @@ module _ (ns ss : List ℕ) (i : ℕ) where
   takes-none e = simp (eq-eqb (getD ns i 0) 0 e)
 
   module _ (some : getD ns i 0 ≡ 0 → ⊥) where
+    -- what it takes, test by test
     one-block : taken (blockAt ns ss i)
         ≡ cond ((leb 1 (getD ns i 0) && leb (getD ns i 0) 63) && (leb 1 (getD ss i 0) && leb (getD ss i 0) 31)) (lengthFor (getD ns i 0) (getD ss i 0)) 128
     unfolding blockAt taken carriable
     one-block = simp (ne-eqb (getD ns i 0) 0 some, length-replicate {A = ℕ} (getD ss i 0) 0) (omega arith)
 
+    -- its number is not 0
     named : leb 1 (getD ns i 0) ≡ true
     named = le-leb 1 (getD ns i 0) (omega (arith, some))
 
@@ -100,6 +102,7 @@ module _ (ns ss : List ℕ) (p n : ℕ) where
 
   module _ (b l : ℕ) (e : 1 + taken (blocksAt ns ss p 0 n) ≡ l + rest b) where
     module _ (r : ℕ) (is : r ≡ taken (blockAt ns ss (p * 256 + b))) (h : b < n) where
+      -- what is left is this block and the rest
       one-more : rest b ≡ r + rest (b + 1)
       unfolding blocksAt countFrom flatMap
       one-more =

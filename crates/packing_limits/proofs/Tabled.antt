@@ -49,8 +49,9 @@ other-place p b q h g f e =
     let y : q .block ≡ b = omega arith in
     false≢true (sym f ∙ simp (eq-eqb (q .packet) p x, eq-eqb (q .block) b y))
 
--- a table with what f makes of the pieces of each block, and v put in at the place of one more piece
+-- a table with what f makes of the pieces of each block, where v is put in at the place of one more piece,
 module _ (f : List Piece → ℕ) (ns : List ℕ) (long : length ns ≡ 65536) (q : Piece) (qs : List Piece) (hp : q .packet < 256) (hb : q .block < 256) (v : ℕ) where
+  -- has what f makes of the pieces with this one
   told-more : (p b : ℕ) → p < 256 → b < 256 → getD ns (placeOf p b) 0 ≡ f (piecesIn p b qs) → (liesIn p b q ≡ true → v ≡ f (q ∷ piecesIn p b qs))
       → getD (set ns (placeOf (q .packet) (q .block)) v) (placeOf p b) 0 ≡ f (piecesIn p b (q ∷ qs))
   unfolding those
@@ -62,6 +63,7 @@ module _ (f : List Piece → ℕ) (ns : List ℕ) (long : length ns ≡ 65536) (
       rw (t, z) (getD-set-same ns (placeOf p b) v 0 (omega arith) ∙ own t))
       (λ o. rw o (getD-set-other ns (placeOf (q .packet) (q .block)) (placeOf p b) v 0 (other-place p b q gb hb o) ∙ before))
 
+-- one piece more is entered into tables that tell the others
 module _ (services : List ℕ) (q : Piece) (qs : List Piece) (ns ss ms ts : List ℕ) (r : Bool) (t : Tables services qs ns ss) (e : EnteredPiece services q ns ss r ms ts) where
   -- the answer is whether it may stand before the others
   entered-joins : r ≡ joins services q qs
@@ -88,7 +90,7 @@ module _ (services : List ℕ) (q : Piece) (qs : List Piece) (ns ss ms ts : List
         bytes = and-both (numbered q) (every numbered qs) (simp (lt-ltb _ _ (e .packet), lt-ltb _ _ (e .block))) (t .bytes);
       }
 
--- fewer pieces
+-- with fewer pieces each may stand there too
 join-fewer : (services : List ℕ) (q : Piece) (qs : List Piece) → allJoin services (q ∷ qs) ≡ true → allJoin services qs ≡ true
 unfolding allJoin
 join-fewer services q qs e = both (joins services q qs) (allJoin services qs) e .1
@@ -107,14 +109,16 @@ module _ (services l ns ss : List ℕ) (o : ℕ) where
 -- a piece is entered, and those behind it are told
 module _ (services l ns ss ms ts : List ℕ) (o : ℕ) (r : Bool) (five : o % 5 ≡ 0) (some : 0 < o) (there : o ≤ length l) (all : allJoin services (piecesOf (drop o l)) ≡ true)
     (t : Tables services (piecesOf (drop o l)) ns ss) (e : EnteredPiece services (pieceAt l (o - 5)) ns ss r ms ts) where
+  -- it comes first of those that are left
   first-left : piecesOf (drop (o - 5) l) ≡ pieceAt l (o - 5) ∷ piecesOf (drop o l)
   first-left = let z : o - 5 + 5 ≡ o = omega arith in piece-first l (o - 5) (omega arith) ∙ rw z
 
-  -- the piece may stand there
+  -- the piece may stand there, and so all that are left do,
   pub join-more : not r ≡ false → allJoin services (piecesOf (drop (o - 5) l)) ≡ true
   unfolding allJoin
   join-more y = rw first-left (and-both _ _ (sym (entered-joins services _ _ ns ss ms ts r t e) ∙ not-false r y) all)
 
+  -- and these are told
   pub tables-more : not r ≡ false → Tables services (piecesOf (drop (o - 5) l)) ms ts
   tables-more y = rw first-left (entered-tables services _ _ ns ss ms ts r t e (not-false r y))
 
@@ -132,11 +136,14 @@ module _ (services l ns ss ms ts : List ℕ) (o : ℕ) (r : Bool) (five : o % 5 
 
 -- all pieces are entered
 module _ (services l ns ss : List ℕ) (o : ℕ) (none : o ≤ 0) where
+  -- none is before them
   all-left : drop o l ≡ l
   all-left = let z : o ≡ 0 = omega arith in rw z
 
+  -- so all may stand in their blocks,
   pub join-all : allJoin services (piecesOf (drop o l)) ≡ true → true ≡ allJoin services (piecesOf l)
   join-all e = sym (rw all-left at e)
 
+  -- and all are told
   pub tables-all : Tables services (piecesOf (drop o l)) ns ss → Tables services (piecesOf l) ns ss
   tables-all t = rw all-left at t

@@ -12,7 +12,8 @@ use Rattle.packing_limits.proofs.enter_pieces.Statement.{statement}
 use Rattle.packing_limits.proofs.enter_pieces.Tie as tie
 
 abbrev Inv-loop : tie.InvT-loop
-Inv-loop services pieces numbers₀ sizes₀ at₀ numbers sizes at = (at % 5 ≡ 0) × (at ≤ length pieces) × (allJoin services (piecesOf (drop at pieces)) ≡ true) × Tables services (piecesOf (drop at pieces)) numbers sizes
+Inv-loop services pieces numbers₀ sizes₀ at₀ numbers sizes at =
+    (at % 5 ≡ 0) × (at ≤ length pieces) × (allJoin services (piecesOf (drop at pieces)) ≡ true) × Tables services (piecesOf (drop at pieces)) numbers sizes
 
 abbrev μ-loop : tie.MeasureT-loop
 μ-loop services pieces numbers₀ sizes₀ at₀ numbers sizes at = at

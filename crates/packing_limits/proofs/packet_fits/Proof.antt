@@ -9,7 +9,8 @@ use Rattle.packing_limits.proofs.packet_fits.Statement.{statement}
 use Rattle.packing_limits.proofs.packet_fits.Tie as tie
 
 abbrev Inv-loop : tie.InvT-loop
-Inv-loop numbers sizes packet length₀ block₀ length block = (block ≤ 256) × (length ≤ 128) × (1 + taken (blocksAt numbers sizes packet 0 256) ≡ length + rest numbers sizes packet 256 block)
+Inv-loop numbers sizes packet length₀ block₀ length block =
+    (block ≤ 256) × (length ≤ 128) × (1 + taken (blocksAt numbers sizes packet 0 256) ≡ length + rest numbers sizes packet 256 block)
 
 abbrev μ-loop : tie.MeasureT-loop
 μ-loop numbers sizes packet length₀ block₀ length block = 256 - block

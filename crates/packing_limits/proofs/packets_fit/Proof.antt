@@ -12,7 +12,8 @@ use Rattle.packing_limits.proofs.packets_fit.Statement.{statement}
 use Rattle.packing_limits.proofs.packets_fit.Tie as tie
 
 abbrev Inv-loop : tie.InvT-loop
-Inv-loop numbers sizes packet₀ packet = (packet ≤ 256) × (every (λ p. validPacket (packetAt numbers sizes p)) (countFrom 0 256) ≡ left (λ p. validPacket (packetAt numbers sizes p)) 256 packet)
+Inv-loop numbers sizes packet₀ packet =
+    (packet ≤ 256) × (every (λ p. validPacket (packetAt numbers sizes p)) (countFrom 0 256) ≡ left (λ p. validPacket (packetAt numbers sizes p)) 256 packet)
 
 abbrev μ-loop : tie.MeasureT-loop
 μ-loop numbers sizes packet₀ packet = 256 - packet
