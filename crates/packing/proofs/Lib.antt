@@ -1,3 +1,4 @@
+pub mod Checks
 pub mod Pushes
 pub mod Fillings
 pub mod Going

@@ -1,4 +1,5 @@
-// The first-come packer: each run is one piece, pushed to the packet that is being filled, or to the next one where that refuses it.
+// Proposals of packers: one that any packer made, checked, and the first-come packer, which makes one. It makes a piece of each run, pushed to the packet
+// that is being filled, or to the next one where that refuses it.
 ghost use mathlib.Core.Path.{_≡_};
 ghost use mathlib.Core.Bool.{true};
 ghost use mathlib.Core.List.{[], _∷_};
@@ -6,7 +7,9 @@ ghost use Prim.Native.Nat.{_≤_, _<_};
 ghost use lib.Seq.{sets};
 ghost use Rattle.model.specs.Packet.{latest};
 ghost use Rattle.packet.specs.Packet.{validDTVCC, packetOf};
-ghost use Rattle.model_packing.specs.Pieces.{numbersOf};
+ghost use Rattle.caption.specs.Answers.{saidAnswer};
+ghost use Rattle.model_packing.specs.Pieces.{piecesOf, numbersOf};
+ghost use Rattle.model_packing.specs.Proposals.{checkProposal};
 ghost use Rattle.model_packing.specs.FirstCome.{firstCome, packetsFilled, packable, placeOr0};
 ghost use Rattle.packing.specs.Calls.{Proposes};
 ghost use Rattle.packing.specs.Fillings.{BeginsWith, PlacesRun};
@@ -15,6 +18,8 @@ use caption::Answer;
 use caption::Refusal;
 use packet::DTVCCPacket;
 use packet_entries::Found;
+use packing_bytes::check_bytes;
+use packing_limits::within_limits;
 use packing_runs::number_at;
 use packing_runs::runs_fit;
 
@@ -28,6 +33,42 @@ const PIECE: usize = 5;
 pub enum Proposal {
     Made { packets: usize, len: usize },
     Refused(Refusal),
+}
+
+// Checks a proposal for runs, five bytes a piece [Q1] to [Q7].
+pub fn check(services: &[u8], lengths: &[u8], pieces: &[u8]) -> Answer
+    ensures { λ r. ⌜ saidAnswer r ≡ checkProposal (now (services .entry)) (now (lengths .entry)) (piecesOf (now (pieces .entry))) ⌝ }
+{
+    let answer = check_bytes(services, lengths, pieces);
+    let Answer::Accepted = answer else {
+        return answer;
+    };
+    if within_limits(services, lengths, pieces) {
+        return Answer::Accepted;
+    }
+    Answer::Refused(Refusal::OverLimit)
+}
+
+// Proposes pieces for runs, five bytes for each [Q8].
+pub fn propose(services: &[u8], lengths: &[u8], out: &mut [u8]) -> Proposal
+    ensures { λ r. ⌜ Proposes (now (services .entry)) (now (lengths .entry)) (now (out .entry)) r (now (out .exit)) ⌝ }
+{
+    let n = services.len();
+    if MOST_RUNS < n {
+        return Proposal::Refused(Refusal::OverLimit);
+    }
+    if !runs_fit(services, lengths) {
+        return Proposal::Refused(Refusal::OverLimit);
+    }
+    let needed = PIECE * n;
+    if out.len() < needed {
+        return Proposal::Refused(Refusal::OutShort { needed });
+    }
+    let packets = put_pieces(services, lengths, out);
+    Proposal::Made {
+        packets,
+        len: needed,
+    }
 }
 
 // The packet that is being filled, and how many there are before it.
@@ -113,26 +154,4 @@ fn put_pieces(services: &[u8], lengths: &[u8], out: &mut [u8]) -> usize
         i += 1;
     }
     at.before + 1
-}
-
-// Proposes pieces for runs, five bytes for each [Q8].
-pub fn propose(services: &[u8], lengths: &[u8], out: &mut [u8]) -> Proposal
-    ensures { λ r. ⌜ Proposes (now (services .entry)) (now (lengths .entry)) (now (out .entry)) r (now (out .exit)) ⌝ }
-{
-    let n = services.len();
-    if MOST_RUNS < n {
-        return Proposal::Refused(Refusal::OverLimit);
-    }
-    if !runs_fit(services, lengths) {
-        return Proposal::Refused(Refusal::OverLimit);
-    }
-    let needed = PIECE * n;
-    if out.len() < needed {
-        return Proposal::Refused(Refusal::OutShort { needed });
-    }
-    let packets = put_pieces(services, lengths, out);
-    Proposal::Made {
-        packets,
-        len: needed,
-    }
 }
