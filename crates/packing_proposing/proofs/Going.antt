@@ -34,6 +34,7 @@ stored l o a b d e f vs = let p : o + 5 ≡ suc (suc (suc (suc (suc o)))) = omeg
 
 -- runs that a proposal can be made for
 module _ (services lengths : List ℕ) (packs : packable services lengths ≡ true) where
+  -- pass both tests,
   fits : (leb (length services) 256 ≡ true) × (runsFit services lengths ≡ true)
   unfolding packable
   fits = both (leb (length services) 256) (runsFit services lengths) packs
@@ -57,12 +58,13 @@ whole services lengths out = sets out 0 (numbersOf (firstCome services lengths))
 abbrev packetsOf : List ℕ → List ℕ → ℕ
 packetsOf services lengths = packetsFrom services lengths (length services) 0 start
 
--- none without runs, and so many with some
+-- none are without runs,
 pub none-filled : (services lengths : List ℕ) → length services ≡ 0 → 0 ≡ packetsFilled services lengths
 unfolding packetsFilled
 none-filled [] lengths h = refl
 none-filled (s ∷ services) lengths h = absurd (omega arith)
 
+-- and so many with some
 some-filled : (services lengths : List ℕ) → (length services ≡ 0 → ⊥) → packetsOf services lengths ≡ packetsFilled services lengths
 unfolding packetsFilled
 some-filled [] lengths h = absurd (h refl)
@@ -114,11 +116,12 @@ module _ (services lengths before : List ℕ) where
         sym (length-sets out (5 * i) (numbersOf (piecesFrom services lengths (length services - i) i (fillingOf at))))
         ∙ ap length (g .left) ∙ length-sets before 0 (numbersOf (firstCome services lengths))
 
-    -- at last all are
+    -- at last all pieces are put,
     pub going-put : length services ≤ i → out ≡ whole services lengths before
     unfolding piecesFrom numbersOf
     going-put h = let z : length services - i ≡ 0 = omega arith in rw z at (g .left)
 
+    -- and all packets counted
     pub going-filled : length services ≤ i → (length services ≡ 0 → ⊥) → at .before + 1 ≡ packetsFilled services lengths
     unfolding packetsFrom
     going-filled h some =
@@ -128,12 +131,15 @@ module _ (services lengths before : List ℕ) where
 
     -- between them, run i is next
     module _ (h : i < length services) where
+      -- its service
       abbrev s : ℕ
       s = serviceOf services i
 
+      -- and its length
       abbrev n : ℕ
       n = getD lengths i 0
 
+      -- it may stand in a packet as a block
       run-fits : Carriable (record { number = s; payload = blank n })
       run-fits = run-carriable services lengths (g .packs) i h
 
@@ -143,6 +149,7 @@ module _ (services lengths before : List ℕ) where
 
       -- the run is placed
       module _ (service size : ℕ) (to : Filling) (es : service ≡ s) (en : size ≡ n) (t : PlacesRun service size at to) where
+        -- as the model places it
         to-is : fillingOf to ≡ placedRun services lengths i (fillingOf at)
         to-is = t .means ∙ rw (es, en)
 
@@ -154,6 +161,7 @@ module _ (services lengths before : List ℕ) where
             (λ z. let f : to .before ≡ 0 = b ∙ rw (g .first (eqb-true i 0 z)) (first-before s n run-fits) in omega arith)
             (λ z. omega (arith, b, placed-before s (blank n) (fillingOf at), g .few (omega (arith, eqb-false i 0 z))))
 
+        -- the numbers of its piece are bytes
         pub piece-small : (block : ℕ) → block ≡ placeOr0 (latest service (packetOf (to .packet))) → (i < 256) × (size < 256) × (to .before < 256) × (block < 256)
         piece-small block e = (
           omega (arith, runs-few services lengths (g .packs)),
@@ -162,6 +170,7 @@ module _ (services lengths before : List ℕ) where
           omega (arith, latest-small (packetOf (to .packet)) (held-valid (to .packet) (within-facts (to .packet) (t .valid))) service),
         )
 
+        -- with its piece put, one run more is placed
         pub going-on : (block : ℕ) → block ≡ placeOr0 (latest service (packetOf (to .packet)))
             → (end : List ℕ) → end ≡ sets out (5 * i) (i ∷ 0 ∷ size ∷ to .before ∷ block ∷ []) → Going services lengths before (i + 1) to end
         unfolding piecesFrom packetsFrom numbersOf

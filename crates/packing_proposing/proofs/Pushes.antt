@@ -22,6 +22,7 @@ use Rattle.model_packing.specs.Proposals.{blank}
 
 -- no refusal of a push has the number of what is accepted
 module _ (n : ℕ) (run : List ℕ) (p : Packet) where
+  -- of a new block,
   new-numbered : Refuses NotAccepted (pushNew n run p)
   unfolding pushNew
   new-numbered =
@@ -29,18 +30,21 @@ module _ (n : ℕ) (run : List ℕ) (p : Packet) where
       (λ _. by-cond (Refuses NotAccepted) (ltb 31 (length run)) (λ _ e. omega (arith, e))
       (λ _. by-cond (Refuses NotAccepted) (ltb (packetRoom p) (blockLength (record { number = n; payload = run }))) (λ _ e. omega (arith, e)) (λ _. tt)))
 
+  -- of a run to the block at a place,
   at-numbered : (i : ℕ) → Refuses NotAccepted (pushAt i run p)
   unfolding pushAt
   at-numbered i =
       by-cond (Refuses NotAccepted) (ltb (packetRoom p) (length run)) (λ _ e. omega (arith, e))
       (λ _. by-cond (Refuses NotAccepted) (ltb (blockRoom (blockAt p i)) (length run)) (λ _ e. omega (arith, e)) (λ _. tt))
 
+  -- of either,
   where-numbered : (needsRoom : Bool) (o : Option ℕ) → Refuses NotAccepted (pushRunAt needsRoom n run p o)
   unfolding pushRunAt
   where-numbered needsRoom none = new-numbered
   where-numbered needsRoom (some i) =
       by-cond (Refuses NotAccepted) (needsRoom && ltb (blockRoom (blockAt p i)) (length run)) (λ _. new-numbered) (λ _. at-numbered i)
 
+  -- so that none of a run has it
   pub run-numbered : (needsRoom : Bool) → Refuses NotAccepted (pushRunBy needsRoom n run p)
   unfolding pushRunBy
   run-numbered needsRoom =
@@ -49,12 +53,14 @@ module _ (n : ℕ) (run : List ℕ) (p : Packet) where
 
 -- a run that may stand in a packet as a block is taken by a packet without blocks
 module _ (n : ℕ) (run : List ℕ) (c : Carriable (record { number = n; payload = run })) where
+  -- it is not longer than the room,
   alone-fits : ltb (packetRoom noPacket) (blockLength (record { number = n; payload = run })) ≡ false
   unfolding packetLength
   alone-fits =
       let b : Block = record { number = n; payload = run } in
       le-ltb 128 (blockLength b) (omega (arith, block-length b (c .filled), written-length b, written-header-most n, c .small))
 
+  -- so that it becomes the only block
   pub run-alone : pushRun n run noPacket ≡ gave (withBlocks (record { number = n; payload = run } ∷ []) noPacket)
   unfolding pushRunBy pushRunAt latestOf pushNew
   run-alone =
@@ -70,6 +76,7 @@ filled-before : (s : ℕ) (run : List ℕ) (at : Filling) (o : Outcome Packet) �
 filled-before s run at (gave p) = omega arith
 filled-before s run at (refused why) = omega arith
 
+-- whatever a packet holds
 pub placed-before : (s : ℕ) (run : List ℕ) (at : Filling) → placed s run at .before ≤ suc (at .before)
 unfolding placed
 placed-before s run at = filled-before s run at (pushRun s run (at .packet))
