@@ -52,12 +52,15 @@ module _ (services lengths out : List ℕ) where
     one-unfit e = over-limit (rw (le-leb _ _ few, ← is, e))
 
     module _ (e : fit ≡ true) where
+      -- the numbers of the pieces
       abbrev numbers : List ℕ
       numbers = numbersOf (firstCome services lengths)
 
+      -- the runs are packed
       packs : packable services lengths ≡ true
       packs = all-fit services lengths few fit is e
 
+      -- they are five for each run
       needed : length numbers ≡ 5 * length services
       needed = length-numbers (firstCome services lengths) ∙ ap (λ (k : ℕ). 5 * k) (length-pieces services lengths (length services) 0 start)
 

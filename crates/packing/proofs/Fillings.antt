@@ -41,10 +41,11 @@ blank-holds = refl
 -- a run pushed to a packet that breaks no limit
 module _ (p : DTVCCPacket) (v : validDTVCC p ≡ true) (places : Places p) (s : ℕ) (run : List ℕ) (r : PacketAnswer)
     (a : Answers (checked (validDTVCC p) (pushRun s run (packetOf p))) p r) where
+  -- it is answered as the model's push is
   told : Answers (pushRun s run (packetOf p)) p r
   told = rw v at a
 
-  -- leaves one
+  -- it leaves one
   pub pushed-valid : validDTVCC (r .packet) ≡ true
   pushed-valid = by (pushRun s run (packetOf p)) refl told
     where
@@ -97,12 +98,15 @@ module _ (at : Filling) (v : validDTVCC (at .packet) ≡ true) (places : Places 
 
 -- the latest block of a service, as it is found
 module _ (p : DTVCCPacket) (v : validDTVCC p ≡ true) (places : Places p) (s : ℕ) (found : Found) (e : found ≡ latestOf (p .count) (p .numbers) s) where
+  -- it is that of the packet that is held,
   block-found : placeOr0 (placeOf found) ≡ placeOr0 (latest s (packetOf p))
   block-found =
       ap (λ (f : Found). placeOr0 (placeOf f)) e ∙ ap placeOr0 (sym (latest-held (fieldsOf p) (entries-within p (within-facts p v) places) places s))
 
+  -- at a place
   pub block-at : (place : ℕ) → found ≡ At place → place ≡ placeOr0 (latest s (packetOf p))
   block-at place q = ap (λ (f : Found). placeOr0 (placeOf f)) (sym q) ∙ block-found
 
+  -- or nowhere
   pub block-none : found ≡ Nothing → 0 ≡ placeOr0 (latest s (packetOf p))
   block-none q = ap (λ (f : Found). placeOr0 (placeOf f)) (sym q) ∙ block-found

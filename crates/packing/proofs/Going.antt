@@ -5,20 +5,18 @@ use mathlib.Core.List.{List, [], _∷_}
 use Prim.Native.Nat.{ℕ, suc, _+_, _-_, _*_, _≤_, _<_}
 use native.Mathlib.Omega.{arith}
 use native.Mathlib.Numerals.{add-one}
-use lib.Dec.{eqb, leb}
+use lib.Dec.{eqb}
 use lib.ListN.{length, getD, length-replicate}
 use lib.Seq.{sets, length-sets}
-use borrow.Author.Tests.{leb-true, eqb-true, eqb-false}
+use borrow.Author.Tests.{eqb-true, eqb-false}
 use Rattle.model.specs.Packet.{latest, newPacket}
-use Rattle.model.proofs.Cases.{by-test, both}
-use Rattle.model.proofs.Blocks.{Carriable, carriable-facts}
+use Rattle.model.proofs.Cases.{by-test}
 use Rattle.packet.specs.declared.PacketAnswer.{PacketAnswer}
 use Rattle.packet.specs.Packet.{Answers, packetOf, validDTVCC}
 use Rattle.packet.specs.Packet as packet
-use Rattle.packet.proofs.Holds.{within-facts, held-valid}
 use Rattle.packet.proofs.Keeps.{blank-valid}
 use Rattle.model_packing.specs.Pieces.{numbersOf, serviceOf}
-use Rattle.model_packing.specs.Proposals.{blank, runFits, runsFit}
+use Rattle.model_packing.specs.Proposals.{blank, runFits}
 use Rattle.model_packing.specs.FirstCome.{start, placed, placedRun, placeOr0, pieceFor, piecesFrom, packetsFrom, firstCome, packetsFilled, packable}
 use Rattle.model_packing.specs.FirstCome as model
 use Rattle.model_packing.proofs.Filling.{PlacedAt, Bounded, bounded-start, fits-carriable, run-placed, bounded-next, few-runs, run-fits}
@@ -39,12 +37,13 @@ whole services lengths out = sets out 0 (numbersOf (firstCome services lengths))
 abbrev packetsOf : List ℕ → List ℕ → ℕ
 packetsOf services lengths = packetsFrom services lengths (length services) 0 start
 
--- none without runs, and so many with some
+-- none are without runs,
 pub none-filled : (services lengths : List ℕ) → length services ≡ 0 → 0 ≡ packetsFilled services lengths
 unfolding packetsFilled
 none-filled [] lengths h = refl
 none-filled (s ∷ services) lengths h = absurd (omega arith)
 
+-- and so many with some
 some-filled : (services lengths : List ℕ) → (length services ≡ 0 → ⊥) → packetsOf services lengths ≡ packetsFilled services lengths
 unfolding packetsFilled
 some-filled [] lengths h = absurd (h refl)
@@ -94,11 +93,12 @@ module _ (services lengths before : List ℕ) where
         sym (length-sets out (5 * i) (numbersOf (piecesFrom services lengths (length services - i) i (fillingOf at))))
         ∙ ap length (g .left) ∙ length-sets before 0 (numbersOf (firstCome services lengths))
 
-    -- at last all are
+    -- at last all pieces are put,
     pub going-put : length services ≤ i → out ≡ whole services lengths before
     unfolding piecesFrom numbersOf
     going-put h = let z : length services - i ≡ 0 = omega arith in rw z at (g .left)
 
+    -- and all packets counted
     pub going-filled : length services ≤ i → (length services ≡ 0 → ⊥) → at .before + 1 ≡ packetsFilled services lengths
     unfolding packetsFrom
     going-filled h some =
@@ -108,12 +108,15 @@ module _ (services lengths before : List ℕ) where
 
     -- between them, run i is next
     module _ (h : i < length services) where
+      -- its service
       abbrev s : ℕ
       s = serviceOf services i
 
+      -- and its length
       abbrev n : ℕ
       n = getD lengths i 0
 
+      -- it fits into a block
       fits : runFits services lengths i ≡ true
       fits = run-fits services lengths (g .packs) i h
 
@@ -123,6 +126,7 @@ module _ (services lengths before : List ℕ) where
 
       -- the run is placed
       module _ (service size : ℕ) (to : Filling) (es : service ≡ s) (en : size ≡ n) (t : PlacesRun service size at to) where
+        -- as the model places it
         to-is : fillingOf to ≡ placedRun services lengths i (fillingOf at)
         to-is = t .means ∙ rw (es, en)
 
@@ -136,6 +140,7 @@ module _ (services lengths before : List ℕ) where
         block-small : placeOr0 (latest service (packetOf (to .packet))) < 63
         block-small = rw (es, to-placed .found) (omega (arith, to-placed .within, to-placed .few))
 
+        -- the numbers of its piece are bytes
         pub piece-small : (block : ℕ) → block ≡ placeOr0 (latest service (packetOf (to .packet))) → (i < 256) × (size < 256) × (to .before < 256) × (block < 256)
         piece-small block e = (
           omega (arith, few-runs services lengths (g .packs)),
@@ -144,6 +149,7 @@ module _ (services lengths before : List ℕ) where
           omega (arith, block-small),
         )
 
+        -- with its piece put, one run more is placed
         pub going-on : (block : ℕ) → block ≡ placeOr0 (latest service (packetOf (to .packet)))
             → (end : List ℕ) → end ≡ sets out (5 * i) (i ∷ 0 ∷ size ∷ to .before ∷ block ∷ []) → Going services lengths before (i + 1) to end
         unfolding piecesFrom packetsFrom numbersOf

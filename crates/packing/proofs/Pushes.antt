@@ -1,27 +1,21 @@
 -- The model's push of a run: its refusals, and the zeros that are pushed. Assumes nothing.
 use mathlib.Core.Path.{_≡_, refl, ap}
-use mathlib.Core.Bool.{Bool, false, _&&_}
-use mathlib.Core.List.{List, [], _∷_}
+use mathlib.Core.Bool.{Bool, _&&_}
+use mathlib.Core.List.{List, _∷_}
 use mathlib.Core.Option.{Option, none, some}
-use Prim.Native.Nat.{ℕ, zero, suc, _-_, _≤_, _<_}
+use Prim.Native.Nat.{ℕ, zero, suc, _-_, _≤_}
 use native.Mathlib.Nat.{sub-zero}
 use native.Mathlib.Omega.{arith}
 use lib.Dec.{eqb, ltb}
 use lib.ListN.{length, take, replicate}
-use borrow.Author.Tests.{ne-eqb, le-ltb}
-use Rattle.model.specs.Said.{Outcome, gave, refused}
-use Rattle.model.specs.Block.{Block, blockLength, blockRoom}
-use Rattle.model.specs.Packet.{Packet, noPacket, withBlocks, packetLength, packetRoom, blockAt, latestOf, latest, pushNew, pushAt, pushRunAt, pushRunBy, pushRun}
+use Rattle.model.specs.Block.{blockLength, blockRoom}
+use Rattle.model.specs.Packet.{Packet, packetRoom, blockAt, latest, pushNew, pushAt, pushRunAt, pushRunBy}
 use Rattle.model.proofs.Cases.{by-cond, NotAccepted, Refuses}
-use Rattle.model.proofs.Blocks.{Carriable, block-length, written-header-most, written-length}
-use Rattle.model.proofs.Packets.{Valid}
-use Rattle.model.proofs.Pushing.{latest-within}
-use Rattle.model.proofs.Limits.{few-blocks}
-use Rattle.model_packing.specs.FirstCome.{Filling, start, filledWith, placed, placeOr0}
 use Rattle.model_packing.specs.Proposals.{blank}
 
 -- no refusal of a push has the number of what is accepted
 module _ (n : ℕ) (run : List ℕ) (p : Packet) where
+  -- of a new block,
   new-numbered : Refuses NotAccepted (pushNew n run p)
   unfolding pushNew
   new-numbered =
@@ -29,18 +23,21 @@ module _ (n : ℕ) (run : List ℕ) (p : Packet) where
       (λ _. by-cond (Refuses NotAccepted) (ltb 31 (length run)) (λ _ e. omega (arith, e))
       (λ _. by-cond (Refuses NotAccepted) (ltb (packetRoom p) (blockLength (record { number = n; payload = run }))) (λ _ e. omega (arith, e)) (λ _. tt)))
 
+  -- of a run to the block at a place,
   at-numbered : (i : ℕ) → Refuses NotAccepted (pushAt i run p)
   unfolding pushAt
   at-numbered i =
       by-cond (Refuses NotAccepted) (ltb (packetRoom p) (length run)) (λ _ e. omega (arith, e))
       (λ _. by-cond (Refuses NotAccepted) (ltb (blockRoom (blockAt p i)) (length run)) (λ _ e. omega (arith, e)) (λ _. tt))
 
+  -- of either,
   where-numbered : (needsRoom : Bool) (o : Option ℕ) → Refuses NotAccepted (pushRunAt needsRoom n run p o)
   unfolding pushRunAt
   where-numbered needsRoom none = new-numbered
   where-numbered needsRoom (some i) =
       by-cond (Refuses NotAccepted) (needsRoom && ltb (blockRoom (blockAt p i)) (length run)) (λ _. new-numbered) (λ _. at-numbered i)
 
+  -- so that none of a run has it
   pub run-numbered : (needsRoom : Bool) → Refuses NotAccepted (pushRunBy needsRoom n run p)
   unfolding pushRunBy
   run-numbered needsRoom =
