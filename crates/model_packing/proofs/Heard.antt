@@ -51,7 +51,7 @@ heard-block services fill s (q ∷ qs) one =
 
 module _ (services : List ℕ) (runs : List (List ℕ)) (ps : List Piece) (ok : Passes services (map length runs) ps) where
   -- all pieces of a block are of one service
-  block-of-one : (p b : ℕ) (q r : Piece) → In q (piecesIn p b ps) → In r (piecesIn p b ps) → serviceOf services (r .run) ≡ serviceOf services (q .run)
+  pub block-of-one : (p b : ℕ) (q r : Piece) → In q (piecesIn p b ps) → In r (piecesIn p b ps) → serviceOf services (r .run) ≡ serviceOf services (q .run)
   unfolding oneService
   block-of-one p b q r i j =
       let f = those-in (liesIn p b) ps i in
@@ -61,7 +61,7 @@ module _ (services : List ℕ) (runs : List (List ℕ)) (ps : List Piece) (ok : 
       eqb-true _ _ (every-in ours (piecesIn (q .packet) (q .block) ps) (every-in (oneService services ps) ps (ok .of-one) (f .0)) k)
 
   -- what a piece is filled with is the numbers of its bytes
-  piece-numbers : (q : Piece) → In q ps → bytesIn runs q ≡ map (numberAt runs) (pieceBytes q)
+  pub piece-numbers : (q : Piece) → In q ps → bytesIn runs q ≡ map (numberAt runs) (pieceBytes q)
   unfolding bytesIn
   piece-numbers q i =
       let f : Inside services (map length runs) q = piece-inside ok q i in
@@ -105,7 +105,7 @@ module _ (services : List ℕ) (runs : List (List ℕ)) (ps : List Piece) (ok : 
 
 module _ (services : List ℕ) (runs : List (List ℕ)) where
   -- a run is the numbers of its bytes
-  run-numbers : (r : ℕ) → map (numberAt runs) (runBytes (map length runs) r) ≡ getD runs r []
+  pub run-numbers : (r : ℕ) → map (numberAt runs) (runBytes (map length runs) r) ≡ getD runs r []
   unfolding runBytes
   run-numbers r =
       rw (List·getD-map length runs r []) (sym (part-numbers runs r 0 (length (getD runs r [])) (omega arith)) ∙ take-length (getD runs r []))

@@ -11,6 +11,7 @@ pub mod Bytes
 pub mod Spoken
 pub mod Alike
 pub mod Heard
+pub mod InOneBlock
 pub mod Carried
 pub mod Blanks
 pub mod Taking

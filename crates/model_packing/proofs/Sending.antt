@@ -87,7 +87,7 @@ unfolding liesIn
 lies-facts p b q e = let f = both _ _ e in (eqb-true _ _ (f .0), eqb-true _ _ (f .1))
 
 -- each piece lies in its own
-lies-itself : (q : Piece) → liesIn (q .packet) (q .block) q ≡ true
+pub lies-itself : (q : Piece) → liesIn (q .packet) (q .block) q ≡ true
 unfolding liesIn
 lies-itself q = and-both _ _ (eq-eqb (q .packet) (q .packet) refl) (eq-eqb (q .block) (q .block) refl)
 
@@ -113,7 +113,7 @@ places-grow i (q ∷ qs) =
     next {x = record { place = i; piece = q }} {l = listedFrom (suc i) qs} (λ u j. omega (arith, listed-in (suc i) qs j .0)) (places-grow (suc i) qs)
 
 -- so the pieces of a block are sent in the order of the list,
-block-sorted : (p b : ℕ) (ps : List Piece) → Sorted SentBefore (listedIn p b ps)
+pub block-sorted : (p b : ℕ) (ps : List Piece) → Sorted SentBefore (listedIn p b ps)
 block-sorted p b ps =
     sorted-by (sorted-those (λ (t : Listed). liesIn p b (t .piece)) (places-grow 0 ps))
     (λ t u i j less.
@@ -143,7 +143,7 @@ unfolding sendingOrder
 sending-in ps i = let f = flatMap-in (λ p. packetListed p ps) (countFrom 0 mostNumbers) i in packet-facts (f .0) ps (f .2) .0
 
 -- the numbers of a piece that has numbers of one byte
-numbered-facts : (q : Piece) → numbered q ≡ true → (q .packet < mostNumbers) × (q .block < mostNumbers)
+pub numbered-facts : (q : Piece) → numbered q ≡ true → (q .packet < mostNumbers) × (q .block < mostNumbers)
 unfolding numbered
 numbered-facts q e = let f = both _ _ e in (ltb-true _ _ (f .0), ltb-true _ _ (f .1))
 

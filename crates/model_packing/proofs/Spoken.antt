@@ -40,19 +40,19 @@ sentBytes s services ps = flatMap (λ (t : Listed). pieceBytes (t .piece)) (send
 
 module _ (services lengths : List ℕ) (ps : List Piece) (ok : Passes services lengths ps) where
   -- a byte of a piece is a byte of a run
-  held-there : (x : Byte) (t : Listed) → In t (listedFrom 0 ps) → In x (pieceBytes (t .piece)) → In x (bytesOf services lengths)
+  pub held-there : (x : Byte) (t : Listed) → In t (listedFrom 0 ps) → In x (pieceBytes (t .piece)) → In x (bytesOf services lengths)
   held-there x t i j =
       let f : Inside services lengths (t .piece) = piece-inside ok (t .piece) (listed-in 0 ps i .1) in
       let g = piece-in x (t .piece) j in
       in-bytes services lengths x (omega (arith, g .0)) (rw (g .0) (omega (arith, g .2)))
 
   -- a byte of a run is in one piece,
-  held-once : (x : Byte) → In x (bytesOf services lengths) → holders x ps ≡ 1
+  pub held-once : (x : Byte) → In x (bytesOf services lengths) → holders x ps ≡ 1
   unfolding heldOnce
   held-once x i = eqb-true _ _ (every-in (heldOnce ps) (bytesOf services lengths) (ok .each-once) i)
 
   -- so it is sent with the piece that it is in
-  sent-then : (x : Byte) (t : Listed) → In t (listedFrom 0 ps) → In x (pieceBytes (t .piece)) → sent ps x ≡ sentAt t
+  pub sent-then : (x : Byte) (t : Listed) → In t (listedFrom 0 ps) → In x (pieceBytes (t .piece)) → sent ps x ≡ sentAt t
   sent-then x t i j = sent-with 0 ps x i (piece-holds x (t .piece) j) (held-once x (held-there x t i j))
 
   -- of two bytes of a service, the earlier one is not sent later
@@ -69,7 +69,7 @@ module _ (services lengths : List ℕ) (ps : List Piece) (ok : Passes services l
     to-service i = let f = those-in (isListedOf services s) (sendingOrder ps) i in (sending-in ps (f .0), eqb-true _ _ (f .1))
 
     -- bytes of two such pieces, of which one is sent before the other, are in this order
-    across : (t u : Listed) (x y : Byte) → SentBefore t u → In t (sendingTo s services ps) → In u (sendingTo s services ps) → In x (pieceBytes (t .piece)) → In y (pieceBytes (u .piece)) → Earlier x y
+    pub across : (t u : Listed) (x y : Byte) → SentBefore t u → In t (sendingTo s services ps) → In u (sendingTo s services ps) → In x (pieceBytes (t .piece)) → In y (pieceBytes (u .piece)) → Earlier x y
     across t u x y b i j k l =
         let f = to-service i in
         let g = to-service j in
