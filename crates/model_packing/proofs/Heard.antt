@@ -26,17 +26,17 @@ unfolding heardIn flatMap
 heard-one s b = append-nil (cond (eqb (b .number) s) (b .payload) [])
 
 -- no blocks say anything
-heard-none : (s : ℕ) (bs : List Block) → someBlock bs ≡ false → heardIn s bs ≡ []
+pub heard-none : (s : ℕ) (bs : List Block) → someBlock bs ≡ false → heardIn s bs ≡ []
 unfolding heardIn flatMap
 heard-none s bs e = rw (drop-of-length-le bs {i = 0} (omega (arith, leb-false 1 (length bs) e)))
 
 -- what is made of the elements of lists that pass a test, list by list
-flatMap-through : {A B C : Type 0} (g : B → List C) (test : B → Bool) (f : A → List B) (l : List A)
+pub flatMap-through : {A B C : Type 0} (g : B → List C) (test : B → Bool) (f : A → List B) (l : List A)
     → flatMap g (those test (flatMap f l)) ≡ flatMap (λ x. flatMap g (those test (f x))) l
 flatMap-through g test f l = ap (flatMap g) (those-flatMap test f l) ∙ flatMap-flatMap g (λ x. those test (f x)) l
 
 -- a block whose pieces are of one service says their bytes to that service, and nothing to another
-heard-block : (services : List ℕ) (fill : Piece → List ℕ) (s : ℕ) (qs : List Piece)
+pub heard-block : (services : List ℕ) (fill : Piece → List ℕ) (s : ℕ) (qs : List Piece)
     → ((q r : Piece) → In q qs → In r qs → serviceOf services (r .run) ≡ serviceOf services (q .run))
     → heardIn s (blockFor services fill qs) ≡ flatMap fill (those (λ (q : Piece). isOf services s (q .run)) qs)
 unfolding blockFor
@@ -121,7 +121,7 @@ module _ (services : List ℕ) (runs : List (List ℕ)) where
       (λ e. rw (e, those-none (isByteOf services s) (bytesFrom r 0 n) (λ x i. alike x i ∙ e)))
 
   -- so what is spoken to a service is the numbers of its bytes
-  spoken-numbers : (s : ℕ) → map (numberAt runs) (spokenBytes s services (map length runs)) ≡ spoken s services runs
+  pub spoken-numbers : (s : ℕ) → map (numberAt runs) (spokenBytes s services (map length runs)) ≡ spoken s services runs
   unfolding bytesOf spoken
   spoken-numbers s =
       let all : List ℕ = countFrom 0 (length services) in

@@ -12,6 +12,9 @@ pub mod Spoken
 pub mod Alike
 pub mod Heard
 pub mod InOneBlock
+pub mod Covered
+pub mod Unordered
+pub mod OrderNeeded
 pub mod Carried
 pub mod Blanks
 pub mod Taking

@@ -55,7 +55,7 @@ unfolding notAfter
 after-rest x y l m e h = rw (eq-eqb x y e) h
 
 -- what is sent at a time is not sent after it
-not-after-itself : (l : List ℕ) → notAfter l l ≡ true
+pub not-after-itself : (l : List ℕ) → notAfter l l ≡ true
 unfolding notAfter
 not-after-itself [] = refl
 not-after-itself (x ∷ l) = rw (eq-eqb x x refl) (not-after-itself l)
