@@ -1,27 +1,28 @@
--- The rule of order asks for no more than it must: a proposal that covers its runs and keeps the limits, and that says to each service what is spoken to
--- it, whatever the bytes of the runs are, passes it. The bytes that show it are one 1 among zeros. Assumes nothing.
-use mathlib.Core.Path.{_≡_, refl, sym, ap, ap₂, subst, _∙_}
-use mathlib.Core.Bool.{Bool, true, false, cond, _&&_}
+-- The rule of order asks for no more than it must: if a proposal covers its runs and keeps the limits, but not the order, there are bytes that some
+-- service would hear in another order. Such bytes are a 1 among zeros. Assumes nothing.
+use mathlib.Core.Path.{_≡_, refl, sym, ap, ap₂, _∙_}
+use mathlib.Core.Bool.{Bool, true, false, cond, _&&_, false≢true}
 use mathlib.Core.List.{List, [], _∷_, map, flatMap}
 use Prim.Native.Nat.{ℕ, zero, suc, _+_, _<_}
 use native.Mathlib.Omega.{arith}
 use lib.Dec.{eqb, ltb}
 use lib.ListN.{length, getD, drop, length-map}
 use borrow.Author.Tests.{eq-eqb, eqb-true}
-use Rattle.model.specs.Lists.{every}
-use Rattle.model.specs.Said.{outOfOrder}
+use Rattle.model.specs.Lists.{every, same}
+use Rattle.model.specs.Said.{Said, accepted, badCover, outOfOrder, runSplit, overLimit}
 use Rattle.model.proofs.Cases.{by-test, both, and-both}
+use Rattle.model.proofs.Lists.{same-true, same-self}
 use Rattle.model.proofs.Distribution.{isByte}
 use Rattle.model_packing.specs.Pieces.{Piece, Byte, byte, countFrom, bytesOf, serviceOf, those, everyTwo, notAfter}
-use Rattle.model_packing.specs.Proposals.{covers, sent, keepsOrder, ordered, limits, checkProposal}
+use Rattle.model_packing.specs.Proposals.{covers, sent, keepsOrder, ordered, unsplit, limits, mostRuns, checkProposal}
 use Rattle.model_packing.specs.Carrying.{proposedPackets, spoken, heardIn}
-use Rattle.model_packing.proofs.Lists.{In, here, there, in-every, in-those, those-in, map-in, bytes-in}
+use Rattle.model_packing.proofs.Lists.{In, here, there, every-in, in-every, in-those, those-in, map-in, every-count, bytes-in}
 use Rattle.model_packing.proofs.Sorted.{Sorted, none, next, sorted-by, sorted-those, every-two-before}
 use Rattle.model_packing.proofs.Bytes.{Earlier, earlier-one-way, bytesFrom, all-sorted, numberAt}
 use Rattle.model_packing.proofs.Spoken.{isByteOf, spokenBytes, sentBytes}
 use Rattle.model_packing.proofs.Heard.{spoken-numbers}
 use Rattle.model_packing.proofs.Covered.{Covered, covers-covered}
-use Rattle.model_packing.proofs.Unordered.{NotSentAfter, sent-in-turn, sent-there, heard-sent}
+use Rattle.model_packing.proofs.Unordered.{sent-in-turn, sent-there, heard-sent}
 
 -- 1 at one byte, 0 at all others
 unfoldable mark : Byte → Byte → ℕ
@@ -48,14 +49,14 @@ map-same : {A B : Type 0} (f g : A → B) (l : List A) → ((x : A) → In x l �
 map-same f g [] e = refl
 map-same f g (x ∷ l) e = ap₂ _∷_ (e x (here refl)) (map-same f g l (λ y i. e y (there i)))
 
--- lists with the same marks, whichever element is marked, are the same
-same-by-marks : (l m : List Byte) → ((y : Byte) → map (mark y) l ≡ map (mark y) m) → l ≡ m
-same-by-marks [] [] e = refl
-same-by-marks [] (y ∷ m) e = absurd (omega (arith, ap (λ (k : List ℕ). length k) (e y)))
-same-by-marks (x ∷ l) [] e = absurd (omega (arith, ap (λ (k : List ℕ). length k) (e x)))
-same-by-marks (x ∷ l) (y ∷ m) e =
-    ap₂ _∷_ (sym (mark-alone x y (sym (ap (λ (k : List ℕ). getD k 0 0) (e x)) ∙ mark-itself x)))
-    (same-by-marks l m (λ z. ap (drop 1) (e z)))
+-- lists with the same marks, whichever of their elements is marked, are the same
+same-by-marks : (l m : List Byte) → ((y : Byte) → In y l → map (mark y) l ≡ map (mark y) m) → ((y : Byte) → In y m → map (mark y) l ≡ map (mark y) m) → l ≡ m
+same-by-marks [] [] e d = refl
+same-by-marks [] (y ∷ m) e d = absurd (omega (arith, ap (λ (k : List ℕ). length k) (d y (here refl))))
+same-by-marks (x ∷ l) [] e d = absurd (omega (arith, ap (λ (k : List ℕ). length k) (e x (here refl))))
+same-by-marks (x ∷ l) (y ∷ m) e d =
+    ap₂ _∷_ (sym (mark-alone x y (sym (ap (λ (k : List ℕ). getD k 0 0) (e x (here refl))) ∙ mark-itself x)))
+    (same-by-marks l m (λ z i. ap (drop 1) (e z (there i))) (λ z i. ap (drop 1) (d z (there i))))
 
 -- runs of so many bytes, counted from run r, with what f says of each byte
 module _ (f : Byte → ℕ) where
@@ -101,15 +102,22 @@ unfolding everyTwo
 sorted-every-two test none = refl
 sorted-every-two test {l = x ∷ l} (next h s) = and-both _ _ (in-every (test x) l h) (sorted-every-two test s)
 
--- what the packets of a proposal say to each service, with the bytes of runs, is what is spoken to it
-abbrev pub HeardInOrder : List ℕ → List Piece → List (List ℕ) → Type 0
-HeardInOrder services ps runs = (s : ℕ) → flatMap (heardIn s) (proposedPackets services runs ps) ≡ spoken s services runs
+-- either all elements pass a test, or one does not
+by-every : {A P : Type 0} (test : A → Bool) (l : List A) → (every test l ≡ true → P) → ((x : A) → In x l → test x ≡ false → P) → P
+unfolding every
+by-every test [] all one = all refl
+by-every test (x ∷ l) all one =
+    by-test (test x) (λ e. by-every test l (λ d. all (and-both _ _ e d)) (λ y i. one y (there i))) (one x (here refl))
 
--- so it is with any bytes of runs of such lengths
-abbrev pub AnyHeardInOrder : List ℕ → List ℕ → List Piece → Type 0
-AnyHeardInOrder services lengths ps = (runs : List (List ℕ)) → map length runs ≡ lengths → every (every isByte) runs ≡ true → HeardInOrder services ps runs
+-- bytes of runs that some service would hear in another order than they are spoken to it
+pub record Misheard (services lengths : List ℕ) (ps : List Piece) : Type 0 where
+  pub runs : List (List ℕ)
+  pub so-long : map length runs ≡ lengths
+  pub all-bytes : every (every isByte) runs ≡ true
+  pub service : ℕ
+  pub otherwise : flatMap (heardIn service) (proposedPackets services runs ps) ≡ spoken service services runs → ⊥
 
-module _ (services lengths : List ℕ) (ps : List Piece) (ok : Covered services lengths ps) (all : AnyHeardInOrder services lengths ps) where
+module _ (services lengths : List ℕ) (ps : List Piece) (ok : Covered services lengths ps) where
   -- runs with a 1 at one byte
   abbrev marked : Byte → List (List ℕ)
   marked y = filledFrom (mark y) 0 lengths
@@ -119,43 +127,110 @@ module _ (services lengths : List ℕ) (ps : List Piece) (ok : Covered services 
   marked-number y x i =
       filled-number (mark y) 0 lengths (x .run) (x .place) (bytes-in services lengths x i .1) ∙ ap (λ (r : ℕ). mark y (byte r (x .place))) (omega arith)
 
-  module _ (s : ℕ) where
-    -- so the bytes of a service have the same marks as they are sent and as they are spoken
-    marks-heard : (y : Byte) → map (mark y) (sentBytes s services ps) ≡ map (mark y) (spokenBytes s services lengths)
-    marks-heard y =
-        let e : map length (marked y) ≡ lengths = filled-lengths (mark y) 0 lengths in
-        let h : map (numberAt (marked y)) (sentBytes s services ps) ≡ map (numberAt (marked y)) (spokenBytes s services (map length (marked y))) =
-        sym (heard-sent services (marked y) ps (rw e ok) s) ∙ all (marked y) e (filled-bytes (mark y) (mark-byte y) 0 lengths) s ∙ sym (spoken-numbers services (marked y) s) in
-        sym (map-same _ _ (sentBytes s services ps) (λ x i. marked-number y x (sent-there services lengths ps ok s x i)))
-        ∙ h
-        ∙ ap (λ (l : List ℕ). map (numberAt (marked y)) (spokenBytes s services l)) e
-        ∙ map-same _ _ (spokenBytes s services lengths) (λ x i. marked-number y x (those-in (isByteOf services s) (bytesOf services lengths) i .0))
+  -- what is spoken to a service is of the runs
+  spoken-there : (s : ℕ) (x : Byte) → In x (spokenBytes s services lengths) → In x (bytesOf services lengths)
+  spoken-there s x i = those-in (isByteOf services s) (bytesOf services lengths) i .0
 
-    -- and are sent as they are spoken
-    sent-as-spoken : sentBytes s services ps ≡ spokenBytes s services lengths
-    sent-as-spoken = same-by-marks _ _ marks-heard
+  -- the bytes of a service have the same marks as they are sent and as they are spoken, if such runs are heard in order
+  marks-heard : (y : Byte) (s : ℕ) → flatMap (heardIn s) (proposedPackets services (marked y) ps) ≡ spoken s services (marked y)
+      → map (mark y) (sentBytes s services ps) ≡ map (mark y) (spokenBytes s services lengths)
+  marks-heard y s h =
+      let e : map length (marked y) ≡ lengths = filled-lengths (mark y) 0 lengths in
+      sym (map-same _ _ (sentBytes s services ps) (λ x i. marked-number y x (sent-there services lengths ps ok s x i)))
+      ∙ sym (heard-sent services (marked y) ps (rw e ok) s)
+      ∙ h
+      ∙ sym (spoken-numbers services (marked y) s)
+      ∙ ap (λ (l : List ℕ). map (numberAt (marked y)) (spokenBytes s services l)) e
+      ∙ map-same _ _ (spokenBytes s services lengths) (λ x i. marked-number y x (spoken-there s x i))
 
-    -- so of two bytes of a service the later one is not sent first
-    spoken-in-turn : (x y : Byte) → In x (spokenBytes s services lengths) → In y (spokenBytes s services lengths) → Earlier x y → notAfter (sent ps x) (sent ps y) ≡ true
-    spoken-in-turn x y i j less =
-        every-two-before Earlier earlier-one-way (λ v w. notAfter (sent ps v) (sent ps w)) (spokenBytes s services lengths)
-        (sorted-those (isByteOf services s) (all-sorted services lengths))
-        (sorted-every-two (λ v w. notAfter (sent ps v) (sent ps w)) (rw sent-as-spoken at (sent-in-turn services lengths ps ok s))) i j less
+  -- whether they have
+  abbrev keepsMark : ℕ → Byte → Bool
+  keepsMark s y = same (map (mark y) (sentBytes s services ps)) (map (mark y) (spokenBytes s services lengths))
 
-  -- and any two bytes keep their order
-  two-in-order : (x y : Byte) → In x (bytesOf services lengths) → In y (bytesOf services lengths) → Earlier x y → keepsOrder services ps x y ≡ true
+  -- if they have, whichever byte is marked, they are sent as they are spoken
+  sent-as-spoken : (s : ℕ) → every (keepsMark s) (bytesOf services lengths) ≡ true → sentBytes s services ps ≡ spokenBytes s services lengths
+  sent-as-spoken s e =
+      same-by-marks _ _
+      (λ y i. same-true _ _ (every-in (keepsMark s) (bytesOf services lengths) e (sent-there services lengths ps ok s y i)))
+      (λ y i. same-true _ _ (every-in (keepsMark s) (bytesOf services lengths) e (spoken-there s y i)))
+
+  -- so none of them is sent after a later one
+  spoken-in-turn : (s : ℕ) → every (keepsMark s) (bytesOf services lengths) ≡ true
+      → (x y : Byte) → In x (spokenBytes s services lengths) → In y (spokenBytes s services lengths) → Earlier x y → notAfter (sent ps x) (sent ps y) ≡ true
+  spoken-in-turn s e x y i j less =
+      every-two-before Earlier earlier-one-way (λ v w. notAfter (sent ps v) (sent ps w)) (spokenBytes s services lengths)
+      (sorted-those (isByteOf services s) (all-sorted services lengths))
+      (sorted-every-two (λ v w. notAfter (sent ps v) (sent ps w)) (rw (sent-as-spoken s e) at (sent-in-turn services lengths ps ok s))) i j less
+
+  -- whether it is so with the service of a run
+  abbrev keepsMarks : ℕ → Bool
+  keepsMarks r = every (keepsMark (serviceOf services r)) (bytesOf services lengths)
+
+  -- if it is with all, any two bytes keep their order
+  two-in-order : every keepsMarks (countFrom 0 (length services)) ≡ true
+      → (x y : Byte) → In x (bytesOf services lengths) → In y (bytesOf services lengths) → Earlier x y → keepsOrder services ps x y ≡ true
   unfolding keepsOrder
-  two-in-order x y i j less =
+  two-in-order m x y i j less =
       let s : ℕ = serviceOf services (y .run) in
+      let k : every (keepsMark s) (bytesOf services lengths) ≡ true =
+      every-count keepsMarks 0 (length services) (y .run) m (omega arith) (omega (arith, bytes-in services lengths y j .0)) in
       by-test (eqb (serviceOf services (x .run)) s)
-      (λ e. rw e (spoken-in-turn s x y (in-those (isByteOf services s) (bytesOf services lengths) i e)
+      (λ e. rw e (spoken-in-turn s k x y (in-those (isByteOf services s) (bytesOf services lengths) i e)
       (in-those (isByteOf services s) (bytesOf services lengths) j (eq-eqb s s refl)) less))
       (λ e. rw e)
 
--- The order is asked for only where it is heard: a proposal whose bytes each service hears in order, whatever they are, keeps it.
-pub order-needed : (services lengths : List ℕ) (ps : List Piece) → covers services lengths ps ≡ true → limits services lengths ps ≡ true
-    → AnyHeardInOrder services lengths ps → ordered services lengths ps ≡ true
+  -- if it is not with one, its service hears a mark in another place
+  mark-misheard : (r : ℕ) → keepsMarks r ≡ false → Misheard services lengths ps
+  mark-misheard r e =
+      let s : ℕ = serviceOf services r in
+      by-every (keepsMark s) (bytesOf services lengths) (λ d. absurd (false≢true (sym e ∙ d)))
+      (λ y _ d. record {
+        runs = marked y;
+        so-long = filled-lengths (mark y) 0 lengths;
+        all-bytes = filled-bytes (mark y) (mark-byte y) 0 lengths;
+        service = s;
+        otherwise = λ h. false≢true (sym d ∙ ap (same (map (mark y) (sentBytes s services ps))) (sym (marks-heard y s h)) ∙ same-self _);
+      })
+
+-- A proposal that does not keep the order is misheard with some bytes.
+pub disorder-misheard : (services lengths : List ℕ) (ps : List Piece) → covers services lengths ps ≡ true → limits services lengths ps ≡ true
+    → ordered services lengths ps ≡ false → Misheard services lengths ps
 unfolding ordered
+disorder-misheard services lengths ps c l e =
+    let ok : Covered services lengths ps = covers-covered services lengths ps c l in
+    by-every (keepsMarks services lengths ps ok) (countFrom 0 (length services))
+    (λ m. absurd (false≢true (sym e ∙ sorted-every-two (keepsOrder services ps) (sorted-by (all-sorted services lengths) (two-in-order services lengths ps ok m)))))
+    (λ r _ d. mark-misheard services lengths ps ok r d)
+
+-- So one that each service hears in order, whatever the bytes are, keeps the order.
+pub order-needed : (services lengths : List ℕ) (ps : List Piece) → covers services lengths ps ≡ true → limits services lengths ps ≡ true
+    → ((runs : List (List ℕ)) → map length runs ≡ lengths → every (every isByte) runs ≡ true
+    → (s : ℕ) → flatMap (heardIn s) (proposedPackets services runs ps) ≡ spoken s services runs)
+    → ordered services lengths ps ≡ true
 order-needed services lengths ps c l all =
-    sorted-every-two (keepsOrder services ps)
-    (sorted-by (all-sorted services lengths) (two-in-order services lengths ps (covers-covered services lengths ps c l) all))
+    by-test (ordered services lengths ps) (λ e. e)
+    (λ e. let m : Misheard services lengths ps = disorder-misheard services lengths ps c l e in absurd (m .otherwise (all (m .runs) (m .so-long) (m .all-bytes) (m .service))))
+
+-- what is refused with 24 covers its runs and does not keep the order
+order-refused : (services lengths : List ℕ) (ps : List Piece) → checkProposal services lengths ps ≡ outOfOrder
+    → (covers services lengths ps ≡ true) × (ordered services lengths ps ≡ false)
+unfolding checkProposal
+order-refused services lengths ps h =
+    by-test (ltb mostRuns (length services)) (λ e. absurd (other overLimit (λ z. omega arith) (rw e at h)))
+    (λ few. by-test (covers services lengths ps)
+    (λ c. by-test (ordered services lengths ps)
+    (λ o. by-test (unsplit services lengths ps)
+    (λ u. by-test (limits services lengths ps)
+    (λ l. absurd (other (accepted []) (λ z. omega arith) (rw (few, c, o, u, l) at h)))
+    (λ l. absurd (other overLimit (λ z. omega arith) (rw (few, c, o, u, l) at h))))
+    (λ u. absurd (other runSplit (λ z. omega arith) (rw (few, c, o, u) at h))))
+    (λ o. (c, o)))
+    (λ c. absurd (other badCover (λ z. omega arith) (rw (few, c) at h))))
+  where
+    other : (why : Said) → (why .number ≡ 24 → ⊥) → why ≡ outOfOrder → ⊥
+    other why not e = not (ap (λ (a : Said). a .number) e)
+
+-- Within the limits, a proposal is refused with 24 only if some service would hear some bytes in another order.
+pub refused-misheard : (services lengths : List ℕ) (ps : List Piece) → checkProposal services lengths ps ≡ outOfOrder → limits services lengths ps ≡ true
+    → Misheard services lengths ps
+refused-misheard services lengths ps h l = let f = order-refused services lengths ps h in disorder-misheard services lengths ps (f .0) l (f .1)
