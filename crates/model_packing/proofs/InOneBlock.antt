@@ -5,13 +5,13 @@ use mathlib.Core.List.{List, [], _∷_, _++_, map, flatMap}
 use Prim.Native.Nat.{ℕ, _<_}
 use native.Mathlib.Omega.{arith}
 use lib.Dec.{ltb}
-use lib.ListN.{length, getD, take}
+use lib.ListN.{length, getD}
 use borrow.Author.Tests.{eq-eqb, le-leb, ltb-true, ltb-false}
 use Rattle.model.specs.Block.{Block}
 use Rattle.model.proofs.Cases.{by-test, and-both}
 use Rattle.model.proofs.Lists.{same-true}
 use Rattle.model_packing.specs.Pieces.{Piece, Byte, byte, countFrom, runBytes, bytesOf, serviceOf, those}
-use Rattle.model_packing.specs.Proposals.{mostNumbers, sent, withFirst, unsplit, liesIn, piecesIn, blockFor, blocksIn, numbered}
+use Rattle.model_packing.specs.Proposals.{mostNumbers, sent, blockOf, withFirst, unsplit, liesIn, piecesIn, blockFor, blocksIn, numbered}
 use Rattle.model_packing.specs.FirstCome.{packable}
 use Rattle.model_packing.specs.Carrying.{bytesIn, someBlock, proposedPackets}
 use Rattle.model_packing.proofs.Lists.{In, here, in-left, in-right, in-either, every-in, in-those, those-in, in-map, in-flatMap, flatMap-in, in-count, in-bytes, bytes-in}
@@ -189,14 +189,13 @@ module _ (services : List ℕ) (runs : List (List ℕ)) (ps : List Piece) (ok : 
         let here-too : In x (bytesOf services lengths) = in-flatMap (runBytes lengths) (countFrom 0 (length services)) (in-count r 0 (length services) (omega arith) (omega arith)) i in
         let f = piece-of (byte r 0) first-there in
         let g = piece-of x here-too in
-        let first-byte : byte (x .run) 0 ≡ byte r 0 = ap (λ (n : ℕ). byte n 0) (bytes-run x r 0 (getD lengths r 0) i) in
-        let one : take 2 (sentAt (g .0)) ≡ take 2 (sentAt (f .0)) =
-        ap (take 2) (sym (sent-then services lengths ps ok x (g .0) (g .1) (g .2)))
-        ∙ same-true _ _ (every-in (withFirst ps) (bytesOf services lengths) (ok .together) here-too)
-        ∙ ap (λ (y : Byte). take 2 (sent ps y)) first-byte
-        ∙ ap (take 2) (sent-then services lengths ps ok (byte r 0) (f .0) (f .1) (f .2)) in
-        let p : g .0 .piece .packet ≡ opening .packet = ap (λ (l : List ℕ). getD l 0 0) one in
-        let b : g .0 .piece .block ≡ opening .block = ap (λ (l : List ℕ). getD l 1 0) one in
+        let one : blockOf ps x ≡ blockOf ps (byte r 0) =
+        same-true _ _ (every-in (withFirst ps) (bytesOf services lengths) (ok .together) here-too)
+        ∙ ap (λ (n : ℕ). blockOf ps (byte n 0)) (bytes-run x r 0 (getD lengths r 0) i) in
+        let first-sent : sent ps (byte r 0) ≡ sentAt (f .0) = sent-then services lengths ps ok (byte r 0) (f .0) (f .1) (f .2) in
+        let two = rw (sent-then services lengths ps ok x (g .0) (g .1) (g .2), first-sent) at one in
+        let p : g .0 .piece .packet ≡ opening .packet = ap (λ (l : List ℕ). getD l 0 0) two in
+        let b : g .0 .piece .block ≡ opening .block = ap (λ (l : List ℕ). getD l 1 0) two in
         rw (p, b) at (in-block x (g .0) (g .1) (g .2))
 
     -- and no others of it

@@ -10,7 +10,7 @@ use lib.ListN.{length, getD, drop, length-map}
 use borrow.Author.Tests.{eq-eqb, eqb-true}
 use Rattle.model.specs.Lists.{every, same}
 use Rattle.model.specs.Said.{Said, accepted, badCover, outOfOrder, runSplit, overLimit}
-use Rattle.model.proofs.Cases.{by-test, both, and-both}
+use Rattle.model.proofs.Cases.{by-test, by-cond, both, and-both}
 use Rattle.model.proofs.Lists.{same-true, same-self}
 use Rattle.model.proofs.Distribution.{isByte}
 use Rattle.model_packing.specs.Pieces.{Piece, Byte, byte, countFrom, bytesOf, serviceOf, those, everyTwo, notAfter}
@@ -174,10 +174,10 @@ module _ (services lengths : List ℕ) (ps : List Piece) (ok : Covered services 
       let s : ℕ = serviceOf services (y .run) in
       let k : every (keepsMark s) (bytesOf services lengths) ≡ true =
       every-count keepsMarks 0 (length services) (y .run) m (omega arith) (omega (arith, bytes-in services lengths y j .0)) in
-      by-test (eqb (serviceOf services (x .run)) s)
-      (λ e. rw e (spoken-in-turn s k x y (in-those (isByteOf services s) (bytesOf services lengths) i e)
-      (in-those (isByteOf services s) (bytesOf services lengths) j (eq-eqb s s refl)) less))
-      (λ e. rw e)
+      by-cond (λ (b : Bool). b ≡ true) (eqb (serviceOf services (x .run)) s)
+      (λ e. spoken-in-turn s k x y (in-those (isByteOf services s) (bytesOf services lengths) i e)
+      (in-those (isByteOf services s) (bytesOf services lengths) j (eq-eqb s s refl)) less)
+      (λ _. refl)
 
   -- if it is not with one, its service hears a mark in another place
   mark-misheard : (r : ℕ) → keepsMarks r ≡ false → Misheard services lengths ps
