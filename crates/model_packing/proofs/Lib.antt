@@ -14,6 +14,7 @@ pub mod Heard
 pub mod InOneBlock
 pub mod Covered
 pub mod Unordered
+pub mod Marks
 pub mod OrderNeeded
 pub mod Carried
 pub mod Blanks
