@@ -1,19 +1,18 @@
 -- What a proposal passes that is accepted, as facts. Assumes nothing.
 use mathlib.Core.Path.{_≡_, refl, sym, ap, _∙_}
-use mathlib.Core.Bool.{Bool, true, false, cond, _&&_}
+use mathlib.Core.Bool.{Bool, true, false, cond}
 use mathlib.Core.List.{List, []}
-use Prim.Native.Nat.{ℕ, _+_, _≤_, _<_}
+use Prim.Native.Nat.{ℕ, _≤_}
 use native.Mathlib.Omega.{arith}
-use lib.Dec.{leb, ltb}
-use lib.ListN.{length, getD}
-use borrow.Author.Tests.{leb-true, ltb-true, ltb-false}
+use lib.Dec.{ltb}
+use lib.ListN.{length}
+use borrow.Author.Tests.{ltb-false}
 use Rattle.model.specs.Lists.{every}
 use Rattle.model.specs.Said.{Said, accepted, badCover, outOfOrder, runSplit, overLimit}
 use Rattle.model.specs.Packet.{validPacket}
 use Rattle.model.proofs.Cases.{both}
 use Rattle.model_packing.specs.Pieces.{Piece, countFrom, bytesOf, everyTwo}
 use Rattle.model_packing.specs.Proposals.{inside, heldOnce, covers, keepsOrder, ordered, unsplit, blankPacket, mostNumbers, runsFit, numbered, oneService, limits, mostRuns, checkProposal}
-use Rattle.model_packing.proofs.Lists.{In, every-in}
 use Rattle.model_packing.proofs.Limits.{limits-all}
 
 -- the tests of a proposal, the limits with the packets of all numbers
@@ -66,18 +65,3 @@ accepted-passes services lengths ps e =
       of-one = h .0;
       in-limits = h .1;
     }
-
--- a piece that is inside its run, as facts
-pub record Inside (services lengths : List ℕ) (q : Piece) : Type 0 where
-  pub some : 1 ≤ q .size
-  pub there : q .run < length services
-  pub ends : q .first + q .size ≤ getD lengths (q .run) 0
-
--- each piece is
-pub piece-inside : {services lengths : List ℕ} {ps : List Piece} → Passes services lengths ps → (q : Piece) → In q ps → Inside services lengths q
-unfolding inside
-piece-inside {services} {lengths} {ps} ok q i =
-    let e = every-in (inside services lengths) ps (ok .all-there) i in
-    let f = both _ _ e in
-    let g = both _ _ (f .1) in
-    record { some = leb-true _ _ (f .0); there = ltb-true _ _ (g .0); ends = leb-true _ _ (g .1) }

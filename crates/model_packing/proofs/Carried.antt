@@ -19,7 +19,8 @@ use Rattle.model_packing.specs.Proposals.{mostNumbers, blocksIn, blank, 
 use Rattle.model_packing.specs.Carrying.{bytesIn, someBlock, proposedPackets, sequencedFrom, spoken, heardIn, heard}
 use Rattle.model_packing.proofs.Lists.{In, here, there, every-in, those-in, map-in}
 use Rattle.model_packing.proofs.Alike.{valid-alike, packet-alike}
-use Rattle.model_packing.proofs.Accepted.{Passes, accepted-passes, Inside, piece-inside}
+use Rattle.model_packing.proofs.Accepted.{Passes, accepted-passes}
+use Rattle.model_packing.proofs.Covered.{passes-covered, Inside, piece-inside}
 use Rattle.model_packing.proofs.Heard.{heard-spoken}
 use Rattle.model_packing.proofs.InOneBlock.{StandsWhole, run-whole}
 
@@ -60,7 +61,7 @@ module _ (services : List ℕ) (runs : List (List ℕ)) (ps : List Piece) (ok : 
   piece-length : (q : Piece) → In q ps → length (bytesIn runs q) ≡ q .size
   unfolding bytesIn
   piece-length q i =
-      let f : Inside services (map length runs) q = piece-inside ok q i in
+      let f : Inside services (map length runs) q = piece-inside (passes-covered ok) q i in
       let run : List ℕ = getD runs (q .run) [] in
       length-take-le (q .size) (drop (q .first) run) (omega (arith, length-drop (q .first) run, List·getD-map length runs (q .run) []))
 

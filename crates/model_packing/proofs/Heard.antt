@@ -17,7 +17,8 @@ use Rattle.model_packing.proofs.Lists.{In, here, every-in, those-in}
 use Rattle.model_packing.proofs.Maps.{those-all, those-none, flatMap-same, flatMap-those, those-map, those-flatMap, map-flatMap, flatMap-map, flatMap-flatMap}
 use Rattle.model_packing.proofs.Sending.{Listed, listed-in, listedIn, listed-block, packetListed, lies-facts, sendingOrder, sending-in}
 use Rattle.model_packing.proofs.Bytes.{bytesFrom, bytes-run, pieceBytes, numberAt, part-numbers}
-use Rattle.model_packing.proofs.Accepted.{Passes, Inside, piece-inside}
+use Rattle.model_packing.proofs.Accepted.{Passes}
+use Rattle.model_packing.proofs.Covered.{Covered, passes-covered, Inside, piece-inside}
 use Rattle.model_packing.proofs.Spoken.{isOf, isByteOf, isListedOf, spokenBytes, sendingTo, sentBytes, sent-spoken}
 
 -- what one block says to a service
@@ -26,17 +27,17 @@ unfolding heardIn flatMap
 heard-one s b = append-nil (cond (eqb (b .number) s) (b .payload) [])
 
 -- no blocks say anything
-pub heard-none : (s : ℕ) (bs : List Block) → someBlock bs ≡ false → heardIn s bs ≡ []
+heard-none : (s : ℕ) (bs : List Block) → someBlock bs ≡ false → heardIn s bs ≡ []
 unfolding heardIn flatMap
 heard-none s bs e = rw (drop-of-length-le bs {i = 0} (omega (arith, leb-false 1 (length bs) e)))
 
 -- what is made of the elements of lists that pass a test, list by list
-pub flatMap-through : {A B C : Type 0} (g : B → List C) (test : B → Bool) (f : A → List B) (l : List A)
+flatMap-through : {A B C : Type 0} (g : B → List C) (test : B → Bool) (f : A → List B) (l : List A)
     → flatMap g (those test (flatMap f l)) ≡ flatMap (λ x. flatMap g (those test (f x))) l
 flatMap-through g test f l = ap (flatMap g) (those-flatMap test f l) ∙ flatMap-flatMap g (λ x. those test (f x)) l
 
 -- a block whose pieces are of one service says their bytes to that service, and nothing to another
-pub heard-block : (services : List ℕ) (fill : Piece → List ℕ) (s : ℕ) (qs : List Piece)
+heard-block : (services : List ℕ) (fill : Piece → List ℕ) (s : ℕ) (qs : List Piece)
     → ((q r : Piece) → In q qs → In r qs → serviceOf services (r .run) ≡ serviceOf services (q .run))
     → heardIn s (blockFor services fill qs) ≡ flatMap fill (those (λ (q : Piece). isOf services s (q .run)) qs)
 unfolding blockFor
@@ -49,7 +50,7 @@ heard-block services fill s (q ∷ qs) one =
     (λ e. rw (e, those-all ours (q ∷ qs) (λ r i. alike r i ∙ e)))
     (λ e. rw (e, those-none ours (q ∷ qs) (λ r i. alike r i ∙ e)) (unfold flatMap in refl))
 
-module _ (services : List ℕ) (runs : List (List ℕ)) (ps : List Piece) (ok : Passes services (map length runs) ps) where
+module _ (services : List ℕ) (runs : List (List ℕ)) (ps : List Piece) (ok : Covered services (map length runs) ps) where
   -- all pieces of a block are of one service
   pub block-of-one : (p b : ℕ) (q r : Piece) → In q (piecesIn p b ps) → In r (piecesIn p b ps) → serviceOf services (r .run) ≡ serviceOf services (q .run)
   unfolding oneService
@@ -103,6 +104,10 @@ module _ (services : List ℕ) (runs : List (List ℕ)) (ps : List Piece) (ok : 
         (λ t i. piece-numbers (t .piece) (listed-in 0 ps (sending-in ps (those-in (isListedOf services s) (sendingOrder ps) i .0)) .1))
         ∙ sym (map-flatMap (numberAt runs) (λ (t : Listed). pieceBytes (t .piece)) (sendingTo s services ps))
 
+    -- so what the packets say to the service is the numbers of the bytes that are sent to it
+    pub heard-sent : flatMap (heardIn s) (proposedPackets services runs ps) ≡ map (numberAt runs) (sentBytes s services ps)
+    heard-sent = said-all ∙ said-sent
+
 module _ (services : List ℕ) (runs : List (List ℕ)) where
   -- a run is the numbers of its bytes
   pub run-numbers : (r : ℕ) → map (numberAt runs) (runBytes (map length runs) r) ≡ getD runs r []
@@ -133,7 +138,6 @@ module _ (services : List ℕ) (runs : List (List ℕ)) where
 pub heard-spoken : (services : List ℕ) (runs : List (List ℕ)) (ps : List Piece) → Passes services (map length runs) ps → (s : ℕ)
     → flatMap (heardIn s) (proposedPackets services runs ps) ≡ spoken s services runs
 heard-spoken services runs ps ok s =
-    said-all services runs ps ok s
-    ∙ said-sent services runs ps ok s
+    heard-sent services runs ps (passes-covered ok) s
     ∙ ap (map (numberAt runs)) (sent-spoken services (map length runs) ps ok s)
     ∙ spoken-numbers services runs s

@@ -20,6 +20,7 @@ use Rattle.model_packing.proofs.Sorted.{Sorted, in-some, sorted-append,
 use Rattle.model_packing.proofs.Sending.{Listed, listedFrom, listed-in, sentAt, listedIn, listed-block, lies-itself, block-facts, block-sorted, sendingOrder, in-sending, numbered-facts, held-by}
 use Rattle.model_packing.proofs.Bytes.{Earlier, byRun, earlier-one-way, bytes-run, pieceBytes, in-piece, piece-in, bytes-sorted, numberAt}
 use Rattle.model_packing.proofs.Accepted.{Passes}
+use Rattle.model_packing.proofs.Covered.{Covered, passes-covered}
 use Rattle.model_packing.proofs.Spoken.{isListedOf, sendingTo, held-there, held-once, sent-then, across}
 use Rattle.model_packing.proofs.Heard.{block-of-one, piece-numbers, run-numbers}
 use Rattle.model_packing.proofs.Filling.{run-some}
@@ -110,6 +111,10 @@ module _ (services : List ℕ) (runs : List (List ℕ)) (ps : List Piece) (ok : 
   abbrev lengths : List ℕ
   lengths = map length runs
 
+  -- what is known of it without the order
+  abbrev covered : Covered services (map length runs) ps
+  covered = passes-covered ok
+
   -- the bytes of the pieces of a block
   abbrev blockBytes : ℕ → ℕ → List Byte
   blockBytes p b = flatMap (λ (t : Listed). pieceBytes (t .piece)) (listedIn p b ps)
@@ -123,7 +128,7 @@ module _ (services : List ℕ) (runs : List (List ℕ)) (ps : List Piece) (ok : 
   sent-to p b t u i j =
       let s : ℕ = serviceOf services (t .piece .run) in
       in-those (isListedOf services s) (sendingOrder ps) (in-sending ps (ok .one-byte) (block-facts p b ps j .0))
-      (eq-eqb _ _ (block-of-one services runs ps ok p b (t .piece) (u .piece) (piece-there p b t i) (piece-there p b u j)))
+      (eq-eqb _ _ (block-of-one services runs ps covered p b (t .piece) (u .piece) (piece-there p b t i) (piece-there p b u j)))
 
   -- so the bytes of a block are in their order
   block-bytes-sorted : (p b : ℕ) → Sorted Earlier (blockBytes p b)
@@ -138,7 +143,7 @@ module _ (services : List ℕ) (runs : List (List ℕ)) (ps : List Piece) (ok : 
       ap (flatMap (bytesIn runs)) (listed-block p b ps)
       ∙ flatMap-map (bytesIn runs) (λ (t : Listed). t .piece) (listedIn p b ps)
       ∙ flatMap-same (λ (t : Listed). bytesIn runs (t .piece)) (λ (t : Listed). map (numberAt runs) (pieceBytes (t .piece))) (listedIn p b ps)
-      (λ t i. piece-numbers services runs ps ok (t .piece) (listed-in 0 ps (block-facts p b ps i .0) .1))
+      (λ t i. piece-numbers services runs ps covered (t .piece) (listed-in 0 ps (block-facts p b ps i .0) .1))
       ∙ sym (map-flatMap (numberAt runs) (λ (t : Listed). pieceBytes (t .piece)) (listedIn p b ps))
 
   -- a byte of a piece of the list is in the piece's block
@@ -151,7 +156,7 @@ module _ (services : List ℕ) (runs : List (List ℕ)) (ps : List Piece) (ok : 
   -- the piece that a byte is in
   piece-of : (x : Byte) → In x (bytesOf services lengths) → (t : Listed) × In t (listedFrom 0 ps) × In x (pieceBytes (t .piece))
   piece-of x i =
-      let h = held-by 0 ps x (omega (arith, held-once services lengths ps ok x i)) in
+      let h = held-by 0 ps x (omega (arith, held-once services lengths ps covered x i)) in
       (h .0, h .1, in-piece x (h .0 .piece) (h .2))
 
   -- the block of a piece is one of its packet, and that is one of the proposal
@@ -192,8 +197,8 @@ module _ (services : List ℕ) (runs : List (List ℕ)) (ps : List Piece) (ok : 
         let one : blockOf ps x ≡ blockOf ps (byte r 0) =
         same-true _ _ (every-in (withFirst ps) (bytesOf services lengths) (ok .together) here-too)
         ∙ ap (λ (n : ℕ). blockOf ps (byte n 0)) (bytes-run x r 0 (getD lengths r 0) i) in
-        let first-sent : sent ps (byte r 0) ≡ sentAt (f .0) = sent-then services lengths ps ok (byte r 0) (f .0) (f .1) (f .2) in
-        let two = rw (sent-then services lengths ps ok x (g .0) (g .1) (g .2), first-sent) at one in
+        let first-sent : sent ps (byte r 0) ≡ sentAt (f .0) = sent-then services lengths ps covered (byte r 0) (f .0) (f .1) (f .2) in
+        let two = rw (sent-then services lengths ps covered x (g .0) (g .1) (g .2), first-sent) at one in
         let p : g .0 .piece .packet ≡ opening .packet = ap (λ (l : List ℕ). getD l 0 0) two in
         let b : g .0 .piece .block ≡ opening .block = ap (λ (l : List ℕ). getD l 1 0) two in
         rw (p, b) at (in-block x (g .0) (g .1) (g .2))
@@ -203,7 +208,7 @@ module _ (services : List ℕ) (runs : List (List ℕ)) (ps : List Piece) (ok : 
     unfolding runBytes
     block-in-run p b x i e =
         let t = flatMap-in (λ (u : Listed). pieceBytes (u .piece)) (listedIn p b ps) i in
-        let f = bytes-in services lengths x (held-there services lengths ps ok x (t .0) (block-facts p b ps (t .1) .0) (t .2)) in
+        let f = bytes-in services lengths x (held-there services lengths ps covered x (t .0) (block-facts p b ps (t .1) .0) (t .2)) in
         let k : In (x .place) (countFrom 0 (getD lengths r 0)) = in-count (x .place) 0 (getD lengths r 0) (omega arith) (omega (arith, rw e at (f .1))) in
         subst (λ (n : ℕ). In (byte n (x .place)) (runBytes lengths r)) (sym e) (in-map (byte r) (countFrom 0 (getD lengths r 0)) k)
 
@@ -239,7 +244,7 @@ module _ (services : List ℕ) (runs : List (List ℕ)) (ps : List Piece) (ok : 
           in-packets = sends .1;
           block = made .0;
           in-blocks = sends .0;
-          number = made .2 .2 ∙ block-of-one services runs ps ok (q .packet) (q .block) q (made .2 .0) lies (made .2 .1)
+          number = made .2 .2 ∙ block-of-one services runs ps covered (q .packet) (q .block) q (made .2 .0) lies (made .2 .1)
               ∙ ap (serviceOf services) (sym (piece-in (byte r 0) q (f .2) .0));
           front = earlierIn;
           back = laterIn;

@@ -19,11 +19,11 @@ use Rattle.model_packing.specs.Carrying.{proposedPackets, spoken, heardI
 use Rattle.model_packing.proofs.Lists.{In, here, there, every-in, in-every, in-those, those-in, every-count, bytes-in}
 use Rattle.model_packing.proofs.Sorted.{Sorted, none, next, sorted-by, sorted-those, every-two-before}
 use Rattle.model_packing.proofs.Bytes.{Earlier, earlier-one-way, all-sorted, numberAt}
-use Rattle.model_packing.proofs.Spoken.{isByteOf, spokenBytes, sentBytes}
-use Rattle.model_packing.proofs.Heard.{spoken-numbers}
+use Rattle.model_packing.proofs.Spoken.{isByteOf, spokenBytes, sentBytes, sent-is-spoken}
+use Rattle.model_packing.proofs.Heard.{heard-sent, spoken-numbers}
 use Rattle.model_packing.proofs.Marks.{mark, mark-byte, map-same, same-by-marks, filledFrom, filled-lengths, filled-number, filled-bytes}
 use Rattle.model_packing.proofs.Covered.{Covered, covers-covered}
-use Rattle.model_packing.proofs.Unordered.{sent-in-turn, sent-there, heard-sent}
+use Rattle.model_packing.proofs.Unordered.{sent-in-turn}
 
 -- a list in an order that a test tells passes it, two by two
 sorted-every-two : {A : Type 0} (test : A → A → Bool) {l : List A} → Sorted (λ x y. test x y ≡ true) l → everyTwo test l ≡ true
@@ -60,12 +60,16 @@ module _ (services lengths : List ℕ) (ps : List Piece) (ok : Covered services 
   spoken-there : (s : ℕ) (x : Byte) → In x (spokenBytes s services lengths) → In x (bytesOf services lengths)
   spoken-there s x i = those-in (isByteOf services s) (bytesOf services lengths) i .0
 
+  -- and so is what is sent to it
+  sent-there : (s : ℕ) (x : Byte) → In x (sentBytes s services ps) → In x (bytesOf services lengths)
+  sent-there s x i = spoken-there s x (sent-is-spoken services lengths ps ok s x i)
+
   -- the bytes of a service have the same marks as they are sent and as they are spoken, if such runs are heard in order
   marks-heard : (y : Byte) (s : ℕ) → flatMap (heardIn s) (proposedPackets services (marked y) ps) ≡ spoken s services (marked y)
       → map (mark y) (sentBytes s services ps) ≡ map (mark y) (spokenBytes s services lengths)
   marks-heard y s h =
       let e : map length (marked y) ≡ lengths = filled-lengths (mark y) 0 lengths in
-      sym (map-same _ _ (sentBytes s services ps) (λ x i. marked-number y x (sent-there services lengths ps ok s x i)))
+      sym (map-same _ _ (sentBytes s services ps) (λ x i. marked-number y x (sent-there s x i)))
       ∙ sym (heard-sent services (marked y) ps (rw e ok) s)
       ∙ h
       ∙ sym (spoken-numbers services (marked y) s)
@@ -80,7 +84,7 @@ module _ (services lengths : List ℕ) (ps : List Piece) (ok : Covered services 
   sent-as-spoken : (s : ℕ) → every (keepsMark s) (bytesOf services lengths) ≡ true → sentBytes s services ps ≡ spokenBytes s services lengths
   sent-as-spoken s e =
       same-by-marks _ _
-      (λ y i. same-true _ _ (every-in (keepsMark s) (bytesOf services lengths) e (sent-there services lengths ps ok s y i)))
+      (λ y i. same-true _ _ (every-in (keepsMark s) (bytesOf services lengths) e (sent-there s y i)))
       (λ y i. same-true _ _ (every-in (keepsMark s) (bytesOf services lengths) e (spoken-there s y i)))
 
   -- so none of them is sent after a later one
