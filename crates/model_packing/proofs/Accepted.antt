@@ -2,30 +2,29 @@
 use mathlib.Core.Path.{_≡_, refl, sym, ap, _∙_}
 use mathlib.Core.Bool.{Bool, true, false, cond}
 use mathlib.Core.List.{List, []}
-use Prim.Native.Nat.{ℕ, _+_, _≤_, _<_}
+use Prim.Native.Nat.{ℕ, _≤_}
 use native.Mathlib.Omega.{arith}
 use lib.Dec.{ltb}
-use lib.ListN.{length, getD}
-use borrow.Author.Tests.{leb-true, ltb-true, ltb-false}
+use lib.ListN.{length}
+use borrow.Author.Tests.{ltb-false}
 use Rattle.model.specs.Lists.{every}
 use Rattle.model.specs.Said.{Said, accepted, badCover, outOfOrder, runSplit, overLimit}
 use Rattle.model.specs.Packet.{validPacket}
 use Rattle.model.proofs.Cases.{both}
 use Rattle.model_packing.specs.Pieces.{Piece, countFrom, bytesOf, everyTwo}
 use Rattle.model_packing.specs.Proposals.{inside, heldOnce, covers, keepsOrder, ordered, unsplit, blankPacket, mostNumbers, runsFit, numbered, oneService, limits, mostRuns, checkProposal}
-use Rattle.model_packing.proofs.Lists.{In, every-in}
 use Rattle.model_packing.proofs.Limits.{limits-all}
 
 -- the tests of a proposal, the limits with the packets of all numbers
 pub record Passes (services lengths : List ℕ) (ps : List Piece) : Type 0 where
   pub few-runs : length services ≤ mostRuns
-  pub all-inside : every (inside services lengths) ps ≡ true
+  pub all-there : every (inside services lengths) ps ≡ true
   pub each-once : every (heldOnce ps) (bytesOf services lengths) ≡ true
   pub in-order : everyTwo (keepsOrder services ps) (bytesOf services lengths) ≡ true
   pub together : unsplit services lengths ps ≡ true
   pub each-fits : runsFit services lengths ≡ true
   pub one-byte : every numbered ps ≡ true
-  pub one-service : every (oneService services ps) ps ≡ true
+  pub of-one : every (oneService services ps) ps ≡ true
   pub in-limits : every (λ p. validPacket (blankPacket services ps p)) (countFrom 0 mostNumbers) ≡ true
 
 -- an answer that is accepted is not a refusal
@@ -57,27 +56,12 @@ accepted-passes services lengths ps e =
     let h = both _ _ (g .1) in
     record {
       few-runs = ltb-false mostRuns (length services) (few .0);
-      all-inside = c .0;
+      all-there = c .0;
       each-once = c .1;
       in-order = order .0;
       together = whole .0;
       each-fits = f .0;
       one-byte = g .0;
-      one-service = h .0;
+      of-one = h .0;
       in-limits = h .1;
     }
-
--- a piece that is inside its run, as facts
-pub record Inside (services lengths : List ℕ) (q : Piece) : Type 0 where
-  pub nonempty : 1 ≤ q .size
-  pub run-known : q .run < length services
-  pub ends-within : q .first + q .size ≤ getD lengths (q .run) 0
-
--- each piece is
-pub piece-inside : {services lengths : List ℕ} {ps : List Piece} → Passes services lengths ps → (q : Piece) → In q ps → Inside services lengths q
-unfolding inside
-piece-inside {services} {lengths} {ps} ok q i =
-    let e = every-in (inside services lengths) ps (ok .all-inside) i in
-    let f = both _ _ e in
-    let g = both _ _ (f .1) in
-    record { nonempty = leb-true _ _ (f .0); run-known = ltb-true _ _ (g .0); ends-within = leb-true _ _ (g .1) }

@@ -1,9 +1,9 @@
 -- Any accepted proposal can be carried out: its packets are within the limits and are read back as they were written, and what they say to each service
--- is all that is spoken to it, in order. Assumes nothing.
+-- is all that is spoken to it, in order, each run whole in a block. Assumes nothing.
 use mathlib.Core.Path.{_≡_, refl, sym, ap, _∙_}
 use mathlib.Core.Bool.{true}
 use mathlib.Core.List.{List, [], _∷_, _++_, map, flatMap}
-use Prim.Native.Nat.{ℕ, suc, _≤_}
+use Prim.Native.Nat.{ℕ, suc, _≤_, _<_}
 use native.Mathlib.Omega.{arith}
 use lib.ListN.{length, getD, drop, length-drop, length-replicate, List·getD-map}
 use lib.Seq.{length-take-le}
@@ -14,13 +14,15 @@ use Rattle.model.specs.Packet.{Packet, readPacket, readTidy, writtenPacket, val
 use Rattle.model.specs.Demux.{closed, packetsOf}
 use Rattle.model.proofs.Packets.{valid-facts, plain-back}
 use Rattle.model.proofs.Fill.{tidy-back}
-use Rattle.model_packing.specs.Pieces.{Piece, countFrom}
+use Rattle.model_packing.specs.Pieces.{Piece, countFrom, serviceOf}
 use Rattle.model_packing.specs.Proposals.{mostNumbers, blocksIn, blank, blankPacket, checkProposal}
 use Rattle.model_packing.specs.Carrying.{bytesIn, someBlock, proposedPackets, sequencedFrom, spoken, heardIn, heard}
 use Rattle.model_packing.proofs.Lists.{In, here, there, every-in, those-in, map-in}
 use Rattle.model_packing.proofs.Alike.{valid-alike, packet-alike}
-use Rattle.model_packing.proofs.Accepted.{Passes, accepted-passes, Inside, piece-inside}
+use Rattle.model_packing.proofs.Accepted.{Passes, accepted-passes}
+use Rattle.model_packing.proofs.Covered.{passes-covered, Inside, piece-inside}
 use Rattle.model_packing.proofs.Heard.{heard-spoken}
+use Rattle.model_packing.proofs.InOneBlock.{StandsWhole, run-whole}
 
 -- a packet that can be sent: it is within the limits, and both readers give it back as it was written
 pub record Sendable (p : Packet) : Type 0 where
@@ -33,11 +35,12 @@ abbrev pub AnySendable : List Block → Type 0
 AnySendable bs = (n : ℕ) → n ≤ 3 → Sendable (record { sequence = n; blocks = bs })
 
 -- A proposal carried out with the bytes of runs: each of its packets can be sent; and where they are written, with any sequence numbers, and read
--- back, they say to each service all that is spoken to it, in order, once each.
+-- back, they say to each service all that is spoken to it, in order, once each; and each run stands whole in a block of its service.
 pub record Carries (services : List ℕ) (runs : List (List ℕ)) (ps : List Piece) : Type 0 where
   pub each-sendable : (bs : List Block) → In bs (proposedPackets services runs ps) → AnySendable bs
   pub heard-in-order : (sequence : ℕ → ℕ) → ((i : ℕ) → sequence i ≤ 3) → (s : ℕ)
       → heard s (packetsOf (map writtenPacket (sequencedFrom sequence 0 (proposedPackets services runs ps)))) ≡ spoken s services runs
+  pub runs-whole : (r : ℕ) → r < length services → StandsWhole (getD runs r []) (serviceOf services r) (proposedPackets services runs ps)
 
 -- such packets are read back as they were written, one after the other
 packets-back : (sequence : ℕ → ℕ) → ((i : ℕ) → sequence i ≤ 3) → (i : ℕ) (l : List (List Block)) → ((bs : List Block) → In bs l → AnySendable bs)
@@ -58,7 +61,7 @@ module _ (services : List ℕ) (runs : List (List ℕ)) (ps : List Piece) (ok : 
   pub piece-length : (q : Piece) → In q ps → length (bytesIn runs q) ≡ q .size
   unfolding bytesIn
   piece-length q i =
-      let f : Inside services (map length runs) q = piece-inside ok q i in
+      let f : Inside services (map length runs) q = piece-inside (passes-covered ok) q i in
       let run : List ℕ = getD runs (q .run) [] in
       length-take-le (q .size) (drop (q .first) run) (omega (arith, length-drop (q .first) run, List·getD-map length runs (q .run) []))
 
@@ -94,4 +97,5 @@ accepted-carried services runs ps e =
           ap (heard s) (packets-back sequence few 0 packets (packet-sendable services runs ps ok))
           ∙ sequenced-heard sequence 0 packets s
           ∙ heard-spoken services runs ps ok s;
+      runs-whole = run-whole services runs ps ok;
     }

@@ -15,10 +15,11 @@ use Rattle.model_packing.specs.Proposals.{mostNumbers, liesIn, piecesIn,
 use Rattle.model_packing.specs.Carrying.{bytesIn, someBlock, proposedPackets, spoken, heardIn}
 use Rattle.model_packing.proofs.Lists.{In, here, every-in, those-in}
 use Rattle.model_packing.proofs.Maps.{those-all, those-none, flatMap-same, flatMap-those, those-map, those-flatMap, map-flatMap, flatMap-map, flatMap-flatMap}
-use Rattle.model_packing.proofs.Sending.{Listed, pieceOf, listed-in, listedIn, listed-block, packetListed, lies-facts, sendingOrder, sending-in}
+use Rattle.model_packing.proofs.Sending.{Listed, listed-in, listedIn, listed-block, packetListed, lies-facts, sendingOrder, sending-in}
 use Rattle.model_packing.proofs.Bytes.{bytesFrom, bytes-run, pieceBytes, numberAt, part-numbers}
-use Rattle.model_packing.proofs.Accepted.{Passes, Inside, piece-inside}
-use Rattle.model_packing.proofs.Spoken.{isOf, isByteOf, isListedOf, listedBytes, spokenBytes, sendingTo, sentBytes, sent-spoken}
+use Rattle.model_packing.proofs.Accepted.{Passes}
+use Rattle.model_packing.proofs.Covered.{Covered, passes-covered, Inside, piece-inside}
+use Rattle.model_packing.proofs.Spoken.{isOf, isByteOf, isListedOf, spokenBytes, sendingTo, sentBytes, sent-spoken}
 
 -- what one block says to a service
 heard-one : (s : ℕ) (b : Block) → heardIn s (b ∷ []) ≡ cond (eqb (b .number) s) (b .payload) []
@@ -49,19 +50,19 @@ heard-block services fill s (q ∷ qs) one =
     (λ e. rw (e, those-all ours (q ∷ qs) (λ r i. alike r i ∙ e)))
     (λ e. rw (e, those-none ours (q ∷ qs) (λ r i. alike r i ∙ e)) (unfold flatMap in refl))
 
-module _ (services : List ℕ) (runs : List (List ℕ)) (ps : List Piece) (ok : Passes services (map length runs) ps) where
+module _ (services : List ℕ) (runs : List (List ℕ)) (ps : List Piece) (ok : Covered services (map length runs) ps) where
   -- all pieces of a block are of one service
-  one-service-in : (p b : ℕ) (q r : Piece) → In q (piecesIn p b ps) → In r (piecesIn p b ps) → serviceOf services (r .run) ≡ serviceOf services (q .run)
+  pub block-of-one : (p b : ℕ) (q r : Piece) → In q (piecesIn p b ps) → In r (piecesIn p b ps) → serviceOf services (r .run) ≡ serviceOf services (q .run)
   unfolding oneService
-  one-service-in p b q r i j =
+  block-of-one p b q r i j =
       let f = those-in (liesIn p b) ps i in
       let g = lies-facts p b q (f .1) in
       let k : In r (piecesIn (q .packet) (q .block) ps) = rw (g .0, g .1) j in
       let ours : Piece → Bool = λ u. eqb (serviceOf services (u .run)) (serviceOf services (q .run)) in
-      eqb-true _ _ (every-in ours (piecesIn (q .packet) (q .block) ps) (every-in (oneService services ps) ps (ok .one-service) (f .0)) k)
+      eqb-true _ _ (every-in ours (piecesIn (q .packet) (q .block) ps) (every-in (oneService services ps) ps (ok .of-one) (f .0)) k)
 
   -- what a piece is filled with is the numbers of its bytes
-  piece-numbers : (q : Piece) → In q ps → bytesIn runs q ≡ map (numberAt runs) (pieceBytes q)
+  pub piece-numbers : (q : Piece) → In q ps → bytesIn runs q ≡ map (numberAt runs) (pieceBytes q)
   unfolding bytesIn
   piece-numbers q i =
       let f : Inside services (map length runs) q = piece-inside ok q i in
@@ -75,8 +76,9 @@ module _ (services : List ℕ) (runs : List (List ℕ)) (ps : List Piece) (ok : 
     -- what a block says to the service is the bytes of its pieces of that service,
     said-block : (p b : ℕ) → heardIn s (blockFor services (bytesIn runs) (piecesIn p b ps)) ≡ flatMap saidIn (those (isListedOf services s) (listedIn p b ps))
     said-block p b =
-        heard-block services (bytesIn runs) s (piecesIn p b ps) (one-service-in p b)
-        ∙ rw (listed-block p b ps, those-map (λ (q : Piece). isOf services s (q .run)) pieceOf (listedIn p b ps)) (flatMap-map (bytesIn runs) pieceOf (those (isListedOf services s) (listedIn p b ps)))
+        let bare : Listed → Piece = λ t. t .piece in
+        heard-block services (bytesIn runs) s (piecesIn p b ps) (block-of-one p b)
+        ∙ rw (listed-block p b ps, those-map (λ (q : Piece). isOf services s (q .run)) bare (listedIn p b ps)) (flatMap-map (bytesIn runs) bare (those (isListedOf services s) (listedIn p b ps)))
 
     -- so it is with a packet,
     said-packet : (p : ℕ) → heardIn s (blocksIn services (bytesIn runs) ps p) ≡ flatMap saidIn (those (isListedOf services s) (packetListed p ps))
@@ -98,13 +100,17 @@ module _ (services : List ℕ) (runs : List (List ℕ)) (ps : List Piece) (ok : 
     -- these are the numbers of the bytes that are sent
     said-sent : flatMap saidIn (sendingTo s services ps) ≡ map (numberAt runs) (sentBytes s services ps)
     said-sent =
-        flatMap-same saidIn (λ t. map (numberAt runs) (listedBytes t)) (sendingTo s services ps)
+        flatMap-same saidIn (λ (t : Listed). map (numberAt runs) (pieceBytes (t .piece))) (sendingTo s services ps)
         (λ t i. piece-numbers (t .piece) (listed-in 0 ps (sending-in ps (those-in (isListedOf services s) (sendingOrder ps) i .0)) .1))
-        ∙ sym (map-flatMap (numberAt runs) listedBytes (sendingTo s services ps))
+        ∙ sym (map-flatMap (numberAt runs) (λ (t : Listed). pieceBytes (t .piece)) (sendingTo s services ps))
+
+    -- so what the packets say to the service is the numbers of the bytes that are sent to it
+    pub heard-sent : flatMap (heardIn s) (proposedPackets services runs ps) ≡ map (numberAt runs) (sentBytes s services ps)
+    heard-sent = said-all ∙ said-sent
 
 module _ (services : List ℕ) (runs : List (List ℕ)) where
   -- a run is the numbers of its bytes
-  run-numbers : (r : ℕ) → map (numberAt runs) (runBytes (map length runs) r) ≡ getD runs r []
+  pub run-numbers : (r : ℕ) → map (numberAt runs) (runBytes (map length runs) r) ≡ getD runs r []
   unfolding runBytes
   run-numbers r =
       rw (List·getD-map length runs r []) (sym (part-numbers runs r 0 (length (getD runs r [])) (omega arith)) ∙ take-length (getD runs r []))
@@ -120,7 +126,7 @@ module _ (services : List ℕ) (runs : List (List ℕ)) where
       (λ e. rw (e, those-none (isByteOf services s) (bytesFrom r 0 n) (λ x i. alike x i ∙ e)))
 
   -- so what is spoken to a service is the numbers of its bytes
-  spoken-numbers : (s : ℕ) → map (numberAt runs) (spokenBytes s services (map length runs)) ≡ spoken s services runs
+  pub spoken-numbers : (s : ℕ) → map (numberAt runs) (spokenBytes s services (map length runs)) ≡ spoken s services runs
   unfolding bytesOf spoken
   spoken-numbers s =
       let all : List ℕ = countFrom 0 (length services) in
@@ -132,7 +138,6 @@ module _ (services : List ℕ) (runs : List (List ℕ)) where
 pub heard-spoken : (services : List ℕ) (runs : List (List ℕ)) (ps : List Piece) → Passes services (map length runs) ps → (s : ℕ)
     → flatMap (heardIn s) (proposedPackets services runs ps) ≡ spoken s services runs
 heard-spoken services runs ps ok s =
-    said-all services runs ps ok s
-    ∙ said-sent services runs ps ok s
+    heard-sent services runs ps (passes-covered ok) s
     ∙ ap (map (numberAt runs)) (sent-spoken services (map length runs) ps ok s)
     ∙ spoken-numbers services runs s

@@ -4,6 +4,7 @@ pub mod Examples
 pub mod Crowded
 pub mod Limits
 pub mod Accepted
+pub mod Covered
 pub mod Maps
 pub mod Sorted
 pub mod Sending
@@ -11,6 +12,10 @@ pub mod Bytes
 pub mod Spoken
 pub mod Alike
 pub mod Heard
+pub mod InOneBlock
+pub mod Unordered
+pub mod Marks
+pub mod OrderNeeded
 pub mod Carried
 pub mod Blanks
 pub mod Taking

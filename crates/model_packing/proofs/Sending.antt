@@ -58,7 +58,7 @@ unfolding notAfter
 after-rest x y l m e h = rw (eq-eqb x y e) h
 
 -- what is sent at a time is not sent after it
-not-after-itself : (l : List ℕ) → notAfter l l ≡ true
+pub not-after-itself : (l : List ℕ) → notAfter l l ≡ true
 unfolding notAfter
 not-after-itself [] = refl
 not-after-itself (x ∷ l) = rw (eq-eqb x x refl) (not-after-itself l)
@@ -94,7 +94,7 @@ unfolding liesIn
 lies-facts p b q e = let f = both _ _ e in (eqb-true _ _ (f .0), eqb-true _ _ (f .1))
 
 -- each piece lies in its own
-lies-itself : (q : Piece) → liesIn (q .packet) (q .block) q ≡ true
+pub lies-itself : (q : Piece) → liesIn (q .packet) (q .block) q ≡ true
 unfolding liesIn
 lies-itself q = and-both _ _ (eq-eqb (q .packet) (q .packet) refl) (eq-eqb (q .block) (q .block) refl)
 
@@ -120,7 +120,7 @@ places-grow i (q ∷ qs) =
     next {x = record { place = i; piece = q }} {l = listedFrom (suc i) qs} (λ u j. omega (arith, listed-in (suc i) qs j .0)) (places-grow (suc i) qs)
 
 -- so the pieces of a block are sent in the order of the list,
-block-sorted : (p b : ℕ) (ps : List Piece) → Sorted SentBefore (listedIn p b ps)
+pub block-sorted : (p b : ℕ) (ps : List Piece) → Sorted SentBefore (listedIn p b ps)
 block-sorted p b ps =
     sorted-by (sorted-those (isListedIn p b) (places-grow 0 ps))
     (λ t u i j less.
@@ -145,7 +145,7 @@ sending-sorted ps =
     (λ p r t u less _ _ i j. after-first (u .piece .packet) (t .piece .packet) _ _ (omega (arith, packet-facts p ps i .1, packet-facts r ps j .1)))
 
 -- the numbers of a piece that has numbers of one byte
-numbered-facts : (q : Piece) → numbered q ≡ true → (q .packet < mostNumbers) × (q .block < mostNumbers)
+pub numbered-facts : (q : Piece) → numbered q ≡ true → (q .packet < mostNumbers) × (q .block < mostNumbers)
 unfolding numbered
 numbered-facts q e = let f = both _ _ e in (ltb-true _ _ (f .0), ltb-true _ _ (f .1))
 

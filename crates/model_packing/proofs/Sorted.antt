@@ -16,7 +16,7 @@ pub data Sorted {A : Type 0} (Before : A → A → Type 0) : List A → Type 0 w
   next : {x : A} {l : List A} → ((y : A) → In y l → Before x y) → Sorted Before l → Sorted Before (x ∷ l)
 
 -- a list with an element is not empty
-in-some : {A : Type 0} {x : A} {l : List A} → In x l → 1 ≤ length l
+pub in-some : {A : Type 0} {x : A} {l : List A} → In x l → 1 ≤ length l
 in-some (here e) = omega arith
 in-some (there i) = omega arith
 
