@@ -18,13 +18,13 @@ use Rattle.model_packing.proofs.Limits.{limits-all}
 -- the tests of a proposal, the limits with the packets of all numbers
 pub record Passes (services lengths : List ℕ) (ps : List Piece) : Type 0 where
   pub few-runs : length services ≤ mostRuns
-  pub all-there : every (inside services lengths) ps ≡ true
+  pub all-inside : every (inside services lengths) ps ≡ true
   pub each-once : every (heldOnce ps) (bytesOf services lengths) ≡ true
   pub in-order : everyTwo (keepsOrder services ps) (bytesOf services lengths) ≡ true
   pub together : unsplit services lengths ps ≡ true
   pub each-fits : runsFit services lengths ≡ true
   pub one-byte : every numbered ps ≡ true
-  pub of-one : every (oneService services ps) ps ≡ true
+  pub one-service : every (oneService services ps) ps ≡ true
   pub in-limits : every (λ p. validPacket (blankPacket services ps p)) (countFrom 0 mostNumbers) ≡ true
 
 -- an answer that is accepted is not a refusal
@@ -56,12 +56,12 @@ accepted-passes services lengths ps e =
     let h = both _ _ (g .1) in
     record {
       few-runs = ltb-false mostRuns (length services) (few .0);
-      all-there = c .0;
+      all-inside = c .0;
       each-once = c .1;
       in-order = order .0;
       together = whole .0;
       each-fits = f .0;
       one-byte = g .0;
-      of-one = h .0;
+      one-service = h .0;
       in-limits = h .1;
     }

@@ -36,7 +36,7 @@ AnySendable bs = (n : ℕ) → n ≤ 3 → Sendable (record { sequence = n; bloc
 
 -- A proposal carried out with the bytes of runs: each of its packets can be sent; and where they are written, with any sequence numbers, and read
 -- back, they say to each service all that is spoken to it, in order, once each; and each run stands whole in a block of its service.
-pub record Carries (services : List ℕ) (runs : List (List ℕ)) (ps : List Piece) : Type 0 where
+pub record Delivers (services : List ℕ) (runs : List (List ℕ)) (ps : List Piece) : Type 0 where
   pub each-sendable : (bs : List Block) → In bs (proposedPackets services runs ps) → AnySendable bs
   pub heard-in-order : (sequence : ℕ → ℕ) → ((i : ℕ) → sequence i ≤ 3) → (s : ℕ)
       → heard s (packetsOf (map writtenPacket (sequencedFrom sequence 0 (proposedPackets services runs ps)))) ≡ spoken s services runs
@@ -87,8 +87,8 @@ module _ (services : List ℕ) (runs : List (List ℕ)) (ps : List Piece) (ok : 
       }
 
 -- Any accepted proposal can be carried out.
-pub accepted-carried : (services : List ℕ) (runs : List (List ℕ)) (ps : List Piece) → checkProposal services (map length runs) ps ≡ accepted [] → Carries services runs ps
-accepted-carried services runs ps e =
+pub accepted-delivers : (services : List ℕ) (runs : List (List ℕ)) (ps : List Piece) → checkProposal services (map length runs) ps ≡ accepted [] → Delivers services runs ps
+accepted-delivers services runs ps e =
     let ok : Passes services (map length runs) ps = accepted-passes services (map length runs) ps e in
     let packets : List (List Block) = proposedPackets services runs ps in
     record {

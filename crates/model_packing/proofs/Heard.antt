@@ -59,7 +59,7 @@ module _ (services : List ℕ) (runs : List (List ℕ)) (ps : List Piece) (ok : 
       let g = lies-facts p b q (f .1) in
       let k : In r (piecesIn (q .packet) (q .block) ps) = rw (g .0, g .1) j in
       let ours : Piece → Bool = λ u. eqb (serviceOf services (u .run)) (serviceOf services (q .run)) in
-      eqb-true _ _ (every-in ours (piecesIn (q .packet) (q .block) ps) (every-in (oneService services ps) ps (ok .of-one) (f .0)) k)
+      eqb-true _ _ (every-in ours (piecesIn (q .packet) (q .block) ps) (every-in (oneService services ps) ps (ok .one-service) (f .0)) k)
 
   -- what a piece is filled with is the numbers of its bytes
   pub piece-numbers : (q : Piece) → In q ps → bytesIn runs q ≡ map (numberAt runs) (pieceBytes q)

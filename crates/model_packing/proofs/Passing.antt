@@ -23,7 +23,7 @@ use Rattle.model_packing.proofs.Filling.{bare-valid, packedTo, pieceOf,
 use Rattle.model_packing.proofs.Growing.{described, none-described, others-same}
 use Rattle.model_packing.proofs.AsProposed.{pieces-more, run-pushed}
 use Rattle.model_packing.proofs.Following.{follows}
-use Rattle.model_packing.proofs.WholeRuns.{held-once, sent-with, not-after-three, two-counted, run-bytes-in}
+use Rattle.model_packing.proofs.WholeRuns.{run-held-once, sent-with-run, not-after-three, two-counted, run-bytes-in}
 
 module _ (services lengths : List ℕ) (ok : packable services lengths ≡ true) where
   -- the proposal, by its runs
@@ -47,7 +47,7 @@ module _ (services lengths : List ℕ) (ok : packable services lengths ≡ true)
       and-both _ _
       (each-piece (inside services lengths) (λ r h.
       simp (le-leb 1 (getD lengths r 0) (run-some services lengths ok r h), lt-ltb r (length services) h, le-leb (0 + getD lengths r 0) (getD lengths r 0) (omega arith))))
-      (each-byte (heldOnce all) (λ r k h l. eq-eqb _ _ (held-once services lengths r k h l)))
+      (each-byte (heldOnce all) (λ r k h l. eq-eqb _ _ (run-held-once services lengths r k h l)))
 
   -- two bytes of a service keep their order
   keeps : (i j : ℕ) → i ≤ j → j < length services → (k l : ℕ) → k < getD lengths i 0 → l < getD lengths j 0 → keepsOrder services all (byte i k) (byte j l) ≡ true
@@ -55,7 +55,7 @@ module _ (services lengths : List ℕ) (ok : packable services lengths ≡ true)
   keeps i j h g k l hk hl =
       let f = follows services lengths ok i j h g in
       by-test (eqb (serviceOf services i) (serviceOf services j))
-      (λ e. rw (e, sent-with services lengths i k (omega arith) hk, sent-with services lengths j l g hl)
+      (λ e. rw (e, sent-with-run services lengths i k (omega arith) hk, sent-with-run services lengths j l g hl)
       (not-after-three _ _ _ _ i j (f .packets) (λ p. f .blocks p (eqb-true _ _ e)) h))
       (λ e. rw e)
 
@@ -74,7 +74,7 @@ module _ (services lengths : List ℕ) (ok : packable services lengths ≡ true)
   unfolding unsplit withFirst
   all-unsplit =
       each-byte (withFirst all) (λ r k h l.
-      rw (sent-with services lengths r k h l, sent-with services lengths r 0 h (omega arith)) (same-self _))
+      rw (sent-with-run services lengths r k h l, sent-with-run services lengths r 0 h (omega arith)) (same-self _))
 
   -- the numbers of packets and blocks are of one byte
   all-numbered : every numbered all ≡ true

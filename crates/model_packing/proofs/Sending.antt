@@ -24,11 +24,11 @@ listedFrom i [] = []
 listedFrom i (q ∷ qs) = record { place = i; piece = q } ∷ listedFrom (suc i) qs
 
 -- a piece without its place
-abbrev pub pieceOf : Listed → Piece
-pieceOf t = t .piece
+abbrev pub itsPiece : Listed → Piece
+itsPiece t = t .piece
 
 -- without their places they are the pieces
-pub listed-pieces : (i : ℕ) (ps : List Piece) → map pieceOf (listedFrom i ps) ≡ ps
+pub listed-pieces : (i : ℕ) (ps : List Piece) → map itsPiece (listedFrom i ps) ≡ ps
 unfolding listedFrom
 listed-pieces i [] = refl
 listed-pieces i (q ∷ qs) = rw (listed-pieces (suc i) qs)
@@ -36,7 +36,7 @@ listed-pieces i (q ∷ qs) = rw (listed-pieces (suc i) qs)
 -- each of them is one of the list
 pub listed-in : (i : ℕ) (ps : List Piece) {t : Listed} → In t (listedFrom i ps) → (i ≤ t .place) × In (t .piece) ps
 unfolding listedFrom
-listed-in i (q ∷ qs) (here e) = (omega (arith, ap (λ (t : Listed). t .place) e), here (ap pieceOf e))
+listed-in i (q ∷ qs) (here e) = (omega (arith, ap (λ (t : Listed). t .place) e), here (ap itsPiece e))
 listed-in i (q ∷ qs) (there j) = let k = listed-in (suc i) qs j in (omega (arith, k .0), there (k .1))
 
 -- when a piece is sent
@@ -76,9 +76,9 @@ abbrev pub listedIn : ℕ → ℕ → List Piece → List Listed
 listedIn p b ps = those (isListedIn p b) (listedFrom 0 ps)
 
 -- without them they are the pieces of the block
-pub listed-block : (p b : ℕ) (ps : List Piece) → piecesIn p b ps ≡ map pieceOf (listedIn p b ps)
+pub listed-block : (p b : ℕ) (ps : List Piece) → piecesIn p b ps ≡ map itsPiece (listedIn p b ps)
 listed-block p b ps =
-    ap (those (liesIn p b)) (sym (listed-pieces 0 ps)) ∙ those-map (liesIn p b) pieceOf (listedFrom 0 ps)
+    ap (those (liesIn p b)) (sym (listed-pieces 0 ps)) ∙ those-map (liesIn p b) itsPiece (listedFrom 0 ps)
 
 -- the pieces of a packet, by its blocks
 abbrev pub packetListed : ℕ → List Piece → List Listed

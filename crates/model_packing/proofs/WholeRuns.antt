@@ -52,12 +52,12 @@ module _ (services lengths : List ℕ) (r k : ℕ) where
 
   module _ (there : r < length services) (l : k < getD lengths r 0) where
     -- so of all of the proposal it is in one piece
-    pub held-once : holders (byte r k) (piecesTo services lengths (length services)) ≡ 1
-    held-once = one-holds (length services) 0 (omega arith) (omega arith) l
+    pub run-held-once : holders (byte r k) (piecesTo services lengths (length services)) ≡ 1
+    run-held-once = one-holds (length services) 0 (omega arith) (omega arith) l
 
     -- and it is sent with that of its run
-    pub sent-with : sent (piecesTo services lengths (length services)) (byte r k) ≡ (pieceOf services lengths r .packet ∷ (pieceOf services lengths r .block ∷ (r ∷ [])))
-    sent-with = sent-own (length services) 0 (omega arith) (omega arith) l
+    pub sent-with-run : sent (piecesTo services lengths (length services)) (byte r k) ≡ (pieceOf services lengths r .packet ∷ (pieceOf services lengths r .block ∷ (r ∷ [])))
+    sent-with-run = sent-own (length services) 0 (omega arith) (omega arith) l
 
 -- numbers of which the first is not greater do not come after others, if in case the first are equal the rest do not
 not-after-rest : (x y : ℕ) (l m : List ℕ) → x ≤ y → (x ≡ y → notAfter l m ≡ true) → notAfter (x ∷ l) (y ∷ m) ≡ true
