@@ -5,3 +5,4 @@ pub mod Going
 pub mod Calls
 pub mod Told
 pub mod Pushed
+pub mod Checked
