@@ -49,3 +49,7 @@ pub mod ScriptWriters
 pub mod ScriptDistribution
 pub mod ScriptOperations
 pub mod ProgramStreams
+pub mod PackingRuns
+pub mod PackingBytes
+pub mod PackingLimits
+pub mod Packing
