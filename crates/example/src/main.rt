@@ -1,6 +1,6 @@
 // One block's way through both machines: pushed into a packet, the packet into a multiplexer, a frame written, the frame read and the packet
 // drawn again. Then the same where a turn sends nothing, without and with the true count; runs of caption codes, whole and
-// cut; and the first frame once more, by way of a distribution packet.
+// cut; the first frame once more, by way of a distribution packet; and a proposal for three runs, as the packer makes it and spoilt.
 use caption::Answer;
 use caption::Cea608;
 use caption::Counted;
@@ -10,6 +10,7 @@ use distribution::DistributionWriter;
 use distribution::Received;
 use libc::STDOUT_FILENO;
 use packet::DTVCCPacket;
+use packing::Proposal;
 use parser::CCDataParser;
 use parser::Item;
 use writer::CCDataWriter;
@@ -91,6 +92,22 @@ fn bytes_of(counted: Counted) -> usize {
     }
 }
 
+// Proposes packets for runs of 20, 10 and 11 bytes for services 1, 7 and 1, and has the proposal checked.
+fn propose_three(pieces: &mut [u8; 15]) -> Answer {
+    let services = [1, 7, 1];
+    let lengths = [20, 10, 11];
+    match packing::propose(&services, &lengths, pieces) {
+        Proposal::Made { packets: _, len: _ } => packing::check(&services, &lengths, pieces),
+        Proposal::Refused(why) => Answer::Refused(why),
+    }
+}
+
+// The same with its last piece in a block of another service.
+fn spoil(pieces: &mut [u8; 15]) -> Answer {
+    pieces[14] = 1;
+    packing::check(&[1, 7, 1], &[20, 10, 11], pieces)
+}
+
 // Says what came back.
 fn tell(item: Item) {
     match item {
@@ -115,6 +132,18 @@ fn tell_run(answer: Answer) {
     }
 }
 
+// Says what is thought of a proposal.
+fn tell_proposal(answer: Answer) {
+    match answer {
+        Answer::Accepted => {
+            io::write_all(STDOUT_FILENO, b"it can be carried out\n");
+        }
+        Answer::Refused(_) => {
+            io::write_all(STDOUT_FILENO, b"it cannot be carried out\n");
+        }
+    }
+}
+
 fn main() {
     let mut frame = [0u8; 95];
     let n = bytes_of(write_one(&mut frame));
@@ -135,4 +164,9 @@ fn main() {
     let sent = bytes_of(send_one(&frame, third, &mut packet));
     let received = receive_one(&packet, sent, &mut frame);
     tell(read_one(&frame, received));
+    io::write_all(STDOUT_FILENO, b"a proposal: ");
+    let mut pieces = [0u8; 15];
+    tell_proposal(propose_three(&mut pieces));
+    io::write_all(STDOUT_FILENO, b"its last piece in a block of another service: ");
+    tell_proposal(spoil(&mut pieces));
 }
