@@ -19,6 +19,19 @@ abbrev pub pieceAt : List ℕ → ℕ → Piece
 pieceAt l i =
     record { run = getD l (5 * i) 0; first = getD l (5 * i + 1) 0; size = getD l (5 * i + 2) 0; packet = getD l (5 * i + 3) 0; block = getD l (5 * i + 4) 0 }
 
+-- the cell of its first byte
+abbrev pub cellOf : Piece → ℕ
+cellOf q = 256 * q .run + q .first
+
+-- its bytes have places below 256, as all bytes of runs have
+abbrev pub LowPiece : Piece → Type 0
+LowPiece q = q .first + q .size < 256
+
+-- a table that names no piece
+pub record Empty (t : List ℕ) : Type 0 where
+  pub long : length t ≡ cells
+  pub zeros : (i : ℕ) → getD t i 0 ≡ 0
+
 -- whether so many cells, from a cell on, have 0, where each of them is filled before the next is asked for
 unfoldable pub free : ℕ → ℕ → ℕ → List ℕ → Bool
 free zero at v t = true
@@ -28,6 +41,11 @@ free (suc n) at v t = eqb (getD t at 0) 0 && free n (suc at) v (set t at v)
 unfoldable pub filled : ℕ → ℕ → ℕ → List ℕ → List ℕ
 filled zero at v t = t
 filled (suc n) at v t = filled n (suc at) v (set t at v)
+
+-- n cells of a table t, from a cell on, are filled with a value where all of them have 0: whether they have, and the table u
+pub record Fills (n at v : ℕ) (t u : List ℕ) (r : Bool) : Type 0 where
+  pub empty : r ≡ free n at v t
+  pub done : r ≡ true → u ≡ filled n at v t
 
 -- one more than the place of the first piece that holds a byte, in a list that is counted from i; 0 where none does
 unfoldable pub holderFrom : ℕ → List Piece → Byte → ℕ

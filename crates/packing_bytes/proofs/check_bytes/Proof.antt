@@ -22,7 +22,7 @@ returns-2 : tie.Need-returns-2
 returns-2 c = said-crowded (c .before .before .before .before .before .before .before .args .services .now) (c .before .before .before .before .before .before .before .args .lengths .now) (c .before .before .before .before .before .before .before .args .pieces .now) (c .before .before .before .if1 .left) _ _ (c .before .before .count-bytes .ensures .0) (c .if2 .taken) (c .before .count-pieces .ensures .1)
 
 fill-table-requires : tie.Need-fill-table-requires
-fill-table-requires c κs = (c .before .before .count-pieces .ensures .0 (c .before .if2 .left), omega arith, c .before .before .before .before .if1 .left, length-replicate {A = ℕ} 65536 0, empty-cells 65536)
+fill-table-requires c κs = (c .before .before .count-pieces .ensures .0 (c .before .if2 .left), omega arith, c .before .before .before .before .if1 .left, record { long = length-replicate {A = ℕ} 65536 0; zeros = empty-cells 65536 })
 
 returns-3 : tie.Need-returns-3
 returns-3 c = said-uncovered (c .before .before .before .before .before .before .before .before .before .before .args .services .now) (c .before .before .before .before .before .before .before .before .before .before .args .lengths .now) (c .before .before .before .before .before .before .before .before .before .before .args .pieces .now) (c .before .before .before .before .before .before .if1 .left) (c .before .fill-table .ensures .1 (not-true _ (c .if3 .taken)))

@@ -29,7 +29,7 @@ element-copy-out-if1 : tie.Need-element-copy-out-if1 Inv-loop μ-loop
 element-copy-out-if1 c = search needs
 
 returns : tie.Need-returns Inv-loop μ-loop
-returns c = (search (needs, free-stops), λ h. absurd (false≢true h))
+returns c = record { empty = search (needs, free-stops); done = λ h. absurd (false≢true h) }
 
 mul-table : tie.Need-mul-table Inv-loop μ-loop
 mul-table c = search needs
@@ -47,7 +47,7 @@ loop-again : tie.Need-loop-again Inv-loop μ-loop
 loop-again c = (omega arith, search (needs, free-more), search (needs, filled-more))
 
 returns-2 : tie.Need-returns-2 Inv-loop μ-loop
-returns-2 c = (search (needs, free-none), λ h. search (needs, filled-none))
+returns-2 c = record { empty = search (needs, free-none); done = λ h. search (needs, filled-none) }
 
 pub fill-cells-spec : {M : Type 1} → statement M
 fill-cells-spec =
