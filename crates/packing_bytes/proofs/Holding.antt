@@ -1,19 +1,19 @@
 -- The table and the pieces that it tells of: one piece more, and what the whole table says of covering, order and splits. Assumes nothing.
 use mathlib.Core.Path.{_≡_, refl, sym, ap, subst, _∙_}
-use mathlib.Core.Bool.{Bool, true, false, cond, not, _&&_, false≢true}
+use mathlib.Core.Bool.{Bool, true, false, not, false≢true}
 use mathlib.Core.List.{List, [], _∷_}
 use Prim.Native.Nat.{ℕ, zero, suc, _+_, _-_, _*_, _≤_, _<_}
 use native.Mathlib.Omega.{arith}
 use lib.Dec.{eqb, leb, ltb}
 use lib.ListN.{length, getD, drop}
 use lib.Seq.{drop-cons, drop-nil, drop-length}
-use borrow.Author.Tests.{not-true, not-false, eqb-true, eqb-false, leb-true, ltb-true, eq-eqb, ne-eqb, le-leb, lt-leb, lt-ltb, le-ltb}
+use borrow.Author.Tests.{not-true, not-false, eqb-true, leb-true, ltb-true, eq-eqb, le-leb, lt-ltb}
 use Rattle.model.specs.Lists.{every}
 use Rattle.model.proofs.Cases.{by-test, both, and-both}
 use Rattle.model_packing.specs.Pieces.{Piece, Byte, byte, bytesOf, piecesOf}
 use Rattle.model_packing.specs.Proposals.{inside, holds, holders, heldOnce, covers, sentFrom}
 use Rattle.model_packing.proofs.Lists.{In, here, there, every-in, in-bytes}
-use Rattle.packing_bytes.specs.Table.{cellOf, LowPiece, Empty, pieceAt, free, filled, holderFrom, Tells, told, hasHolder, sentBy}
+use Rattle.packing_bytes.specs.Table.{cellOf, LowPiece, Empty, pieceAt, free, filled, holderFrom, Tells}
 use Rattle.packing_bytes.proofs.Cells.{length-filled, filled-in, filled-out, free-had, not-free}
 use Rattle.packing_bytes.proofs.Numbers.{noPiece, piece-at}
 

@@ -1,23 +1,23 @@
 -- What a table that tells of all pieces says of the proposal: whether the bytes are covered, keep their order and are not split. Assumes nothing.
-use mathlib.Core.Path.{_≡_, refl, sym, ap, _∙_}
-use mathlib.Core.Bool.{Bool, true, false, cond, not, _&&_, false≢true}
+use mathlib.Core.Path.{_≡_, refl, sym, _∙_}
+use mathlib.Core.Bool.{Bool, true, false, not}
 use mathlib.Core.List.{List, [], _∷_}
-use Prim.Native.Nat.{ℕ, zero, suc, _+_, _-_, _*_, _≤_, _<_}
+use Prim.Native.Nat.{ℕ, _+_, _-_, _≤_, _<_}
 use native.Mathlib.Omega.{arith}
-use lib.Dec.{eqb, ltb}
-use lib.ListN.{length, getD, take, replicate}
-use borrow.Author.Tests.{not-true, not-false, ltb-true, eqb-true, eqb-false, eq-eqb, ne-eqb, lt-ltb, le-ltb}
-use Rattle.model.specs.Lists.{every, same}
+use lib.Dec.{eqb}
+use lib.ListN.{length, getD, replicate}
+use borrow.Author.Tests.{not-true, not-false, ltb-true, eqb-true, eqb-false, eq-eqb, lt-ltb, le-ltb}
+use Rattle.model.specs.Lists.{every}
 use Rattle.model.specs.Said.{accepted, badCover, outOfOrder, runSplit, overLimit}
 use Rattle.model.proofs.Cases.{by-test}
-use Rattle.model_packing.specs.Pieces.{Piece, Byte, byte, bytesOf, piecesOf, serviceOf, everyTwo, notAfter}
-use Rattle.model_packing.specs.Proposals.{heldOnce, holders, covers, sent, sentFrom, keepsOrder, ordered, withFirst, unsplit}
+use Rattle.model_packing.specs.Pieces.{Byte, byte, bytesOf, piecesOf, everyTwo}
+use Rattle.model_packing.specs.Proposals.{heldOnce, holders, covers, sent, keepsOrder, ordered, withFirst, unsplit}
 use Rattle.model_packing.proofs.Lists.{In, here, there, every-in, in-bytes, bytes-in}
 use Rattle.model_packing.proofs.Crowded.{crowded}
 use Rattle.packing_bytes.specs.Bytes.{bytesSaid}
-use Rattle.packing_bytes.specs.Table.{pieceAt, holderFrom, Tells, told, hasHolder, sentBy, oneBlock, besideFirst, follow}
-use Rattle.packing_bytes.proofs.Numbers.{noPiece, piece-at}
-use Rattle.packing_bytes.proofs.Holding.{Held, held-at, no-holder}
+use Rattle.packing_bytes.specs.Table.{holderFrom, Tells, told, hasHolder, sentBy, oneBlock, besideFirst, follow}
+use Rattle.packing_bytes.proofs.Numbers.{piece-at}
+use Rattle.packing_bytes.proofs.Holding.{held-at, no-holder}
 use Rattle.packing_bytes.proofs.Order.{inOrder, follow-all}
 
 -- two tests that agree on what is in a list

@@ -2,8 +2,7 @@
 // linear in the input: a table tells of each byte which piece holds it.
 ghost use mathlib.Core.Path.{_≡_};
 ghost use mathlib.Core.Bool.{true, false};
-ghost use mathlib.Core.List.{List, []};
-ghost use Prim.Native.Nat.{ℕ, _+_, _-_, _*_, _≤_, _<_};
+ghost use Prim.Native.Nat.{_+_, _-_, _*_, _≤_, _<_};
 ghost use lib.ListN.{length, getD, replicate};
 ghost use Rattle.model.specs.Lists.{every};
 ghost use Rattle.caption.specs.Answers.{saidAnswer};
@@ -11,7 +10,6 @@ ghost use Rattle.model_packing.specs.Pieces.{piecesOf, bytesOf};
 ghost use Rattle.model_packing.specs.Proposals.{inside, covers};
 ghost use Rattle.packing_bytes.specs.Bytes.{bytesSaid};
 ghost use Rattle.packing_bytes.specs.Table.{pieceAt, cellOf, LowPiece, Fills, Empty, Tells, hasHolder, oneBlock, besideFirst, follows, follow};
-use basics::wide;
 use caption::Answer;
 use caption::Refusal;
 use packing_runs::number_at;

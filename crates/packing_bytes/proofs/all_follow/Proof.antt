@@ -1,9 +1,8 @@
 -- What is left of the bytes decides, with the last one of each service before them. Assumes nothing.
 use mathlib.Core.Path.{_≡_}
 use native.Mathlib.Omega.{arith}
-use Prim.Native.Nat.{_+_, _-_, _*_, _≤_, _<_}
+use Prim.Native.Nat.{_-_, _*_, _≤_, _<_}
 use lib.ListN.{length, replicate}
-use Rattle.model.specs.Lists.{every}
 use Rattle.model_packing.specs.Pieces.{bytesOf}
 use Rattle.packing_bytes.specs.Table.{follow}
 use Rattle.packing_bytes.proofs.Walks.{bytesLeft, follow-first, follow-next, follow-more, follow-stops, follow-done}

@@ -1,7 +1,7 @@
 -- The pieces that are counted and those that are left are all pieces. Assumes nothing.
 use mathlib.Core.Path.{_≡_}
 use native.Mathlib.Omega.{arith}
-use Prim.Native.Nat.{_+_, _-_, _*_, _≤_, _<_}
+use Prim.Native.Nat.{_+_, _-_, _≤_}
 use lib.ListN.{length, drop}
 use Rattle.model_packing.specs.Pieces.{piecesOf}
 use Rattle.packing_bytes.proofs.Numbers.{counted-enough, counted-more, counted-all}

@@ -2,8 +2,7 @@
 use mathlib.Core.Path.{_≡_}
 use mathlib.Core.Bool.{false≢true}
 use native.Mathlib.Omega.{arith}
-use Prim.Native.Nat.{_+_, _-_, _*_, _≤_, _<_}
-use lib.ListN.{length}
+use Prim.Native.Nat.{_+_, _-_, _≤_}
 use Rattle.packing_bytes.specs.Table.{free, filled}
 use Rattle.packing_bytes.proofs.Cells.{freeLeft, filledLeft, free-first, filled-first, free-more, filled-more, free-stops, free-none, filled-none}
 use borrow.Author.Needs.{needs}

@@ -1,8 +1,8 @@
 -- From the last piece to the first, the table tells the holders of those that were met. Assumes nothing.
-use mathlib.Core.Path.{_≡_, sym}
+use mathlib.Core.Path.{sym}
 use mathlib.Core.Bool.{false≢true}
 use native.Mathlib.Omega.{arith}
-use Prim.Native.Nat.{_+_, _-_, _*_, _≤_, _<_}
+use Prim.Native.Nat.{_≤_}
 use lib.ListN.{length, drop}
 use borrow.Author.Tests.{not-false}
 use Rattle.model_packing.specs.Pieces.{piecesOf}
