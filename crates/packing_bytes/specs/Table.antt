@@ -59,6 +59,12 @@ pub record Tells (services lengths t : List ℕ) (i : ℕ) (qs : List Piece) : T
   pub single : (x : Byte) → holders x qs ≤ 1
   pub tells : (r k : ℕ) → r < 256 → k < 256 → getD t (256 * r + k) 0 ≡ holderFrom i qs (byte r k)
 
+-- runs that the table has cells for: 256 of them at the most, each with a service and a length of one byte
+pub record Runs (services lengths : List ℕ) : Type 0 where
+  pub few : length services ≤ 256
+  pub named : (r : ℕ) → getD services r 0 < 256
+  pub short : (r : ℕ) → getD lengths r 0 < 256
+
 -- what a table tells of a byte
 abbrev pub told : List ℕ → Byte → ℕ
 told t x = getD t (256 * x .run + x .place) 0

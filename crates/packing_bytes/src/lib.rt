@@ -9,7 +9,7 @@ ghost use Rattle.caption.specs.Answers.{saidAnswer};
 ghost use Rattle.model_packing.specs.Pieces.{piecesOf, bytesOf};
 ghost use Rattle.model_packing.specs.Proposals.{inside, covers};
 ghost use Rattle.packing_bytes.specs.Bytes.{bytesSaid};
-ghost use Rattle.packing_bytes.specs.Table.{pieceAt, cellOf, LowPiece, Fills, Empty, Tells, hasHolder, oneBlock, besideFirst, follows, follow};
+ghost use Rattle.packing_bytes.specs.Table.{pieceAt, cellOf, LowPiece, Fills, Empty, Tells, Runs, hasHolder, oneBlock, besideFirst, follows, follow};
 use caption::Answer;
 use caption::Refusal;
 use packing_runs::number_at;
@@ -244,7 +244,7 @@ fn all_whole(services: &[u8], lengths: &[u8], pieces: &[u8], table: &Table) -> b
 
 // The answer by a table that tells of all pieces.
 fn answer_told(services: &[u8], lengths: &[u8], pieces: &[u8], table: &Table) -> Answer
-    requires { ⌜ (length (now services) ≤ 256) × Tells (now services) (now lengths) (now table) 0 (piecesOf (now pieces)) ⌝ }
+    requires { ⌜ Runs (now services) (now lengths) × Tells (now services) (now lengths) (now table) 0 (piecesOf (now pieces)) ⌝ }
     ensures { λ r. ⌜ saidAnswer r ≡ bytesSaid (now (services .entry)) (now (lengths .entry)) (piecesOf (now (pieces .entry))) ⌝ }
 {
     if !all_held(services, lengths, table) {
