@@ -1,14 +1,14 @@
 -- For functions that are not public: a table that tells of each byte which piece holds it. The byte at place k of run r stands in cell 256 r + k,
 -- and the cell has one more than the place in the list of the piece, or 0 where no piece holds the byte. Assumes nothing.
 use mathlib.Core.Path.{_≡_}
-use mathlib.Core.Bool.{Bool, true, cond, _&&_}
+use mathlib.Core.Bool.{Bool, true, false, cond, _&&_}
 use mathlib.Core.List.{List, [], _∷_}
 use Prim.Native.Nat.{ℕ, zero, suc, _+_, _-_, _*_, _≤_, _<_}
 use lib.Dec.{eqb, ltb}
 use lib.ListN.{length, getD, set, take}
 use Rattle.model.specs.Lists.{every, same}
 use Rattle.model_packing.specs.Pieces.{Piece, Byte, byte, serviceOf, notAfter}
-use Rattle.model_packing.specs.Proposals.{inside, holds, holders}
+use Rattle.model_packing.specs.Proposals.{inside, holds, holders, covers}
 
 -- how many cells there are
 abbrev pub cells : ℕ
@@ -59,6 +59,11 @@ pub record Tells (services lengths t : List ℕ) (i : ℕ) (qs : List Piece) : T
   pub single : (x : Byte) → holders x qs ≤ 1
   pub tells : (r k : ℕ) → r < 256 → k < 256 → getD t (256 * r + k) 0 ≡ holderFrom i qs (byte r k)
 
+-- what filling a table with all pieces says: it tells of them, or they do not cover the bytes
+pub record TellsOrNot (services lengths u : List ℕ) (ps : List Piece) (r : Bool) : Type 0 where
+  pub tells : r ≡ true → Tells services lengths u 0 ps
+  pub uncovered : r ≡ false → covers services lengths ps ≡ false
+
 -- runs that the table has cells for: 256 of them at the most, each with a service and a length of one byte
 pub record Runs (services lengths : List ℕ) : Type 0 where
   pub few : length services ≤ 256
@@ -75,7 +80,7 @@ hasHolder t x = ltb 0 (told t x)
 
 -- when the piece that a cell names is sent: its packet, its block, and its place
 unfoldable pub sentBy : List ℕ → ℕ → List ℕ
-sentBy l h = getD l (5 * (h - 1) + 3) 0 ∷ getD l (5 * (h - 1) + 4) 0 ∷ (h - 1) ∷ []
+sentBy l h = pieceAt l (h - 1) .packet ∷ pieceAt l (h - 1) .block ∷ (h - 1) ∷ []
 
 -- whether two cells name pieces of one block
 unfoldable pub oneBlock : List ℕ → ℕ → ℕ → Bool

@@ -1,15 +1,15 @@
 // What is asked of the bytes of a proposal: that each is in one piece, that those of a service keep their order, and that no run is split. The time is
 // linear in the input: a table tells of each byte which piece holds it.
 ghost use mathlib.Core.Path.{_≡_};
-ghost use mathlib.Core.Bool.{true, false};
+ghost use mathlib.Core.Bool.{true};
 ghost use Prim.Native.Nat.{_+_, _-_, _*_, _≤_, _<_};
-ghost use lib.ListN.{length, getD, replicate};
+ghost use lib.ListN.{length, replicate};
 ghost use Rattle.model.specs.Lists.{every};
 ghost use Rattle.caption.specs.Answers.{saidAnswer};
 ghost use Rattle.model_packing.specs.Pieces.{piecesOf, bytesOf};
-ghost use Rattle.model_packing.specs.Proposals.{inside, covers};
+ghost use Rattle.model_packing.specs.Proposals.{inside};
 ghost use Rattle.packing_bytes.specs.Bytes.{bytesSaid};
-ghost use Rattle.packing_bytes.specs.Table.{pieceAt, cellOf, LowPiece, Fills, Empty, Tells, Runs, hasHolder, oneBlock, besideFirst, follows, follow};
+ghost use Rattle.packing_bytes.specs.Table.{pieceAt, cellOf, LowPiece, Fills, Empty, Tells, TellsOrNot, Runs, hasHolder, oneBlock, besideFirst, follows, follow};
 use caption::Answer;
 use caption::Refusal;
 use packing_runs::number_at;
@@ -120,7 +120,7 @@ fn fill_table(
     table: &mut Table,
 ) -> bool
     requires { ⌜ (count ≡ length (piecesOf (now pieces))) × (count ≤ 65280) × (length (now services) ≤ 256) × Empty (now table) ⌝ }
-    ensures { λ r. ⌜ (r ≡ true → Tells (now (services .entry)) (now (lengths .entry)) (now (table .exit)) 0 (piecesOf (now (pieces .entry)))) × (r ≡ false → covers (now (services .entry)) (now (lengths .entry)) (piecesOf (now (pieces .entry))) ≡ false) ⌝ }
+    ensures { λ r. ⌜ TellsOrNot (now (services .entry)) (now (lengths .entry)) (now (table .exit)) (piecesOf (now (pieces .entry))) r ⌝ }
 {
     let mut place = count;
     while 0 < place {
@@ -160,7 +160,7 @@ fn all_held(services: &[u8], lengths: &[u8], table: &Table) -> bool
 // Where the piece that a cell names lies: 256 times its packet, and its block.
 fn lies_at(pieces: &[u8], holder: u16) -> usize
     requires { ⌜ 0 < holder ⌝ }
-    ensures { λ r. ⌜ (r ≡ 256 * getD (now (pieces .entry)) (5 * (holder - 1) + 3) 0 + getD (now (pieces .entry)) (5 * (holder - 1) + 4) 0) × (getD (now (pieces .entry)) (5 * (holder - 1) + 4) 0 < 256) ⌝ }
+    ensures { λ r. ⌜ (r ≡ 256 * pieceAt (now (pieces .entry)) (holder - 1) .packet + pieceAt (now (pieces .entry)) (holder - 1) .block) × (pieceAt (now (pieces .entry)) (holder - 1) .block < 256) ⌝ }
 {
     let o = NUMBERS * (holder as usize - 1);
     MOST_NUMBERS * number_at(pieces, o + 3) + number_at(pieces, o + 4)

@@ -10,7 +10,10 @@ use Rattle.packing_bytes.proofs.fill_cells.Statement.{statement}
 use Rattle.packing_bytes.proofs.fill_cells.Tie as tie
 
 abbrev Inv-loop : tie.InvT-loop
-Inv-loop table₀ from size value end at₀ table at = (at ≤ from + size) × (free size from value table₀ ≡ freeLeft (from + size) at value table) × (filled size from value table₀ ≡ filledLeft (from + size) at value table)
+Inv-loop table₀ from size value end at₀ table at =
+    (at ≤ from + size)
+    × (free size from value table₀ ≡ freeLeft (from + size) at value table)
+    × (filled size from value table₀ ≡ filledLeft (from + size) at value table)
 
 abbrev μ-loop : tie.MeasureT-loop
 μ-loop table₀ from size value end at₀ table at = from + size - at
