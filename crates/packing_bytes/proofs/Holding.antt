@@ -1,19 +1,19 @@
 -- The table and the pieces that it tells of: one piece more, and what the whole table says of covering, order and splits. Assumes nothing.
 use mathlib.Core.Path.{_≡_, refl, sym, ap, subst, _∙_}
-use mathlib.Core.Bool.{Bool, true, false, cond, not, _&&_, false≢true}
+use mathlib.Core.Bool.{Bool, true, false, not, false≢true}
 use mathlib.Core.List.{List, [], _∷_}
 use Prim.Native.Nat.{ℕ, zero, suc, _+_, _-_, _*_, _≤_, _<_}
 use native.Mathlib.Omega.{arith}
 use lib.Dec.{eqb, leb, ltb}
 use lib.ListN.{length, getD, drop}
 use lib.Seq.{drop-cons, drop-nil, drop-length}
-use borrow.Author.Tests.{not-true, not-false, eqb-true, eqb-false, leb-true, ltb-true, eq-eqb, ne-eqb, le-leb, lt-leb, lt-ltb, le-ltb}
+use borrow.Author.Tests.{not-true, not-false, eqb-true, leb-true, ltb-true, eq-eqb, le-leb, lt-ltb}
 use Rattle.model.specs.Lists.{every}
 use Rattle.model.proofs.Cases.{by-test, both, and-both}
 use Rattle.model_packing.specs.Pieces.{Piece, Byte, byte, bytesOf, piecesOf}
 use Rattle.model_packing.specs.Proposals.{inside, holds, holders, heldOnce, covers, sentFrom}
 use Rattle.model_packing.proofs.Lists.{In, here, there, every-in, in-bytes}
-use Rattle.packing_bytes.specs.Table.{cells, pieceAt, free, filled, holderFrom, Tells, told, hasHolder, sentBy}
+use Rattle.packing_bytes.specs.Table.{cellOf, LowPiece, Empty, pieceAt, free, filled, holderFrom, Tells}
 use Rattle.packing_bytes.proofs.Cells.{length-filled, filled-in, filled-out, free-had, not-free}
 use Rattle.packing_bytes.proofs.Numbers.{noPiece, piece-at}
 
@@ -72,12 +72,8 @@ inside-tells services lengths q e =
     let b = both (ltb (q .run) (length services)) _ (a .1) in
     (ltb-true _ _ (b .0), leb-true _ _ (b .1))
 
--- the first cell of a piece
-abbrev cellOf : Piece → ℕ
-cellOf q = 256 * q .run + q .first
-
 module _ (services lengths t : List ℕ) (few : length services ≤ 256) (i : ℕ) (q : Piece) (qs : List Piece) where
-  module _ (T : Tells services lengths t (suc i) qs) (is : inside services lengths q ≡ true) (low : q .first + q .size < 256) where
+  module _ (T : Tells services lengths t (suc i) qs) (is : inside services lengths q ≡ true) (low : LowPiece q) where
     -- one piece more, whose cells had 0
     pub tells-more : free (q .size) (cellOf q) (suc i) t ≡ true → (u : List ℕ) → u ≡ filled (q .size) (cellOf q) (suc i) t → Tells services lengths u i (q ∷ qs)
     unfolding every holders holderFrom
@@ -128,11 +124,10 @@ module _ (services lengths t : List ℕ) (few : length services ≤ 256) (i : �
         (byte (q .run) k, in-bytes services lengths (byte (q .run) k) (b .0) (omega (arith, b .1)), rw h (omega arith))
 
 -- no piece yet
-pub tells-first : (services lengths t : List ℕ) (ps : List Piece) (n : ℕ) → n ≡ length ps → length t ≡ cells → ((j : ℕ) → getD t j 0 ≡ 0)
-    → Tells services lengths t n (drop n ps)
+pub tells-first : (services lengths t : List ℕ) (ps : List Piece) (n : ℕ) → n ≡ length ps → Empty t → Tells services lengths t n (drop n ps)
 unfolding every holders holderFrom
-tells-first services lengths t ps n e long z =
-    rw (e, drop-length ps) (record { long = long; within = refl; single = λ x. omega arith; tells = λ r k g m. z (256 * r + k) })
+tells-first services lengths t ps n e z =
+    rw (e, drop-length ps) (record { long = z .long; within = refl; single = λ x. omega arith; tells = λ r k g m. z .zeros (256 * r + k) })
 
 -- all pieces
 pub tells-all : (services lengths t : List ℕ) (ps : List Piece) (n : ℕ) → n ≤ 0 → Tells services lengths t n (drop n ps) → Tells services lengths t 0 ps
@@ -182,7 +177,7 @@ module _ (services lengths l t : List ℕ) (few : length services ≤ 256) (n : 
     pub fill-outside : not a ≡ true → covers services lengths (piecesOf l) ≡ false
     fill-outside e = outside-uncovered services lengths (piecesOf l) (n - 1) here-is (named ∙ not-true a e)
 
-    module _ (yes : not a ≡ false) (low : a ≡ true → pieceAt l (n - 1) .first + pieceAt l (n - 1) .size < 256)
+    module _ (yes : not a ≡ false) (low : a ≡ true → LowPiece (pieceAt l (n - 1)))
         (b : Bool) (fr : b ≡ free (pieceAt l (n - 1) .size) (cellOf (pieceAt l (n - 1))) (n - 1 + 1) t)
       where
         is : inside services lengths (pieceAt l (n - 1)) ≡ true

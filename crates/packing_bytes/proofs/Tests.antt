@@ -1,8 +1,8 @@
 -- The tests of a piece, of a byte and of two holders, way out by way out. Assumes nothing.
-use mathlib.Core.Path.{_≡_, refl, sym, ap, _∙_}
-use mathlib.Core.Bool.{Bool, true, false, cond, _&&_}
+use mathlib.Core.Path.{_≡_, sym, _∙_}
+use mathlib.Core.Bool.{true, false}
 use mathlib.Core.List.{List, [], _∷_}
-use Prim.Native.Nat.{ℕ, zero, suc, _+_, _-_, _*_, _≤_, _<_}
+use Prim.Native.Nat.{ℕ, _+_, _-_, _*_, _≤_, _<_}
 use native.Mathlib.Omega.{arith}
 use lib.Dec.{eqb, leb, ltb}
 use lib.ListN.{length, getD}
@@ -91,24 +91,24 @@ module _ (p b q d : ℕ) (hb : b < 256) (hd : d < 256) where
 
 -- two cells, and where the pieces lie that they name
 module _ (l : List ℕ) (g h x y : ℕ)
-    (ex : x ≡ 256 * getD l (5 * (g - 1) + 3) 0 + getD l (5 * (g - 1) + 4) 0) (hx : getD l (5 * (g - 1) + 4) 0 < 256)
-    (ey : y ≡ 256 * getD l (5 * (h - 1) + 3) 0 + getD l (5 * (h - 1) + 4) 0) (hy : getD l (5 * (h - 1) + 4) 0 < 256)
+    (ex : x ≡ 256 * pieceAt l (g - 1) .packet + pieceAt l (g - 1) .block) (hx : pieceAt l (g - 1) .block < 256)
+    (ey : y ≡ 256 * pieceAt l (h - 1) .packet + pieceAt l (h - 1) .block) (hy : pieceAt l (h - 1) .block < 256)
   where
     pub one-block : eqb x y ≡ oneBlock l g h
     unfolding oneBlock sentBy
-    one-block = rw (ex, ey) (same-place (getD l (5 * (g - 1) + 3) 0) _ (getD l (5 * (h - 1) + 3) 0) _ hx hy)
+    one-block = rw (ex, ey) (same-place (pieceAt l (g - 1) .packet) (pieceAt l (g - 1) .block) (pieceAt l (h - 1) .packet) (pieceAt l (h - 1) .block) hx hy)
 
     pub follows-same : (g ≡ 0 → ⊥) → 0 < h → x ≡ y → leb g h ≡ follows l g h
     unfolding follows sentBy
     follows-same f p e =
         rw (ne-eqb g 0 f)
-        (same-order (getD l (5 * (g - 1) + 3) 0) _ (getD l (5 * (h - 1) + 3) 0) _ hx hy g h (sym ex ∙ e ∙ ey) (omega arith) p)
+        (same-order (pieceAt l (g - 1) .packet) (pieceAt l (g - 1) .block) (pieceAt l (h - 1) .packet) (pieceAt l (h - 1) .block) hx hy g h (sym ex ∙ e ∙ ey) (omega arith) p)
 
     pub follows-other : (g ≡ 0 → ⊥) → (x ≡ y → ⊥) → ltb x y ≡ follows l g h
     unfolding follows sentBy
     follows-other f n =
         rw (ne-eqb g 0 f, ex, ey)
-        (other-order (getD l (5 * (g - 1) + 3) 0) _ (getD l (5 * (h - 1) + 3) 0) _ hx hy (g - 1) (h - 1) (λ z. n (ex ∙ z ∙ sym ey)))
+        (other-order (pieceAt l (g - 1) .packet) (pieceAt l (g - 1) .block) (pieceAt l (h - 1) .packet) (pieceAt l (h - 1) .block) hx hy (g - 1) (h - 1) (λ z. n (ex ∙ z ∙ sym ey)))
 
 -- a cell that names nothing
 pub follows-none : (l : List ℕ) (g h : ℕ) → g ≡ 0 → true ≡ follows l g h

@@ -1,17 +1,15 @@
 // What is asked of the bytes of a proposal: that each is in one piece, that those of a service keep their order, and that no run is split. The time is
 // linear in the input: a table tells of each byte which piece holds it.
 ghost use mathlib.Core.Path.{_≡_};
-ghost use mathlib.Core.Bool.{true, false};
-ghost use mathlib.Core.List.{List, []};
-ghost use Prim.Native.Nat.{ℕ, _+_, _-_, _*_, _≤_, _<_};
-ghost use lib.ListN.{length, getD, replicate};
+ghost use mathlib.Core.Bool.{true};
+ghost use Prim.Native.Nat.{_+_, _-_, _*_, _≤_, _<_};
+ghost use lib.ListN.{length, replicate};
 ghost use Rattle.model.specs.Lists.{every};
 ghost use Rattle.caption.specs.Answers.{saidAnswer};
 ghost use Rattle.model_packing.specs.Pieces.{piecesOf, bytesOf};
-ghost use Rattle.model_packing.specs.Proposals.{inside, covers};
+ghost use Rattle.model_packing.specs.Proposals.{inside};
 ghost use Rattle.packing_bytes.specs.Bytes.{bytesSaid};
-ghost use Rattle.packing_bytes.specs.Table.{cells, pieceAt, free, filled, Tells, hasHolder, oneBlock, besideFirst, follows, follow};
-use basics::wide;
+ghost use Rattle.packing_bytes.specs.Table.{pieceAt, cellOf, LowPiece, Fills, Empty, Tells, TellsOrNot, Runs, hasHolder, oneBlock, besideFirst, follows, follow};
 use caption::Answer;
 use caption::Refusal;
 use packing_runs::number_at;
@@ -21,6 +19,18 @@ const MOST_RUNS: usize = 256;
 
 // How many numbers a piece has.
 const NUMBERS: usize = 5;
+
+// How many cells of the table a run has.
+const RUN_CELLS: usize = 256;
+
+// How many cells the table has.
+const CELLS: usize = 65536;
+
+// Tells of each byte which piece holds it.
+type Table = [u16; CELLS];
+
+// How many packets, and blocks of a packet, there may be.
+const MOST_NUMBERS: usize = 256;
 
 // The sum of the lengths of all runs.
 fn count_bytes(services: &[u8], lengths: &[u8]) -> usize
@@ -58,7 +68,7 @@ fn count_pieces(pieces: &[u8], most: usize) -> usize
 // Whether a piece has a byte or more, and its bytes are its run's.
 fn is_inside(services: &[u8], lengths: &[u8], pieces: &[u8], place: usize) -> bool
     requires { ⌜ place < 65280 ⌝ }
-    ensures { λ r. ⌜ (r ≡ inside (now (services .entry)) (now (lengths .entry)) (pieceAt (now (pieces .entry)) place)) × (r ≡ true → pieceAt (now (pieces .entry)) place .first + pieceAt (now (pieces .entry)) place .size < 256) ⌝ }
+    ensures { λ r. ⌜ (r ≡ inside (now (services .entry)) (now (lengths .entry)) (pieceAt (now (pieces .entry)) place)) × (r ≡ true → LowPiece (pieceAt (now (pieces .entry)) place)) ⌝ }
 {
     let run = number_at(pieces, NUMBERS * place);
     let first = number_at(pieces, NUMBERS * place + 1);
@@ -73,9 +83,9 @@ fn is_inside(services: &[u8], lengths: &[u8], pieces: &[u8], place: usize) -> bo
 }
 
 // Fills so many cells from a cell on, as long as they have 0.
-fn fill_cells(table: &mut [u16; 65536], from: usize, size: usize, value: u16) -> bool
+fn fill_cells(table: &mut Table, from: usize, size: usize, value: u16) -> bool
     requires { ⌜ from + size ≤ 65536 ⌝ }
-    ensures { λ r. ⌜ (r ≡ free size from value (now (table .entry))) × (r ≡ true → now (table .exit) ≡ filled size from value (now (table .entry))) ⌝ }
+    ensures { λ r. ⌜ Fills size from value (now (table .entry)) (now (table .exit)) r ⌝ }
 {
     let end = from + size;
     let mut at = from;
@@ -90,15 +100,15 @@ fn fill_cells(table: &mut [u16; 65536], from: usize, size: usize, value: u16) ->
 }
 
 // Fills the cells of the bytes of a piece.
-fn fill_piece(pieces: &[u8], place: usize, table: &mut [u16; 65536]) -> bool
-    requires { ⌜ (place < 65280) × (pieceAt (now pieces) place .first + pieceAt (now pieces) place .size < 256) ⌝ }
-    ensures { λ r. ⌜ (r ≡ free (pieceAt (now (pieces .entry)) place .size) (256 * pieceAt (now (pieces .entry)) place .run + pieceAt (now (pieces .entry)) place .first) (place + 1) (now (table .entry))) × (r ≡ true → now (table .exit) ≡ filled (pieceAt (now (pieces .entry)) place .size) (256 * pieceAt (now (pieces .entry)) place .run + pieceAt (now (pieces .entry)) place .first) (place + 1) (now (table .entry))) ⌝ }
+fn fill_piece(pieces: &[u8], place: usize, table: &mut Table) -> bool
+    requires { ⌜ (place < 65280) × LowPiece (pieceAt (now pieces) place) ⌝ }
+    ensures { λ r. ⌜ Fills (pieceAt (now (pieces .entry)) place .size) (cellOf (pieceAt (now (pieces .entry)) place)) (place + 1) (now (table .entry)) (now (table .exit)) r ⌝ }
 {
     let run = number_at(pieces, NUMBERS * place);
     let first = number_at(pieces, NUMBERS * place + 1);
     let size = number_at(pieces, NUMBERS * place + 2);
     let value = (place + 1) as u16;
-    fill_cells(table, 256 * run + first, size, value)
+    fill_cells(table, RUN_CELLS * run + first, size, value)
 }
 
 // Fills the cells of all pieces, from the last one to the first.
@@ -107,10 +117,10 @@ fn fill_table(
     lengths: &[u8],
     pieces: &[u8],
     count: usize,
-    table: &mut [u16; 65536],
+    table: &mut Table,
 ) -> bool
-    requires { ⌜ (count ≡ length (piecesOf (now pieces))) × (count ≤ 65280) × (length (now services) ≤ 256) × (length (now table) ≡ cells) × ((i : ℕ) → getD (now table) i 0 ≡ 0) ⌝ }
-    ensures { λ r. ⌜ (r ≡ true → Tells (now (services .entry)) (now (lengths .entry)) (now (table .exit)) 0 (piecesOf (now (pieces .entry)))) × (r ≡ false → covers (now (services .entry)) (now (lengths .entry)) (piecesOf (now (pieces .entry))) ≡ false) ⌝ }
+    requires { ⌜ (count ≡ length (piecesOf (now pieces))) × (count ≤ 65280) × (length (now services) ≤ 256) × Empty (now table) ⌝ }
+    ensures { λ r. ⌜ TellsOrNot (now (services .entry)) (now (lengths .entry)) (now (table .exit)) (piecesOf (now (pieces .entry))) r ⌝ }
 {
     let mut place = count;
     while 0 < place {
@@ -126,7 +136,7 @@ fn fill_table(
 }
 
 // Whether every byte has a holder.
-fn all_held(services: &[u8], lengths: &[u8], table: &[u16; 65536]) -> bool
+fn all_held(services: &[u8], lengths: &[u8], table: &Table) -> bool
     requires { ⌜ length (now services) ≤ 256 ⌝ }
     ensures { λ r. ⌜ r ≡ every (hasHolder (now (table .entry))) (bytesOf (now (services .entry)) (now (lengths .entry))) ⌝ }
 {
@@ -139,7 +149,7 @@ fn all_held(services: &[u8], lengths: &[u8], table: &[u16; 65536]) -> bool
             byte = 0;
             continue;
         }
-        if table[256 * run + byte] == 0 {
+        if table[RUN_CELLS * run + byte] == 0 {
             return false;
         }
         byte += 1;
@@ -150,10 +160,10 @@ fn all_held(services: &[u8], lengths: &[u8], table: &[u16; 65536]) -> bool
 // Where the piece that a cell names lies: 256 times its packet, and its block.
 fn lies_at(pieces: &[u8], holder: u16) -> usize
     requires { ⌜ 0 < holder ⌝ }
-    ensures { λ r. ⌜ (r ≡ 256 * getD (now (pieces .entry)) (5 * (holder - 1) + 3) 0 + getD (now (pieces .entry)) (5 * (holder - 1) + 4) 0) × (getD (now (pieces .entry)) (5 * (holder - 1) + 4) 0 < 256) ⌝ }
+    ensures { λ r. ⌜ (r ≡ 256 * pieceAt (now (pieces .entry)) (holder - 1) .packet + pieceAt (now (pieces .entry)) (holder - 1) .block) × (pieceAt (now (pieces .entry)) (holder - 1) .block < 256) ⌝ }
 {
     let o = NUMBERS * (holder as usize - 1);
-    256 * number_at(pieces, o + 3) + number_at(pieces, o + 4)
+    MOST_NUMBERS * number_at(pieces, o + 3) + number_at(pieces, o + 4)
 }
 
 // Whether two cells name pieces of one block.
@@ -181,7 +191,7 @@ fn follows_last(pieces: &[u8], last: u16, holder: u16) -> bool
 }
 
 // Whether the bytes of each service keep their order.
-fn all_follow(services: &[u8], lengths: &[u8], pieces: &[u8], table: &[u16; 65536]) -> bool
+fn all_follow(services: &[u8], lengths: &[u8], pieces: &[u8], table: &Table) -> bool
     requires { ⌜ (length (now services) ≤ 256) × (every (hasHolder (now table)) (bytesOf (now services) (now lengths)) ≡ true) ⌝ }
     ensures { λ r. ⌜ r ≡ follow (now (services .entry)) (now (pieces .entry)) (now (table .entry)) (replicate 256 0) (bytesOf (now (services .entry)) (now (lengths .entry))) ⌝ }
 {
@@ -195,7 +205,7 @@ fn all_follow(services: &[u8], lengths: &[u8], pieces: &[u8], table: &[u16; 6553
             byte = 0;
             continue;
         }
-        let holder = table[256 * run + byte];
+        let holder = table[RUN_CELLS * run + byte];
         let service = number_at(services, run);
         if !follows_last(pieces, last[service], holder) {
             return false;
@@ -207,7 +217,7 @@ fn all_follow(services: &[u8], lengths: &[u8], pieces: &[u8], table: &[u16; 6553
 }
 
 // Whether each run is in one block.
-fn all_whole(services: &[u8], lengths: &[u8], pieces: &[u8], table: &[u16; 65536]) -> bool
+fn all_whole(services: &[u8], lengths: &[u8], pieces: &[u8], table: &Table) -> bool
     requires { ⌜ (length (now services) ≤ 256) × (every (hasHolder (now table)) (bytesOf (now services) (now lengths)) ≡ true) ⌝ }
     ensures { λ r. ⌜ r ≡ every (besideFirst (now (pieces .entry)) (now (table .entry))) (bytesOf (now (services .entry)) (now (lengths .entry))) ⌝ }
 {
@@ -220,7 +230,11 @@ fn all_whole(services: &[u8], lengths: &[u8], pieces: &[u8], table: &[u16; 65536
             byte = 0;
             continue;
         }
-        if !in_one_block(pieces, table[256 * run + byte], table[256 * run]) {
+        if !in_one_block(
+            pieces,
+            table[RUN_CELLS * run + byte],
+            table[RUN_CELLS * run],
+        ) {
             return false;
         }
         byte += 1;
@@ -229,8 +243,8 @@ fn all_whole(services: &[u8], lengths: &[u8], pieces: &[u8], table: &[u16; 65536
 }
 
 // The answer by a table that tells of all pieces.
-fn answer_told(services: &[u8], lengths: &[u8], pieces: &[u8], table: &[u16; 65536]) -> Answer
-    requires { ⌜ (length (now services) ≤ 256) × Tells (now services) (now lengths) (now table) 0 (piecesOf (now pieces)) ⌝ }
+fn answer_told(services: &[u8], lengths: &[u8], pieces: &[u8], table: &Table) -> Answer
+    requires { ⌜ Runs (now services) (now lengths) × Tells (now services) (now lengths) (now table) 0 (piecesOf (now pieces)) ⌝ }
     ensures { λ r. ⌜ saidAnswer r ≡ bytesSaid (now (services .entry)) (now (lengths .entry)) (piecesOf (now (pieces .entry))) ⌝ }
 {
     if !all_held(services, lengths, table) {
@@ -257,7 +271,7 @@ pub fn check_bytes(services: &[u8], lengths: &[u8], pieces: &[u8]) -> Answer
     if bytes < count {
         return Answer::Refused(Refusal::BadCover);
     }
-    let mut table: [u16; 65536] = [0; 65536];
+    let mut table: Table = [0; CELLS];
     if !fill_table(services, lengths, pieces, count, &mut table) {
         return Answer::Refused(Refusal::BadCover);
     }

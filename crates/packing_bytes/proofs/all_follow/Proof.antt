@@ -1,9 +1,8 @@
 -- What is left of the bytes decides, with the last one of each service before them. Assumes nothing.
 use mathlib.Core.Path.{_≡_}
 use native.Mathlib.Omega.{arith}
-use Prim.Native.Nat.{_+_, _-_, _*_, _≤_, _<_}
+use Prim.Native.Nat.{_-_, _*_, _≤_, _<_}
 use lib.ListN.{length, replicate}
-use Rattle.model.specs.Lists.{every}
 use Rattle.model_packing.specs.Pieces.{bytesOf}
 use Rattle.packing_bytes.specs.Table.{follow}
 use Rattle.packing_bytes.proofs.Walks.{bytesLeft, follow-first, follow-next, follow-more, follow-stops, follow-done}
@@ -13,7 +12,10 @@ use Rattle.packing_bytes.proofs.all_follow.Statement.{statement}
 use Rattle.packing_bytes.proofs.all_follow.Tie as tie
 
 abbrev Inv-loop : tie.InvT-loop
-Inv-loop services lengths pieces table n last₀ run₀ byte₀ last run byte = (run ≤ length services) × (byte < 256) × (follow services pieces table (replicate 256 0) (bytesOf services lengths) ≡ follow services pieces table last (bytesLeft services lengths run byte))
+Inv-loop services lengths pieces table n last₀ run₀ byte₀ last run byte =
+    (run ≤ length services)
+    × (byte < 256)
+    × (follow services pieces table (replicate 256 0) (bytesOf services lengths) ≡ follow services pieces table last (bytesLeft services lengths run byte))
 
 abbrev μ-loop : tie.MeasureT-loop
 μ-loop services lengths pieces table n last₀ run₀ byte₀ last run byte = 256 * (length services - run) - byte
@@ -55,7 +57,10 @@ array-read-follows-last : tie.Need-array-read-follows-last Inv-loop μ-loop
 array-read-follows-last c = search needs
 
 follows-last-requires : tie.Need-follows-last-requires Inv-loop μ-loop
-follows-last-requires c κs = byte-held _ _ _ _ _ (c .before .before .before .before .before .before .before .before .before .pre .1) (c .before .before .before .before .loop-test .taken) _ (c .before .before .before .number-at .ensures .0) (c .before .before .if1 .left)
+follows-last-requires c κs =
+    byte-held _ _ _ _ _ (c .before .before .before .before .before .before .before .before .before .pre .1)
+    (c .before .before .before .before .loop-test .taken) _ (c .before .before .before .number-at .ensures .0)
+    (c .before .before .if1 .left)
 
 returns : tie.Need-returns Inv-loop μ-loop
 returns c = search (needs, follow-stops)
@@ -73,7 +78,15 @@ loop-less-2 : tie.Need-loop-less-2 Inv-loop μ-loop
 loop-less-2 c = omega arith
 
 loop-again-2 : tie.Need-loop-again-2 Inv-loop μ-loop
-loop-again-2 c = (omega arith, omega arith, follow-more _ _ _ _ _ _ _ _ (c .before .before .before .before .before .before .before .loop .inv .2) (c .before .before .before .before .before .before .loop-test .taken) _ (c .before .before .before .before .before .number-at .ensures .0) (c .before .before .before .before .if1 .left) _ (c .before .before .number-at2 .ensures .0) _ (c .before .follows-last .ensures) (c .if2 .left))
+loop-again-2 c = (
+  omega arith,
+  omega arith,
+  follow-more _ _ _ _ _ _ _ _ (c .before .before .before .before .before .before .before .loop .inv .2)
+      (c .before .before .before .before .before .before .loop-test .taken) _
+      (c .before .before .before .before .before .number-at .ensures .0)
+      (c .before .before .before .before .if1 .left) _ (c .before .before .number-at2 .ensures .0) _
+      (c .before .follows-last .ensures) (c .if2 .left),
+)
 
 returns-2 : tie.Need-returns-2 Inv-loop μ-loop
 returns-2 c = search (needs, follow-done)

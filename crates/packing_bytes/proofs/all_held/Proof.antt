@@ -1,7 +1,7 @@
 -- What is left of the bytes decides. Assumes nothing.
 use mathlib.Core.Path.{_≡_}
 use native.Mathlib.Omega.{arith}
-use Prim.Native.Nat.{_+_, _-_, _*_, _≤_, _<_}
+use Prim.Native.Nat.{_-_, _*_, _≤_, _<_}
 use lib.ListN.{length}
 use Rattle.model.specs.Lists.{every}
 use Rattle.model_packing.specs.Pieces.{bytesOf}
@@ -12,7 +12,10 @@ use Rattle.packing_bytes.proofs.all_held.Statement.{statement}
 use Rattle.packing_bytes.proofs.all_held.Tie as tie
 
 abbrev Inv-loop : tie.InvT-loop
-Inv-loop services lengths table n run₀ byte₀ run byte = (run ≤ length services) × (byte < 256) × (every (hasHolder table) (bytesOf services lengths) ≡ every (hasHolder table) (bytesLeft services lengths run byte))
+Inv-loop services lengths table n run₀ byte₀ run byte =
+    (run ≤ length services)
+    × (byte < 256)
+    × (every (hasHolder table) (bytesOf services lengths) ≡ every (hasHolder table) (bytesLeft services lengths run byte))
 
 abbrev μ-loop : tie.MeasureT-loop
 μ-loop services lengths table n run₀ byte₀ run byte = 256 * (length services - run) - byte
@@ -54,7 +57,14 @@ loop-less-2 : tie.Need-loop-less-2 Inv-loop μ-loop
 loop-less-2 c = omega arith
 
 loop-again-2 : tie.Need-loop-again-2 Inv-loop μ-loop
-loop-again-2 c = (omega arith, omega arith, held-more (c .before .before .before .before .before .before .before .before .args .services .now) _ _ _ _ _ (c .before .before .before .before .before .loop .inv .2) (c .before .before .before .before .loop-test .taken) _ (c .before .before .before .number-at .ensures .0) (c .before .before .if1 .left) (c .if2 .left))
+loop-again-2 c = (
+  omega arith,
+  omega arith,
+  held-more (c .before .before .before .before .before .before .before .before .args .services .now) _ _ _ _ _
+      (c .before .before .before .before .before .loop .inv .2)
+      (c .before .before .before .before .loop-test .taken) _ (c .before .before .before .number-at .ensures .0)
+      (c .before .before .if1 .left) (c .if2 .left),
+)
 
 returns-2 : tie.Need-returns-2 Inv-loop μ-loop
 returns-2 c = search (needs, every-done)

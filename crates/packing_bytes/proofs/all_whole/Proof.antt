@@ -1,7 +1,7 @@
 -- What is left of the bytes decides. Assumes nothing.
 use mathlib.Core.Path.{_≡_}
 use native.Mathlib.Omega.{arith}
-use Prim.Native.Nat.{_+_, _-_, _*_, _≤_, _<_}
+use Prim.Native.Nat.{_-_, _*_, _≤_, _<_}
 use lib.ListN.{length}
 use Rattle.model.specs.Lists.{every}
 use Rattle.model_packing.specs.Pieces.{bytesOf}
@@ -13,7 +13,10 @@ use Rattle.packing_bytes.proofs.all_whole.Statement.{statement}
 use Rattle.packing_bytes.proofs.all_whole.Tie as tie
 
 abbrev Inv-loop : tie.InvT-loop
-Inv-loop services lengths pieces table n run₀ byte₀ run byte = (run ≤ length services) × (byte < 256) × (every (besideFirst pieces table) (bytesOf services lengths) ≡ every (besideFirst pieces table) (bytesLeft services lengths run byte))
+Inv-loop services lengths pieces table n run₀ byte₀ run byte =
+    (run ≤ length services)
+    × (byte < 256)
+    × (every (besideFirst pieces table) (bytesOf services lengths) ≡ every (besideFirst pieces table) (bytesLeft services lengths run byte))
 
 abbrev μ-loop : tie.MeasureT-loop
 μ-loop services lengths pieces table n run₀ byte₀ run byte = 256 * (length services - run) - byte
@@ -55,7 +58,14 @@ element-copy-out-in-one-block-2 : tie.Need-element-copy-out-in-one-block-2 Inv-l
 element-copy-out-in-one-block-2 c = search needs
 
 in-one-block-requires : tie.Need-in-one-block-requires Inv-loop μ-loop
-in-one-block-requires c κs = (byte-held _ _ _ _ _ (c .before .before .before .before .before .before .before .before .before .pre .1) (c .before .before .before .before .loop-test .taken) _ (c .before .before .before .number-at .ensures .0) (c .before .before .if1 .left), first-held _ _ _ _ _ (c .before .before .before .before .before .before .before .before .before .pre .1) (c .before .before .before .before .loop-test .taken) _ (c .before .before .before .number-at .ensures .0) (c .before .before .if1 .left))
+in-one-block-requires c κs = (
+  byte-held _ _ _ _ _ (c .before .before .before .before .before .before .before .before .before .pre .1)
+      (c .before .before .before .before .loop-test .taken) _ (c .before .before .before .number-at .ensures .0)
+      (c .before .before .if1 .left),
+  first-held _ _ _ _ _ (c .before .before .before .before .before .before .before .before .before .pre .1)
+      (c .before .before .before .before .loop-test .taken) _ (c .before .before .before .number-at .ensures .0)
+      (c .before .before .if1 .left),
+)
 
 returns : tie.Need-returns Inv-loop μ-loop
 returns c = search (needs, beside-stops)
@@ -67,7 +77,16 @@ loop-less-2 : tie.Need-loop-less-2 Inv-loop μ-loop
 loop-less-2 c = omega arith
 
 loop-again-2 : tie.Need-loop-again-2 Inv-loop μ-loop
-loop-again-2 c = (omega arith, omega arith, beside-more (c .before .before .before .before .before .before .before .before .before .before .before .args .services .now) _ _ _ _ _ _ (c .before .before .before .before .before .before .before .loop .inv .2) (c .before .before .before .before .before .before .loop-test .taken) _ (c .before .before .before .before .before .number-at .ensures .0) (c .before .before .before .before .if1 .left) _ (c .before .in-one-block .ensures) (c .if2 .left))
+loop-again-2 c = (
+  omega arith,
+  omega arith,
+  beside-more
+      (c .before .before .before .before .before .before .before .before .before .before .before .args .services .now)
+      _ _ _ _ _ _ (c .before .before .before .before .before .before .before .loop .inv .2)
+      (c .before .before .before .before .before .before .loop-test .taken) _
+      (c .before .before .before .before .before .number-at .ensures .0)
+      (c .before .before .before .before .if1 .left) _ (c .before .in-one-block .ensures) (c .if2 .left),
+)
 
 returns-2 : tie.Need-returns-2 Inv-loop μ-loop
 returns-2 c = search (needs, every-done)

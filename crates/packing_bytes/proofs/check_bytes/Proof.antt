@@ -10,7 +10,7 @@ use Rattle.packing_bytes.proofs.check_bytes.Statement.{statement}
 use Rattle.packing_bytes.proofs.check_bytes.Tie as tie
 
 returns : tie.Need-returns
-returns c = said-many (c .before .before .before .before .args .services .now) (c .before .before .before .before .args .lengths .now) (c .before .before .before .before .args .pieces .now) (c .if1 .taken)
+returns c = search (needs, said-many)
 
 count-bytes-requires : tie.Need-count-bytes-requires
 count-bytes-requires c κs = search needs
@@ -19,16 +19,34 @@ count-pieces-requires : tie.Need-count-pieces-requires
 count-pieces-requires c κs = search needs
 
 returns-2 : tie.Need-returns-2
-returns-2 c = said-crowded (c .before .before .before .before .before .before .before .args .services .now) (c .before .before .before .before .before .before .before .args .lengths .now) (c .before .before .before .before .before .before .before .args .pieces .now) (c .before .before .before .if1 .left) _ _ (c .before .before .count-bytes .ensures .0) (c .if2 .taken) (c .before .count-pieces .ensures .1)
+returns-2 c = search (needs, said-crowded, c .before .count-pieces .ensures .1)
 
 fill-table-requires : tie.Need-fill-table-requires
-fill-table-requires c κs = (c .before .before .count-pieces .ensures .0 (c .before .if2 .left), omega arith, c .before .before .before .before .if1 .left, length-replicate {A = ℕ} 65536 0, empty-cells 65536)
+fill-table-requires c κs = (
+  c .before .before .count-pieces .ensures .0 (c .before .if2 .left),
+  omega arith,
+  c .before .before .before .before .if1 .left,
+  record { long = length-replicate {A = ℕ} 65536 0; zeros = empty-cells 65536 },
+)
 
 returns-3 : tie.Need-returns-3
-returns-3 c = said-uncovered (c .before .before .before .before .before .before .before .before .before .before .args .services .now) (c .before .before .before .before .before .before .before .before .before .before .args .lengths .now) (c .before .before .before .before .before .before .before .before .before .before .args .pieces .now) (c .before .before .before .before .before .before .if1 .left) (c .before .fill-table .ensures .1 (not-true _ (c .if3 .taken)))
+returns-3 c =
+    said-uncovered
+    (c .before .before .before .before .before .before .before .before .before .before .args .services .now)
+    (c .before .before .before .before .before .before .before .before .before .before .args .lengths .now)
+    (c .before .before .before .before .before .before .before .before .before .before .args .pieces .now)
+    (c .before .before .before .before .before .before .if1 .left)
+    (c .before .fill-table .ensures .uncovered (not-true _ (c .if3 .taken)))
 
 answer-told-requires : tie.Need-answer-told-requires
-answer-told-requires c κs = (c .before .before .before .before .before .before .before .if1 .left, c .before .before .fill-table .ensures .0 (not-false _ (c .before .if3 .left)))
+answer-told-requires c κs = (
+  record {
+    few = c .before .before .before .before .before .before .before .if1 .left;
+    named = λ r. omega (arith, c .before .before .before .before .before .before .before .before .before .before .shared-slice-known .given r);
+    short = λ r. omega (arith, c .before .before .before .before .before .before .before .before .before .shared-slice-known2 .given r);
+  },
+  c .before .before .fill-table .ensures .tells (not-false _ (c .before .if3 .left)),
+)
 
 returns-4 : tie.Need-returns-4
 returns-4 c = search needs

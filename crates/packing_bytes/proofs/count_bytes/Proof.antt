@@ -10,7 +10,10 @@ use Rattle.packing_bytes.proofs.count_bytes.Statement.{statement}
 use Rattle.packing_bytes.proofs.count_bytes.Tie as tie
 
 abbrev Inv-loop : tie.InvT-loop
-Inv-loop services lengths n sum₀ i₀ sum i = (i ≤ length services) × (sum ≤ 255 * i) × (length (bytesOf services lengths) ≡ sum + length (bytesLeft services lengths i 0))
+Inv-loop services lengths n sum₀ i₀ sum i =
+    (i ≤ length services)
+    × (sum ≤ 255 * i)
+    × (length (bytesOf services lengths) ≡ sum + length (bytesLeft services lengths i 0))
 
 abbrev μ-loop : tie.MeasureT-loop
 μ-loop services lengths n sum₀ i₀ sum i = length services - i

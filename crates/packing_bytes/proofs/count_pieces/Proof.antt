@@ -1,7 +1,7 @@
 -- The pieces that are counted and those that are left are all pieces. Assumes nothing.
 use mathlib.Core.Path.{_≡_}
 use native.Mathlib.Omega.{arith}
-use Prim.Native.Nat.{_+_, _-_, _*_, _≤_, _<_}
+use Prim.Native.Nat.{_+_, _-_, _≤_}
 use lib.ListN.{length, drop}
 use Rattle.model_packing.specs.Pieces.{piecesOf}
 use Rattle.packing_bytes.proofs.Numbers.{counted-enough, counted-more, counted-all}
@@ -10,7 +10,10 @@ use Rattle.packing_bytes.proofs.count_pieces.Statement.{statement}
 use Rattle.packing_bytes.proofs.count_pieces.Tie as tie
 
 abbrev Inv-loop : tie.InvT-loop
-Inv-loop pieces most n o₀ count₀ o count = (o ≤ length pieces) × (count ≤ most + 1) × (length (piecesOf pieces) ≡ count + length (piecesOf (drop o pieces)))
+Inv-loop pieces most n o₀ count₀ o count =
+    (o ≤ length pieces)
+    × (count ≤ most + 1)
+    × (length (piecesOf pieces) ≡ count + length (piecesOf (drop o pieces)))
 
 abbrev μ-loop : tie.MeasureT-loop
 μ-loop pieces most n o₀ count₀ o count = length pieces - o

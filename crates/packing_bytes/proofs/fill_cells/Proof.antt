@@ -2,8 +2,7 @@
 use mathlib.Core.Path.{_≡_}
 use mathlib.Core.Bool.{false≢true}
 use native.Mathlib.Omega.{arith}
-use Prim.Native.Nat.{_+_, _-_, _*_, _≤_, _<_}
-use lib.ListN.{length}
+use Prim.Native.Nat.{_+_, _-_, _≤_}
 use Rattle.packing_bytes.specs.Table.{free, filled}
 use Rattle.packing_bytes.proofs.Cells.{freeLeft, filledLeft, free-first, filled-first, free-more, filled-more, free-stops, free-none, filled-none}
 use borrow.Author.Needs.{needs}
@@ -11,7 +10,10 @@ use Rattle.packing_bytes.proofs.fill_cells.Statement.{statement}
 use Rattle.packing_bytes.proofs.fill_cells.Tie as tie
 
 abbrev Inv-loop : tie.InvT-loop
-Inv-loop table₀ from size value end at₀ table at = (at ≤ from + size) × (free size from value table₀ ≡ freeLeft (from + size) at value table) × (filled size from value table₀ ≡ filledLeft (from + size) at value table)
+Inv-loop table₀ from size value end at₀ table at =
+    (at ≤ from + size)
+    × (free size from value table₀ ≡ freeLeft (from + size) at value table)
+    × (filled size from value table₀ ≡ filledLeft (from + size) at value table)
 
 abbrev μ-loop : tie.MeasureT-loop
 μ-loop table₀ from size value end at₀ table at = from + size - at
@@ -29,7 +31,7 @@ element-copy-out-if1 : tie.Need-element-copy-out-if1 Inv-loop μ-loop
 element-copy-out-if1 c = search needs
 
 returns : tie.Need-returns Inv-loop μ-loop
-returns c = (search (needs, free-stops), λ h. absurd (false≢true h))
+returns c = record { empty = search (needs, free-stops); done = λ h. absurd (false≢true h) }
 
 mul-table : tie.Need-mul-table Inv-loop μ-loop
 mul-table c = search needs
@@ -47,7 +49,7 @@ loop-again : tie.Need-loop-again Inv-loop μ-loop
 loop-again c = (omega arith, search (needs, free-more), search (needs, filled-more))
 
 returns-2 : tie.Need-returns-2 Inv-loop μ-loop
-returns-2 c = (search (needs, free-none), λ h. search (needs, filled-none))
+returns-2 c = record { empty = search (needs, free-none); done = λ h. search (needs, filled-none) }
 
 pub fill-cells-spec : {M : Type 1} → statement M
 fill-cells-spec =

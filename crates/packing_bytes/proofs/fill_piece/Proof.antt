@@ -44,7 +44,7 @@ fill-cells-requires : tie.Need-fill-cells-requires
 fill-cells-requires c κs = search needs
 
 returns : tie.Need-returns
-returns c = (cc, λ h. c .fill-cells .ensures .1 h ∙ (cc))
+returns c = record { empty = cc; done = λ h. c .fill-cells .ensures .done h ∙ (cc) }
 
 pub fill-piece-spec : {M : Type 1} → statement M
 fill-piece-spec =

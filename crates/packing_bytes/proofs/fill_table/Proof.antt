@@ -1,8 +1,8 @@
 -- From the last piece to the first, the table tells the holders of those that were met. Assumes nothing.
-use mathlib.Core.Path.{_≡_, sym}
+use mathlib.Core.Path.{sym}
 use mathlib.Core.Bool.{false≢true}
 use native.Mathlib.Omega.{arith}
-use Prim.Native.Nat.{_+_, _-_, _*_, _≤_, _<_}
+use Prim.Native.Nat.{_≤_}
 use lib.ListN.{length, drop}
 use borrow.Author.Tests.{not-false}
 use Rattle.model_packing.specs.Pieces.{piecesOf}
@@ -13,7 +13,9 @@ use Rattle.packing_bytes.proofs.fill_table.Statement.{statement}
 use Rattle.packing_bytes.proofs.fill_table.Tie as tie
 
 abbrev Inv-loop : tie.InvT-loop
-Inv-loop services lengths pieces count table₀ place₀ table place = (place ≤ length (piecesOf pieces)) × Tells services lengths table place (drop place (piecesOf pieces))
+Inv-loop services lengths pieces count table₀ place₀ table place =
+    (place ≤ length (piecesOf pieces))
+    × Tells services lengths table place (drop place (piecesOf pieces))
 
 abbrev μ-loop : tie.MeasureT-loop
 μ-loop services lengths pieces count table₀ place₀ table place = place
@@ -28,13 +30,13 @@ is-inside-requires : tie.Need-is-inside-requires Inv-loop μ-loop
 is-inside-requires c κs = search needs
 
 returns : tie.Need-returns Inv-loop μ-loop
-returns c = (λ h. absurd (false≢true h), λ h. search (needs, fill-outside))
+returns c = record { tells = λ h. absurd (false≢true h); uncovered = λ h. search (needs, fill-outside) }
 
 fill-piece-requires : tie.Need-fill-piece-requires Inv-loop μ-loop
 fill-piece-requires c κs = (omega arith, c .before .before .is-inside .ensures .1 (not-false _ (c .before .if1 .left)))
 
 returns-2 : tie.Need-returns-2 Inv-loop μ-loop
-returns-2 c = (λ h. absurd (false≢true h), λ h. search (needs, fill-twice))
+returns-2 c = record { tells = λ h. absurd (false≢true h); uncovered = λ h. search (needs, fill-twice) }
 
 loop-less : tie.Need-loop-less Inv-loop μ-loop
 loop-less c = omega arith
@@ -43,7 +45,7 @@ loop-again : tie.Need-loop-again Inv-loop μ-loop
 loop-again c = (omega arith, search (needs, fill-more))
 
 returns-3 : tie.Need-returns-3 Inv-loop μ-loop
-returns-3 c = (λ h. search (needs, tells-all), λ h. absurd (false≢true (sym h)))
+returns-3 c = record { tells = λ h. search (needs, tells-all); uncovered = λ h. absurd (false≢true (sym h)) }
 
 pub fill-table-spec : {M : Type 1} → statement M
 fill-table-spec =

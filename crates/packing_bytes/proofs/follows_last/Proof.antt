@@ -14,7 +14,10 @@ lies-at-requires-2 : tie.Need-lies-at-requires-2
 lies-at-requires-2 c κs = search needs
 
 returns-2 : tie.Need-returns-2
-returns-2 c = follows-same _ _ _ _ _ (c .before .before .lies-at .ensures .0) (c .before .before .lies-at .ensures .1) (c .before .lies-at2 .ensures .0) (c .before .lies-at2 .ensures .1) (c .before .before .before .if1 .left) (c .before .before .before .before .before .pre) (c .if2 .taken)
+returns-2 c =
+    follows-same _ _ _ _ _ (c .before .before .lies-at .ensures .0) (c .before .before .lies-at .ensures .1)
+    (c .before .lies-at2 .ensures .0) (c .before .lies-at2 .ensures .1) (c .before .before .before .if1 .left)
+    (c .before .before .before .before .before .pre) (c .if2 .taken)
 
 returns-3 : tie.Need-returns-3
 returns-3 c = search (needs, follows-other)

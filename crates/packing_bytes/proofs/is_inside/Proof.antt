@@ -45,7 +45,10 @@ number-at-requires-4 : tie.Need-number-at-requires-4
 number-at-requires-4 c κs = search needs
 
 returns-3 : tie.Need-returns-3
-returns-3 c = (search (needs, inside-there), λ h. let z = leb-true (c .before .before .before .before .number-at2 .result + c .before .before .before .number-at3 .result) (c .number-at4 .result) h in omega arith)
+returns-3 c = (
+  search (needs, inside-there),
+  λ h. let z = leb-true (c .before .before .before .before .number-at2 .result + c .before .before .before .number-at3 .result) (c .number-at4 .result) h in omega arith,
+)
 
 pub is-inside-spec : {M : Type 1} → statement M
 is-inside-spec =
