@@ -1,3 +1,4 @@
 pub mod Sorts
 pub mod Lays
 pub mod Kept
+pub mod Fits
