@@ -15,14 +15,17 @@ use Rattle.model.proofs.Cases.{Gives, by-test, by-cond, both}
 use Rattle.model_packing.specs.Pieces.{Piece, serviceOf, piecesOf}
 use Rattle.model_packing.specs.Proposals.{blank, mostRuns, covers, ordered, unsplit, limits, runsFit, checkProposal}
 use Rattle.model_packing.specs.FirstCome.{Filling, start, filledWith, placed, placeOr0, pieceFor, placedRun, piecesFrom, packetsFrom, firstCome, packetsFilled, packable}
+use Rattle.model_packing.proofs.Filling.{few-runs}
+use Rattle.model_packing.proofs.Counting.{few-packets}
+use Rattle.packing.proofs.Calls.{length-pieces}
 use Rattle.program_text.specs.Text.{word, decimal, decimalIn, digit}
 use Rattle.program_text.proofs.Decimals.{digits-most}
 use Rattle.program_lines.specs.Lines.{valueText, valuesText, answerText, endLine}
 use Rattle.ccpack_report.specs.Lines.{badLine, answerLine, packetsLine, pieceLine, pieceLines, proposalLines, packedText}
-use Rattle.ccpack_report.specs.Jobs.{jobIn, servicesIn, lengthsIn, numbersIn, checkedText, toldOf, jobText}
+use Rattle.ccpack_report.specs.Jobs.{jobIn, servicesIn, lengthsIn, numbersIn, checkedText, toldOf, jobText, heard}
 use Rattle.ccpack_report.specs.declared.Job.{Job}
 use Rattle.ccpack_report.specs.declared.Job.the-variants.{Bad, TooMany, Check, Propose}
-use Rattle.ccpack_report.proofs.Kept.{Bytes, bytes-part, Sized, sized}
+use Rattle.ccpack_report.proofs.Kept.{Bytes, bytes-part, bytes-heard}
 
 -- a run is pushed: at most one block more
 abbrev OneMore : Packet → Outcome Packet → Type 0
@@ -104,33 +107,16 @@ module _ (services lengths : List ℕ) (bytes : Bytes lengths) where
       piece-fits q (omega arith) (omega arith) (omega (arith, bytes i)) (omega (arith, n .0)) (omega (arith, n .1, b)) in
       rw (length-append (pieceLine q) (pieceLines (piecesFrom services lengths k (suc i) next))) (omega (arith, one, pieces-fit k (suc i) next (omega arith) n))
 
-  -- how many pieces there are
-  pub pieces-length : (k i : ℕ) (at : Filling) → length (piecesFrom services lengths k i at) ≡ k
-  unfolding piecesFrom
-  pieces-length zero i at = refl
-  pieces-length (suc k) i at = ap suc (pieces-length k (suc i) (placedRun services lengths i at))
-
-  -- and how many packets
-  packets-most : (k i : ℕ) (at : Filling) → Within i at → packetsFrom services lengths k i at ≤ suc (i + k)
-  unfolding packetsFrom
-  packets-most zero i at w = omega (arith, w .0)
-  packets-most (suc k) i at w =
-      omega (arith, packets-most k (suc i) (placedRun services lengths i at) (placed-within i (serviceOf services i) (blank (getD lengths i 0)) at w))
-
 start-within : Within 0 start
 start-within = (omega arith, omega arith)
 
-filled-most : (services lengths : List ℕ) → Bytes lengths → packetsFilled services lengths ≤ suc (length services)
-unfolding packetsFilled
-filled-most [] lengths b = omega arith
-filled-most (s ∷ services) lengths b = omega (arith, packets-most (s ∷ services) lengths b (length (s ∷ services)) 0 start start-within)
-
 -- the lines of a proposal
-proposal-fits : (services lengths : List ℕ) → Bytes lengths → length services ≤ 256 → length (proposalLines (packetsFilled services lengths) (firstCome services lengths)) ≤ 8192
+proposal-fits : (services lengths : List ℕ) → Bytes lengths → packable services lengths ≡ true → length (proposalLines (packetsFilled services lengths) (firstCome services lengths)) ≤ 8192
 unfolding proposalLines packetsLine endLine
-proposal-fits services lengths b few =
-    let p = value-fits (packetsFilled services lengths) (omega (arith, filled-most services lengths b)) in
-    let n = pieces-length services lengths b (length services) 0 start in
+proposal-fits services lengths b t =
+    let few : length services ≤ 256 = few-runs services lengths t in
+    let p = value-fits (packetsFilled services lengths) (omega (arith, few-packets services lengths t)) in
+    let n = length-pieces services lengths (length services) 0 start in
     let d : length (decimal (length (firstCome services lengths))) ≤ 3 = digits-most 2 (length (firstCome services lengths)) (omega (arith, n)) in
     rw (length-append, length-append, length-append, length-append, length-append, length-append)
     (omega (arith, p, d, pieces-fit services lengths b (length services) 0 start (omega arith) start-within))
@@ -157,10 +143,9 @@ check-short-line services lengths ps =
 
 -- what is told of runs to be packed
 packed-fits : (services lengths : List ℕ) → Bytes lengths → length (packedText services lengths) ≤ 8192
-unfolding packedText packable
+unfolding packedText
 packed-fits services lengths b =
-    by-cond (λ (l : List ℕ). length l ≤ 8192) (leb (length services) mostRuns && runsFit services lengths)
-    (λ t. proposal-fits services lengths b (leb-true _ _ (both (leb (length services) mostRuns) (runsFit services lengths) t .0)))
+    by-cond (λ (l : List ℕ). length l ≤ 8192) (packable services lengths) (λ t. proposal-fits services lengths b t)
     (λ _. over-short)
 
 -- what is told of a job, whatever it is
@@ -175,3 +160,7 @@ told-fits (Propose runs) job b = packed-fits (servicesIn runs job) (lengthsIn ru
 pub job-fits : (job : List ℕ) → Bytes job → length (jobText job) ≤ 8192
 unfolding jobText
 job-fits job b = told-fits (jobIn job) job b
+
+-- The text of a job of which bytes are beyond what is kept.
+pub heard-fits : (job : List ℕ) (over : ℕ) → Bytes job → length (jobText (heard job over)) ≤ 8192
+heard-fits job over b = job-fits (heard job over) (bytes-heard job over b)

@@ -6,8 +6,8 @@ use mathlib.Core.List.{List, [], _∷_, _++_, map, flatMap, append-nil}
 use Prim.Native.Nat.{ℕ, zero, suc, _+_, _-_, _*_, _%_, _≤_, _<_}
 use native.Mathlib.Omega.{arith}
 use lib.Dec.{eqb, leb, ltb}
-use lib.ListN.{length, getD, take, drop, length-append, length-take, length-drop, length-replicate, List·getD-append, List·getD-eq-default}
-use lib.Seq.{getD-take, getD-drop, take-append-le, drop-append-le}
+use lib.ListN.{length, getD, take, drop, length-append, length-take, length-drop, length-replicate, getD-replicate, List·getD-append, List·getD-eq-default}
+use lib.Seq.{getD-take, getD-drop, getD-append-add, take-append-le, drop-append-le}
 use borrow.Author.Tests.{ltb-true, ltb-false, eqb-true, le-ltb, ne-eqb}
 use Rattle.model.specs.Said.{badCover}
 use Rattle.model.proofs.Cases.{by-test, by-cond}
@@ -31,6 +31,28 @@ bytes-part l n m b i =
     (λ t. rw (getD-take n (drop m l) i 0 (ltb-true _ _ t), getD-drop m l i 0) (b (m + i)))
     (λ t. let h : length (take n (drop m l)) ≤ i = rw length-take (omega (arith, ltb-false i n t)) in
     rw (List·getD-eq-default (take n (drop m l)) 0 h) (omega arith))
+
+-- such numbers, and zeros behind them
+bytes-blank : (l : List ℕ) (n : ℕ) → Bytes l → Bytes (l ++ blank n)
+bytes-blank l n b i =
+    by-test (ltb i (length l))
+    (λ t. rw (List·getD-append l (blank n) 0 i (ltb-true _ _ t)) (b i))
+    (λ t. let h : length l ≤ i = ltb-false _ _ t in
+    let e : i ≡ length l + (i - length l) = omega arith in
+    let z : getD (l ++ blank n) i 0 ≡ getD (blank n) (i - length l) 0 =
+    ap (λ (k : ℕ). getD (l ++ blank n) k 0) e ∙ getD-append-add l (blank n) (i - length l) 0 in
+    rw (z, blank-at n (i - length l)) (omega arith))
+  where
+    blank-at : (n i : ℕ) → getD (blank n) i 0 ≡ 0
+    blank-at n i =
+        by-test (ltb i n) (λ t. getD-replicate n i 0 0 (ltb-true _ _ t))
+        (λ t. let h : length (blank n) ≤ i = rw length-replicate (ltb-false _ _ t) in List·getD-eq-default (blank n) 0 h)
+
+pub bytes-heard : (job : List ℕ) (over : ℕ) → Bytes job → Bytes (heard job over)
+bytes-heard job over b =
+    by-test (ltb (length job) mostKept)
+    (λ t. subst Bytes (sym (heard-kept job over (ltb-true _ _ t))) b)
+    (λ t. subst Bytes (sym (heard-beyond job over (ltb-false _ _ t))) (bytes-blank job (over % 5) b))
 
 -- how many bytes runs have
 length-count : (a n : ℕ) → length (countFrom a n) ≡ n
@@ -174,9 +196,9 @@ kept-tells job rest e b =
     text-beyond job b (omega arith) rest (blank (length rest % 5)) (omega (arith, n))
 
 -- a proposal is answered, and runs are packed, as what is kept of the job says
-module _ (job : List ℕ) (bytes : Bytes job) (over runs : ℕ) where
-  pub checked-kept : runs ≤ 256 → checkedText runs job ≡ checkedText runs (heard job over)
-  checked-kept few =
+module _ (job : List ℕ) (over runs : ℕ) where
+  pub checked-kept : Bytes job → runs ≤ 256 → checkedText runs job ≡ checkedText runs (heard job over)
+  checked-kept bytes few =
       by-test (ltb (length job) mostKept)
       (λ t. ap (checkedText runs) (sym (heard-kept job over (ltb-true _ _ t))))
       (λ t. let h : mostKept ≤ length job = ltb-false _ _ t in

@@ -2,3 +2,5 @@ pub mod Sorts
 pub mod Lays
 pub mod Kept
 pub mod Fits
+pub mod Told
+pub mod Packed

@@ -6,11 +6,14 @@ ghost use lib.ListN.{length, getD};
 ghost use Rattle.caption.specs.Answers.{saidAnswer};
 ghost use Rattle.model_packing.specs.Pieces.{piecesOf};
 ghost use Rattle.program_text.specs.Laid.{Laid};
-ghost use Rattle.ccpack_report.specs.Lines.{answerLine, packetsLine, pieceLine, pieceLines, proposalLines};
-ghost use Rattle.ccpack_report.specs.Jobs.{checkJob, proposeJob, jobOf, jobIn, heard, heardLength};
+ghost use Rattle.ccpack_report.specs.Lines.{answerLine, packetsLine, pieceLine, pieceLines, proposalLines, packedText};
+ghost use Rattle.ccpack_report.specs.Jobs.{checkJob, proposeJob, jobOf, jobIn, checkedText, jobText, heard, heardLength};
 use caption::Answer;
+use caption::Refusal;
+use packing::Proposal;
 use program_lines::put_value;
 use program_records::byte_at;
+use program_records::part;
 use program_text::put_newline;
 use program_text::put_word;
 
@@ -170,4 +173,40 @@ fn put_proposal(out: &mut [u8], at: usize, packets: u64, numbers: &[u8]) -> usiz
     let p = put_packets_line(out, at, packets);
     let listed = put_pieces(out, p, numbers);
     program_lines::put_end_line(out, listed.laid, listed.count)
+}
+
+// The line of what a proposal in a job is answered.
+fn put_checked(out: &mut [u8], at: usize, job: &[u8], runs: usize) -> usize
+    requires { ⌜ runs ≤ 256 ⌝ }
+    ensures { λ r. ⌜ Laid (checkedText runs (now (job .entry))) (now (out .entry)) at r (now (out .exit)) ⌝ }
+{
+    let services = part(job, 3, runs);
+    let lengths = part(job, 3 + runs, runs);
+    let numbers = part(job, 3 + 2 * runs, job.len());
+    put_answer_line(out, at, packing::check(services, lengths, numbers))
+}
+
+// The lines of a proposal for runs, or that they cannot be packed.
+fn put_packed(out: &mut [u8], at: usize, services: &[u8], lengths: &[u8]) -> usize
+    ensures { λ r. ⌜ Laid (packedText (now (services .entry)) (now (lengths .entry))) (now (out .entry)) at r (now (out .exit)) ⌝ }
+{
+    let mut lent = [0u8; 1280];
+    match packing::propose(services, lengths, &mut lent) {
+        Proposal::Made { packets, len } => {
+            put_proposal(out, at, packets as u64, part(&lent, 0, len))
+        }
+        Proposal::Refused(why) => put_answer_line(out, at, Answer::Refused(why)),
+    }
+}
+
+// What is told of a job, of which at most MOST_KEPT bytes are kept and `over` bytes are beyond these.
+pub fn put_job(out: &mut [u8], at: usize, job: &[u8], over: usize) -> usize
+    ensures { λ r. ⌜ Laid (jobText (heard (now (job .entry)) over)) (now (out .entry)) at r (now (out .exit)) ⌝ }
+{
+    match look(job, over) {
+        Job::Bad => put_word(out, at, b"bad\n"),
+        Job::TooMany => put_answer_line(out, at, Answer::Refused(Refusal::OverLimit)),
+        Job::Check(runs) => put_checked(out, at, job, runs),
+        Job::Propose(runs) => { put_packed(out, at, part(job, 3, runs), part(job, 3 + runs, runs)) }
+    }
 }
