@@ -38,6 +38,7 @@ pub mod ProgramRecords
 pub mod ProgramAnswers
 pub mod ProgramLines
 pub mod CcreadReport
+pub mod CcpackReport
 pub mod ScriptAnswers
 pub mod Asked
 pub mod ScriptBlocks

@@ -167,6 +167,9 @@ fn main() {
     io::write_all(STDOUT_FILENO, b"a proposal: ");
     let mut pieces = [0u8; 15];
     tell_proposal(propose_three(&mut pieces));
-    io::write_all(STDOUT_FILENO, b"its last piece in a block of another service: ");
+    io::write_all(
+        STDOUT_FILENO,
+        b"its last piece in a block of another service: ",
+    );
     tell_proposal(spoil(&mut pieces));
 }

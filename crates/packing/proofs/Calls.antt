@@ -18,13 +18,13 @@ use Rattle.packing.specs.declared.Proposal.the-variants.{Made, Refused}
 use Rattle.packing.specs.Calls.{Proposes}
 
 -- five numbers for each piece
-length-numbers : (ps : List Piece) → length (numbersOf ps) ≡ 5 * length ps
+pub length-numbers : (ps : List Piece) → length (numbersOf ps) ≡ 5 * length ps
 unfolding numbersOf
 length-numbers [] = refl
 length-numbers (q ∷ ps) = let e = length-numbers ps in omega arith
 
 -- a piece for each run
-length-pieces : (services lengths : List ℕ) (k i : ℕ) (at : Filling) → length (piecesFrom services lengths k i at) ≡ k
+pub length-pieces : (services lengths : List ℕ) (k i : ℕ) (at : Filling) → length (piecesFrom services lengths k i at) ≡ k
 unfolding piecesFrom
 length-pieces services lengths zero i at = refl
 length-pieces services lengths (suc k) i at = ap suc (length-pieces services lengths k (suc i) (placedRun services lengths i at))

@@ -1,0 +1,6 @@
+pub mod Sorts
+pub mod Lays
+pub mod Kept
+pub mod Fits
+pub mod Told
+pub mod Packed
