@@ -5,12 +5,12 @@ use mathlib.Core.List.{List, [], _∷_, map, flatMap}
 use Prim.Native.Nat.{ℕ}
 use lib.ListN.{replicate}
 use Rattle.model.specs.Lists.{every, same}
-use Rattle.model.specs.Said.{Said, Outcome, gave, refused, putInto}
+use Rattle.model.specs.Said.{Outcome, gave, refused, putInto}
 use Rattle.model.specs.Block.{writtenHeader, writtenBlock, blockLength}
 use Rattle.model.specs.Packet.{blocksLength, packetLength, carriable, validPacket, latestOf, pushNew, pushAt, pushRunAt, pushRunBy}
-use Rattle.model_packing.specs.Pieces.{Piece, piecesOf, numbersOf, countFrom, runBytes, bytesOf, those, everyTwo, notAfter}
+use Rattle.model_packing.specs.Pieces.{piecesOf, numbersOf, countFrom, runBytes, bytesOf, those, everyTwo, notAfter}
 use Rattle.model_packing.specs.Proposals.{inside, holds, holders, heldOnce, covers, sentFrom, keepsOrder, ordered, withFirst, unsplit, liesIn, blockFor, blocksIn, runFits, runsFit, numbered, oneService, limits, checkProposal}
-use Rattle.model_packing.specs.FirstCome.{placed, piecesFrom, packetsFrom, firstCome, packetsFilled, packable, propose, Proposed}
+use Rattle.model_packing.specs.FirstCome.{placed, piecesFrom, packetsFrom, packetsFilled, packable, propose, Proposed}
 
 -- runs, by their services and their lengths
 pub record Runs : Type 0 where

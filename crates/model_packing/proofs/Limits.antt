@@ -2,18 +2,16 @@
 use mathlib.Core.Path.{_≡_, refl, sym, ap, _∙_}
 use mathlib.Core.Bool.{Bool, true, false, _&&_}
 use mathlib.Core.List.{List, [], _∷_, flatMap}
-use Prim.Native.Nat.{ℕ, zero, suc, _+_, _≤_, _<_}
+use Prim.Native.Nat.{ℕ}
 use native.Mathlib.Omega.{arith}
 use lib.Dec.{eqb, ltb}
-use lib.ListN.{length}
-use borrow.Author.Tests.{eqb-true, eqb-false, ltb-true, ne-eqb, eq-eqb}
+use borrow.Author.Tests.{eqb-true, eqb-false, ltb-true, ne-eqb}
 use Rattle.model.specs.Lists.{every}
-use Rattle.model.specs.Packet.{Packet, carriable, packetLength, validPacket}
-use Rattle.model.specs.Block.{Block}
-use Rattle.model.proofs.Cases.{by-test, both, and-both}
+use Rattle.model.specs.Packet.{packetLength, validPacket}
+use Rattle.model.proofs.Cases.{by-test, both}
 use Rattle.model_packing.specs.Pieces.{Piece, countFrom, those}
 use Rattle.model_packing.specs.Proposals.{mostNumbers, liesIn, piecesIn, blockFor, blocksIn, blankPacket, runsFit, numbered, oneService, limits}
-use Rattle.model_packing.proofs.Lists.{In, here, there, nothing-in, every-in, in-every, count-every, every-count, those-in}
+use Rattle.model_packing.proofs.Lists.{In, here, there, nothing-in, every-in, in-every, count-every, every-count}
 
 -- two truths, each of which follows from the other
 pub same-truth : (a b : Bool) → (a ≡ true → b ≡ true) → (b ≡ true → a ≡ true) → a ≡ b

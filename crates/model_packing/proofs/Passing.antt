@@ -4,12 +4,11 @@ use mathlib.Core.Bool.{Bool, true}
 use mathlib.Core.List.{List, []}
 use Prim.Native.Nat.{ℕ, zero, suc, _+_, _≤_, _<_}
 use native.Mathlib.Omega.{arith}
-use lib.Dec.{eqb, leb, ltb}
+use lib.Dec.{eqb, leb}
 use lib.ListN.{length, getD, length-replicate}
-use borrow.Author.Tests.{eq-eqb, le-leb, lt-ltb, le-ltb, eqb-true, eqb-false, leb-true, leb-false, ltb-false}
+use borrow.Author.Tests.{eq-eqb, le-leb, lt-ltb, le-ltb, eqb-true, eqb-false, leb-true, leb-false}
 use Rattle.model.specs.Lists.{every}
 use Rattle.model.specs.Said.{accepted}
-use Rattle.model.specs.Packet.{validPacket}
 use Rattle.model.proofs.Cases.{by-test, both, and-both, gives-at}
 use Rattle.model.proofs.Lists.{same-self}
 use Rattle.model.proofs.Packets.{Valid, facts-valid}

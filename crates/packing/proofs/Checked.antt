@@ -10,7 +10,7 @@ use lib.Dec.{ltb}
 use lib.ListN.{length, getD, take, drop}
 use lib.Seq.{take-at}
 use borrow.Author.Tests.{le-ltb}
-use Rattle.model.specs.Said.{Said, accepted, saysWith, mapped, after, putInto, badCover, overLimit}
+use Rattle.model.specs.Said.{Said, accepted, putInto, overLimit}
 use Rattle.model.proofs.Cases.{by-test}
 use Rattle.caption.specs.declared.Answer.{Answer}
 use Rattle.caption.specs.declared.Answer.the-variants.{Accepted, Refused}
@@ -18,7 +18,7 @@ use Rattle.caption.specs.declared.Refusal.the-variants.{BadCover, OverLimit}
 use Rattle.caption.specs.Answers.{saidAnswer}
 use Rattle.caption.proofs.Answers.{saidAnswer-injective}
 use Rattle.model_packing.specs.Pieces.{Piece, piecesOf, numbersOf, bytesOf}
-use Rattle.model_packing.specs.Proposals.{covers, mostRuns, checkProposal}
+use Rattle.model_packing.specs.Proposals.{mostRuns, checkProposal}
 use Rattle.model_packing.specs.FirstCome.{firstCome, packetsFilled, packable}
 use Rattle.model_packing.specs.FirstCome as model
 use Rattle.model_packing.proofs.Crowded.{crowded}
@@ -26,7 +26,7 @@ use Rattle.model_packing.proofs.Carried.{Delivers, accepted-delivers}
 use Rattle.model_packing.proofs.Passing.{passes, only-packable}
 use Rattle.packing.specs.declared.Proposal.{Proposal}
 use Rattle.packing.specs.declared.Proposal.the-variants as proposal
-use Rattle.packing.specs.Calls.{saidProposal, tellsOf, Proposes}
+use Rattle.packing.specs.Calls.{Proposes}
 use Rattle.packing.specs.Pushing.{Packets, Fresh, Pushes}
 use Rattle.packing.proofs.Pushed.{CarriesOut, proposal-pushed}
 use Rattle.packing.proofs.check.Reads as check

@@ -1,22 +1,19 @@
 -- What the first-come packer proposes is carried out by `push_code`: whatever results its contract allows, every push is accepted, and then each packet
 -- has exactly the blocks that the proposal describes. Assumes nothing.
-use mathlib.Core.Path.{_≡_, refl, sym, ap, subst, _∙_}
-use mathlib.Core.Bool.{Bool, true, false, cond}
+use mathlib.Core.Path.{_≡_, refl, sym, _∙_}
+use mathlib.Core.Bool.{true}
 use mathlib.Core.List.{List, [], _∷_, _++_, append-nil, append-assoc, map}
-use Prim.Native.Nat.{ℕ, zero, suc, _≤_, _<_}
-use native.Mathlib.Omega.{arith}
-use lib.Dec.{eqb, ltb}
+use Prim.Native.Nat.{ℕ, _≤_}
+use lib.Dec.{eqb}
 use lib.ListN.{length}
-use denote.Ref.{now}
-use borrow.Author.Tests.{eqb-true, eqb-false, eq-eqb, ne-eqb, le-ltb}
-use Rattle.model.specs.Lists.{every}
-use Rattle.model.specs.Said.{gave, accepted, says, checked}
+use contract.Lifetimes.{Lfts}
+use denote.Ref.{RefT, now}
+use borrow.Author.Tests.{eqb-true, eqb-false, le-ltb}
+use Rattle.model.specs.Said.{gave, checked}
 use Rattle.model.specs.Packet.{Packet, newPacket, pushRun}
-use Rattle.model.proofs.Cases.{by-test, by-cond, gives-at}
-use Rattle.model.proofs.Packets.{Valid}
+use Rattle.model.proofs.Cases.{by-cond}
 use Rattle.caption.specs.declared.Answer.{Answer}
 use Rattle.caption.specs.declared.Answer.the-variants.{Accepted}
-use Rattle.caption.specs.Answers.{saidAnswer}
 use Rattle.caption.proofs.Answers.{saidAnswer-injective}
 use Rattle.packet.specs.declared.DTVCCPacket.{DTVCCPacket}
 use Rattle.packet.specs.declared.PacketAnswer.{PacketAnswer}
@@ -33,7 +30,11 @@ use Rattle.model_packing.proofs.Accepted.{accepted-passes}
 use Rattle.model_packing.proofs.Carried.{piece-length}
 use Rattle.model_packing.proofs.AsProposed.{CarriedOut, pushed-as-proposed}
 use Rattle.model_packing.proofs.Passing.{passes}
-use Rattle.packing.specs.Pushing.{NewPacket, PushCode, Packets, Fresh, replaced, Pushes, no-piece, push-piece}
+use Rattle.packing.specs.Pushing.{NewPacket, Packets, Fresh, replaced, Pushes, no-piece, push-piece}
+
+-- bytes that are lent
+abbrev lent : List ℕ → RefT (List ℕ)
+lent bytes = record { ptr = (0, 0); name = 0; now = bytes }
 
 -- a packet that holds a packet of the model, within the limits
 pub record Keeps (p : DTVCCPacket) (m : Packet) : Type 0 where
@@ -49,22 +50,33 @@ fresh-keeps n few r a =
     let e : r .packet ≡ over blank (record { sequence = n; blocks = [] }) = rw (le-ltb 3 n few) at (a .places) in
     rw e (record { places = l .places; valid = l .valid; means = l .holds })
 
--- a push that the model accepts is accepted, and leaves what the model gives
-module _ (p : DTVCCPacket) (m : Packet) (k : Keeps p m) (s : ℕ) (run : List ℕ) (to : Packet) (takes : pushRun s run m ≡ gave to) (r : PacketAnswer)
-    (a : Answers (checked (validDTVCC p) (pushRun s run (packetOf p))) p r) where
+-- what the contract of a push allows
+abbrev pub Pushed : DTVCCPacket → ℕ → List ℕ → PacketAnswer → Type 0
+Pushed p s run r = Answers (checked (validDTVCC p) (pushRun s run (packetOf p))) p r
+
+-- a push that the model accepts
+module _ (p : DTVCCPacket) (m : Packet) (k : Keeps p m) (s : ℕ) (run : List ℕ) (to : Packet) (takes : pushRun s run m ≡ gave to) where
   taken-by : pushRun s run (packetOf p) ≡ gave to
   taken-by = rw (k .means) takes
 
-  answers : Answers (gave to) p r
-  answers = rw (k .valid, taken-by) at a
+  laid-there : Laid p to
+  laid-there = run-held p (k .valid) (k .places) true s run taken-by
 
-  pub push-accepted : r .answer ≡ Accepted
-  push-accepted = saidAnswer-injective (r .answer) Accepted (answers .answer)
+  -- has a result that is allowed
+  pub push-some : (r : PacketAnswer) × Pushed p s run r
+  push-some = (record { answer = Accepted; packet = over p to }, rw (k .valid, taken-by) (record { answer = refl; means = laid-there .holds; places = refl }))
 
-  pub push-keeps : Keeps (r .packet) to
-  push-keeps =
-      let l : Laid p to = run-held p (k .valid) (k .places) true s run taken-by in
-      rw (answers .places) (record { places = l .places; valid = l .valid; means = l .holds })
+  module _ (r : PacketAnswer) (a : Pushed p s run r) where
+    answers : Answers (gave to) p r
+    answers = rw (k .valid, taken-by) at a
+
+    -- any that is allowed accepts it,
+    pub push-accepted : r .answer ≡ Accepted
+    push-accepted = saidAnswer-injective (r .answer) Accepted (answers .answer)
+
+    -- and leaves what the model gives
+    pub push-keeps : Keeps (r .packet) to
+    push-keeps = let l = laid-there in rw (answers .places) (record { places = l .places; valid = l .valid; means = l .holds })
 
 -- packets that keep what pieces describe
 abbrev Described : List ℕ → List (List ℕ) → (ℕ → ℕ) → List Piece → Packets → Type 0
@@ -79,7 +91,7 @@ pub record CarriesOut (services : List ℕ) (runs : List (List ℕ)) (sequence :
 module _ (services : List ℕ) (runs : List (List ℕ)) (sequence : ℕ → ℕ) (proposal : List Piece) (out : CarriedOut services (bytesIn runs) proposal) where
   -- one push more
   one-more : (ps : List Piece) (q : Piece) (qs : List Piece) → proposal ≡ ps ++ (q ∷ qs) → (packets : Packets) → Described services runs sequence ps packets
-      → (r : PacketAnswer) → Answers (checked (validDTVCC (packets (q .packet))) (pushRun (serviceOf services (q .run)) (bytesIn runs q) (packetOf (packets (q .packet))))) (packets (q .packet)) r
+      → (r : PacketAnswer) → Pushed (packets (q .packet)) (serviceOf services (q .run)) (bytesIn runs q) r
       → (r .answer ≡ Accepted) × Described services runs sequence (ps ++ (q ∷ [])) (replaced packets (q .packet) (r .packet))
   unfolding replaced
   one-more ps q qs e packets keeps r a =
@@ -114,13 +126,32 @@ module _ (services : List ℕ) (runs : List (List ℕ)) (sequence : ℕ → ℕ)
       first-or r z f a (here i) = i ∙ z
       first-or r z f a (there i) = f a i
 
--- A proposal of the first-come packer is carried out by `push_code`, whatever the bytes of the runs and the sequence numbers of the packets are.
-pub proposal-pushed : (services : List ℕ) (runs : List (List ℕ)) → packable services (map length runs) ≡ true → (sequence : ℕ → ℕ) (packets : Packets) → Fresh sequence packets
-    → (told : List Answer) (end : Packets) → Pushes services runs (firstCome services (map length runs)) packets told end
-    → CarriesOut services runs sequence (firstCome services (map length runs)) told end
-proposal-pushed services runs ok sequence packets fresh told end calls =
-    let good = accepted-passes services (map length runs) (firstCome services (map length runs)) (passes services (map length runs) ok) in
-    let out = pushed-as-proposed services (map length runs) ok (bytesIn runs) (piece-length services runs (firstCome services (map length runs)) good) in
-    pushes-on services runs sequence (firstCome services (map length runs)) out [] (firstCome services (map length runs)) refl packets
-    (λ p. let m = fresh .made p in rw (m .2, out .begins p) (fresh-keeps (sequence p) (fresh .known p) (m .0) (m .1)))
-    told end calls
+  -- there are such calls
+  pushes-some : (κs : Lfts 1) (ps qs : List Piece) → proposal ≡ ps ++ qs → (packets : Packets) → Described services runs sequence ps packets
+      → (told : List Answer) × (end : Packets) × Pushes services runs qs packets told end
+  pushes-some κs ps [] e packets keeps = ([], packets, no-piece)
+  pushes-some κs ps (q ∷ qs) e packets keeps =
+      let some = push-some _ _ (keeps (q .packet)) (serviceOf services (q .run)) (bytesIn runs q) _ (out .taken ps q qs e (sequence (q .packet))) in
+      let r : PacketAnswer = some .0 in
+      let t = one-more ps q qs e packets keeps r (some .1) in
+      let more = pushes-some κs (ps ++ (q ∷ [])) qs (e ∙ sym (append-assoc ps (q ∷ []) qs)) (replaced packets (q .packet) (r .packet)) (t .1) in
+      (r .answer ∷ more .0, more .1, push-piece κs (lent (bytesIn runs q)) r refl (some .1) (more .2))
+
+-- the packer's proposal, and packets made anew
+module _ (services : List ℕ) (runs : List (List ℕ)) (ok : packable services (map length runs) ≡ true) (sequence : ℕ → ℕ) (packets : Packets) (fresh : Fresh sequence packets) where
+  abbrev all : List Piece
+  all = firstCome services (map length runs)
+
+  out : CarriedOut services (bytesIn runs) all
+  out = pushed-as-proposed services (map length runs) ok (bytesIn runs) (piece-length services runs all (accepted-passes services (map length runs) all (passes services (map length runs) ok)))
+
+  none-yet : Described services runs sequence [] packets
+  none-yet p = let m = fresh .made p in rw (m .2, out .begins p) (fresh-keeps (sequence p) (fresh .known p) (m .0) (m .1))
+
+  -- A proposal of the first-come packer is carried out by `push_code`, whatever the bytes of the runs and the sequence numbers of the packets are;
+  pub proposal-pushed : (told : List Answer) (end : Packets) → Pushes services runs all packets told end → CarriesOut services runs sequence all told end
+  proposal-pushed told end calls = pushes-on services runs sequence all out [] all refl packets none-yet told end calls
+
+  -- and there are calls that do so.
+  pub pushable : (κs : Lfts 1) → (told : List Answer) × (end : Packets) × Pushes services runs all packets told end
+  pushable κs = pushes-some services runs sequence all out κs [] all refl packets none-yet
