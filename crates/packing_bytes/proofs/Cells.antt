@@ -20,8 +20,8 @@ module _ (end at v : ℕ) (t : List ℕ) where
   abbrev pub filledLeft : List ℕ
   filledLeft = filled (end - at) at v t
 
-  -- at first all
   module _ (n : ℕ) where
+    -- at first all are left
     all-left : at + n - at ≡ n
     all-left = omega arith
 
@@ -32,6 +32,7 @@ module _ (end at v : ℕ) (t : List ℕ) where
     filled-first = rw all-left
 
   module _ (h : at < end) where
+    -- one cell, and the others
     left-one : end - at ≡ suc (end - (at + 1))
     left-one = omega arith
 
@@ -43,6 +44,7 @@ module _ (end at v : ℕ) (t : List ℕ) where
     unfolding filled
     filled-more whole e = e ∙ rw (left-one, next-is)
 
+    -- which is no more than the test asks for
     pub free-more : (whole : Bool) → whole ≡ freeLeft → getD t at 0 ≡ 0 → whole ≡ free (end - (at + 1)) (at + 1) v (set t at v)
     unfolding free
     free-more whole e z = e ∙ rw (left-one, next-is, eq-eqb (getD t at 0) 0 z)

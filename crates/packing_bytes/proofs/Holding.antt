@@ -17,7 +17,7 @@ use Rattle.packing_bytes.specs.Table.{cellOf, LowPiece, Empty, pieceAt, 
 use Rattle.packing_bytes.proofs.Cells.{length-filled, filled-in, filled-out, free-had, not-free}
 use Rattle.packing_bytes.proofs.Numbers.{noPiece, piece-at}
 
--- a byte in no piece has no holder,
+-- a byte without a holder is in no piece
 pub no-holder : (i : ℕ) (qs : List Piece) (x : Byte) → holderFrom i qs x ≡ 0 → holders x qs ≡ 0
 unfolding holderFrom holders
 no-holder i [] x e = refl
@@ -26,33 +26,34 @@ no-holder i (q ∷ qs) x e =
     (λ h. let z : suc i ≡ 0 = rw h at e in absurd (omega arith))
     (λ h. let z = no-holder (suc i) qs x (rw h at e) in rw h (omega arith))
 
--- and one with a holder is in a piece: that at this place, which tells when it is sent
+-- a byte with a holder: its place, that it is counted, and when the byte is sent
 pub record Held (i : ℕ) (qs : List Piece) (x : Byte) : Type 0 where
   pub at : ℕ
-  pub there : at < length qs
-  pub named : holderFrom i qs x ≡ suc (i + at)
+  pub reached : at < length qs
+  pub holder : holderFrom i qs x ≡ suc (i + at)
   pub counted : 1 ≤ holders x qs
   pub sends : sentFrom i qs x ≡ getD qs at noPiece .packet ∷ getD qs at noPiece .block ∷ (i + at) ∷ []
 
+-- a cell that has not 0 names such a one
 pub held-at : (i : ℕ) (qs : List Piece) (x : Byte) → (holderFrom i qs x ≡ 0 → ⊥) → Held i qs x
 unfolding holderFrom holders sentFrom
 held-at i [] x f = absurd (f refl)
 held-at i (q ∷ qs) x f =
     by-test (holds x q)
-    (λ h. let z : i + 0 ≡ i = omega arith in record { at = 0; there = omega arith; named = rw (h, z); counted = rw h (omega arith); sends = rw (h, z) })
+    (λ h. let z : i + 0 ≡ i = omega arith in record { at = 0; reached = omega arith; holder = rw (h, z); counted = rw h (omega arith); sends = rw (h, z) })
     (λ h.
     let w = held-at (suc i) qs x (rw h at f) in
     let z : i + suc (w .at) ≡ suc i + w .at = omega arith in
     record {
       at = suc (w .at);
-      there = omega (arith, w .there);
-      named = rw (h, z) (w .named);
+      reached = omega (arith, w .reached);
+      holder = rw (h, z) (w .holder);
       counted = rw h (omega (arith, w .counted));
       sends = rw (h, z) (w .sends);
     })
 
--- what it is for a byte to be in a piece
 module _ (x : Byte) (q : Piece) where
+  -- a byte that is in a piece: its run, and where it stands there
   holds-tells : holds x q ≡ true → (q .run ≡ x .run) × (q .first ≤ x .place) × (x .place < q .first + q .size)
   unfolding holds
   holds-tells e =
@@ -60,11 +61,12 @@ module _ (x : Byte) (q : Piece) where
       let b = both (leb (q .first) (x .place)) _ (a .1) in
       (eqb-true _ _ (a .0), leb-true _ _ (b .0), ltb-true _ _ (b .1))
 
+  -- and so it is in the piece
   holds-made : q .run ≡ x .run → q .first ≤ x .place → x .place < q .first + q .size → holds x q ≡ true
   unfolding holds
   holds-made e f g = rw (eq-eqb _ _ e, le-leb _ _ f, lt-ltb _ _ g)
 
--- what it is for a piece to be inside
+-- a piece that is inside: its run is there, and so are its bytes
 inside-tells : (services lengths : List ℕ) (q : Piece) → inside services lengths q ≡ true → (q .run < length services) × (q .first + q .size ≤ getD lengths (q .run) 0)
 unfolding inside
 inside-tells services lengths q e =
@@ -133,19 +135,21 @@ tells-first services lengths t ps n e z =
 pub tells-all : (services lengths t : List ℕ) (ps : List Piece) (n : ℕ) → n ≤ 0 → Tells services lengths t n (drop n ps) → Tells services lengths t 0 ps
 tells-all services lengths t ps n h T = let z : n ≡ 0 = omega arith in rw z at T
 
--- what is wrong with a part is wrong with the whole
+-- a byte that is in some pieces of a part is in as many of the whole, or more
 holders-part : (x : Byte) (i : ℕ) (ps : List Piece) → holders x (drop i ps) ≤ holders x ps
 unfolding holders
 holders-part x i [] = rw (drop-nil {A = Piece} i) (omega arith)
 holders-part x zero (q ∷ ps) = omega arith
 holders-part x (suc i) (q ∷ ps) = omega (arith, holders-part x i ps)
 
+-- the piece at a place is one of the list
 in-at : (i : ℕ) (ps : List Piece) → i < length ps → In (getD ps i noPiece) ps
 in-at i [] h = absurd (omega arith)
 in-at zero (q ∷ ps) h = here refl
 in-at (suc i) (q ∷ ps) h = there (in-at i ps (omega arith))
 
 module _ (services lengths : List ℕ) (ps : List Piece) where
+  -- a piece that is not inside
   pub outside-uncovered : (i : ℕ) → i < length ps → inside services lengths (getD ps i noPiece) ≡ false → covers services lengths ps ≡ false
   unfolding covers
   outside-uncovered i h e =
@@ -153,6 +157,7 @@ module _ (services lengths : List ℕ) (ps : List Piece) where
       (λ a. absurd (false≢true (sym e ∙ every-in (inside services lengths) ps a (in-at i ps h))))
       (λ a. rw a)
 
+  -- a byte in two pieces
   pub twice-uncovered : (x : Byte) → In x (bytesOf services lengths) → 2 ≤ holders x ps → covers services lengths ps ≡ false
   unfolding covers heldOnce
   twice-uncovered x i h =
@@ -167,38 +172,44 @@ module _ (services lengths l t : List ℕ) (few : length services ≤ 256) (n : 
     (T : Tells services lengths t n (drop n (piecesOf l)))
     (a : Bool) (ins : a ≡ inside services lengths (pieceAt l (n - 1)))
   where
+    -- there is one more piece
     here-is : n - 1 < length (piecesOf l)
     here-is = omega arith
 
-    named : inside services lengths (getD (piecesOf l) (n - 1) noPiece) ≡ a
-    named = ap (inside services lengths) (piece-at l (n - 1) here-is) ∙ sym ins
+    -- it is the one whose numbers are read
+    inside-is : inside services lengths (getD (piecesOf l) (n - 1) noPiece) ≡ a
+    inside-is = ap (inside services lengths) (piece-at l (n - 1) here-is) ∙ sym ins
 
     -- a piece that is not inside
     pub fill-outside : not a ≡ true → covers services lengths (piecesOf l) ≡ false
-    fill-outside e = outside-uncovered services lengths (piecesOf l) (n - 1) here-is (named ∙ not-true a e)
+    fill-outside e = outside-uncovered services lengths (piecesOf l) (n - 1) here-is (inside-is ∙ not-true a e)
 
     module _ (yes : not a ≡ false) (low : a ≡ true → LowPiece (pieceAt l (n - 1)))
         (b : Bool) (fr : b ≡ free (pieceAt l (n - 1) .size) (cellOf (pieceAt l (n - 1))) (n - 1 + 1) t)
       where
+        -- it is inside
         is : inside services lengths (pieceAt l (n - 1)) ≡ true
         is = sym ins ∙ not-false a yes
 
+        -- its place, and one more
         at-next : n ≡ suc (n - 1)
         at-next = omega arith
 
         the-value : n - 1 + 1 ≡ suc (n - 1)
         the-value = omega arith
 
+        -- the pieces from it on
         from-here : drop (n - 1) (piecesOf l) ≡ pieceAt l (n - 1) ∷ drop (suc (n - 1)) (piecesOf l)
         from-here = drop-cons (piecesOf l) (n - 1) noPiece here-is ∙ rw (piece-at l (n - 1) here-is)
 
-        before : Tells services lengths t (suc (n - 1)) (drop (suc (n - 1)) (piecesOf l))
-        before = subst (λ (m : ℕ). Tells services lengths t m (drop m (piecesOf l))) at-next T
+        -- and the table that tells of those behind it
+        behind : Tells services lengths t (suc (n - 1)) (drop (suc (n - 1)) (piecesOf l))
+        behind = subst (λ (m : ℕ). Tells services lengths t m (drop m (piecesOf l))) at-next T
 
         -- a piece with a byte that a later one has
         pub fill-twice : not b ≡ true → covers services lengths (piecesOf l) ≡ false
         fill-twice e =
-            let w = tells-twice services lengths t few (n - 1) (pieceAt l (n - 1)) (drop (suc (n - 1)) (piecesOf l)) before is (low (not-false a yes))
+            let w = tells-twice services lengths t few (n - 1) (pieceAt l (n - 1)) (drop (suc (n - 1)) (piecesOf l)) behind is (low (not-false a yes))
             (ap (λ (v : ℕ). free (pieceAt l (n - 1) .size) (cellOf (pieceAt l (n - 1))) v t) (sym the-value) ∙ sym fr ∙ not-true b e) in
             let h : 2 ≤ holders (w .0) (drop (n - 1) (piecesOf l)) = rw from-here (w .2) in
             twice-uncovered services lengths (piecesOf l) (w .0) (w .1) (omega (arith, holders-part (w .0) (n - 1) (piecesOf l)))
@@ -208,7 +219,7 @@ module _ (services lengths l t : List ℕ) (few : length services ≤ 256) (n : 
             → Tells services lengths u (n - 1) (drop (n - 1) (piecesOf l))
         fill-more e u f =
             rw from-here
-            (tells-more services lengths t few (n - 1) (pieceAt l (n - 1)) (drop (suc (n - 1)) (piecesOf l)) before is (low (not-false a yes))
+            (tells-more services lengths t few (n - 1) (pieceAt l (n - 1)) (drop (suc (n - 1)) (piecesOf l)) behind is (low (not-false a yes))
             (ap (λ (v : ℕ). free (pieceAt l (n - 1) .size) (cellOf (pieceAt l (n - 1))) v t) (sym the-value) ∙ sym fr ∙ not-false b e)
             u
             (f (not-false b e) ∙ ap (λ (v : ℕ). filled (pieceAt l (n - 1) .size) (cellOf (pieceAt l (n - 1))) v t) the-value))

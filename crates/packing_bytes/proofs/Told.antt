@@ -69,9 +69,9 @@ module _ (services lengths l t : List ℕ) (R : Runs services lengths) (T : Tell
         let e = told-is x i in
         let p : 0 < told t x = ltb-true 0 (told t x) (every-in (hasHolder t) (bytesOf services lengths) all i) in
         let h = held-at 0 (piecesOf l) x (λ q. absurd (omega arith)) in
-        let w : told t x - 1 ≡ h .at = omega (arith, h .named) in
+        let w : told t x - 1 ≡ h .at = omega (arith, h .holder) in
         let z : 0 + h .at ≡ h .at = omega arith in
-        h .sends ∙ rw (piece-at l (h .at) (h .there), w, z)
+        h .sends ∙ rw (piece-at l (h .at) (h .reached), w, z)
 
     -- and the order of every two is the order that the walk asks for
     pub ordered-told : follow services l t (replicate 256 0) (bytesOf services lengths) ≡ ordered services lengths (piecesOf l)
@@ -116,7 +116,7 @@ module _ (services lengths l : List ℕ) where
       said-unheld e = said-uncovered (R .few) (covers-told services lengths l t R T ∙ sym is ∙ not-true a e)
 
       module _ (yes : not a ≡ false)
-          (b : Bool) (goes : b ≡ follow services l t (replicate 256 0) (bytesOf services lengths))
+          (b : Bool) (kept-is : b ≡ follow services l t (replicate 256 0) (bytesOf services lengths))
         where
           all : every (hasHolder t) (bytesOf services lengths) ≡ true
           all = sym is ∙ not-false a yes
@@ -125,7 +125,7 @@ module _ (services lengths l : List ℕ) where
           covered = covers-told services lengths l t R T ∙ all
 
           in-order : ordered services lengths (piecesOf l) ≡ b
-          in-order = sym (goes ∙ ordered-told services lengths l t R T all)
+          in-order = sym (kept-is ∙ ordered-told services lengths l t R T all)
 
           -- bytes that do not keep their order
           pub said-unordered : not b ≡ true → outOfOrder ≡ bytesSaid services lengths (piecesOf l)

@@ -15,7 +15,7 @@ unfoldable pub bytesFrom : List ℕ → ℕ → ℕ → ℕ → List Byte
 bytesFrom lengths zero r k = []
 bytesFrom lengths (suc m) r k = map (byte r) (countFrom k (getD lengths r 0 - k)) ++ flatMap (runBytes lengths) (countFrom (suc r) m)
 
--- without none of them
+-- without none of its bytes they are the bytes of these runs
 from-start : (lengths : List ℕ) (m r : ℕ) → flatMap (runBytes lengths) (countFrom r m) ≡ bytesFrom lengths m r 0
 unfolding countFrom runBytes flatMap bytesFrom
 from-start lengths zero r = refl
@@ -47,6 +47,7 @@ module _ (services lengths : List ℕ) where
     bytes-none h = let z : length services - r ≡ 0 = omega arith in rw z
 
     module _ (h : r < length services) where
+      -- this run, and the others
       runs-left : length services - r ≡ suc (length services - (r + 1))
       runs-left = omega arith
 
@@ -131,10 +132,10 @@ module _ (services lengths : List ℕ) where
       pub follow-next : m ≤ k → whole ≡ follow services l t last (bytesLeft (r + 1) 0)
       follow-next g = e ∙ ap (follow services l t last) (bytes-next r k h (omega arith))
 
-      module _ (g : k < m) (s : ℕ) (of : s ≡ getD services r 0) (b : Bool) (goes : b ≡ follows l (getD last s 0) (getD t (256 * r + k) 0)) where
+      module _ (g : k < m) (s : ℕ) (of : s ≡ getD services r 0) (b : Bool) (kept-is : b ≡ follows l (getD last s 0) (getD t (256 * r + k) 0)) where
         follow-here : whole ≡ b && follow services l t (set last s (getD t (256 * r + k) 0)) (bytesLeft r (k + 1))
         unfolding follow
-        follow-here = e ∙ ap (follow services l t last) (bytes-more r k h (omega arith)) ∙ rw (goes, of)
+        follow-here = e ∙ ap (follow services l t last) (bytes-more r k h (omega arith)) ∙ rw (kept-is, of)
 
         pub follow-more : not b ≡ false → whole ≡ follow services l t (set last s (getD t (256 * r + k) 0)) (bytesLeft r (k + 1))
         follow-more f = follow-here ∙ rw (not-false b f)
