@@ -1,20 +1,19 @@
 -- What is kept of a job, and how many bytes are beyond modulo 5, decide what is told of it: there are then more pieces than bytes to cover. Assumes
 -- nothing.
 use mathlib.Core.Path.{_≡_, refl, sym, ap, subst, _∙_}
-use mathlib.Core.Bool.{true, false}
 use mathlib.Core.List.{List, [], _∷_, _++_, map, flatMap, append-nil}
 use Prim.Native.Nat.{ℕ, zero, suc, _+_, _-_, _*_, _%_, _≤_, _<_}
 use native.Mathlib.Omega.{arith}
-use lib.Dec.{eqb, leb, ltb}
-use lib.ListN.{length, getD, take, drop, length-append, length-take, length-drop, length-replicate, getD-replicate, List·getD-append, List·getD-eq-default}
+use lib.Dec.{eqb, ltb}
+use lib.ListN.{length, getD, take, drop, length-append, length-map, length-take, length-drop, length-replicate, getD-replicate, List·getD-append, List·getD-eq-default}
 use lib.Seq.{getD-take, getD-drop, getD-append-add, take-append-le, drop-append-le}
 use borrow.Author.Tests.{ltb-true, ltb-false, eqb-true, le-ltb, ne-eqb}
 use Rattle.model.specs.Said.{badCover}
 use Rattle.model.proofs.Cases.{by-test, by-cond}
 use Rattle.model_packing.specs.Pieces.{Byte, byte, piecesOf, countFrom, runBytes, bytesOf}
-use Rattle.model_packing.specs.Proposals.{blank, mostRuns, covers, checkProposal}
+use Rattle.model_packing.specs.Proposals.{blank, mostRuns, checkProposal}
 use Rattle.model_packing.proofs.Crowded.{crowded}
-use Rattle.ccpack_report.specs.Lines.{answerLine, packedText}
+use Rattle.ccpack_report.specs.Lines.{answerLine}
 use Rattle.ccpack_report.specs.Jobs.{headLength, checkJob, proposeJob, jobOf, jobIn, runsIn, servicesIn, lengthsIn, numbersIn, checkedText, toldOf, jobText, mostKept, heard}
 use Rattle.ccpack_report.specs.declared.Job.{Job}
 use Rattle.ccpack_report.specs.declared.Job.the-variants.{Bad, TooMany, Check, Propose}
@@ -60,15 +59,11 @@ unfolding countFrom
 length-count a zero = refl
 length-count a (suc n) = ap suc (length-count (suc a) n)
 
-length-map : (f : ℕ → Byte) (l : List ℕ) → length (map f l) ≡ length l
-length-map f [] = refl
-length-map f (x ∷ l) = ap suc (length-map f l)
-
 runs-most : (lengths : List ℕ) → Bytes lengths → (l : List ℕ) → length (flatMap (runBytes lengths) l) ≤ 255 * length l
 unfolding flatMap runBytes
 runs-most lengths b [] = omega arith
 runs-most lengths b (r ∷ l) =
-    let n = length-map (byte r) (countFrom 0 (getD lengths r 0)) ∙ length-count 0 (getD lengths r 0) in
+    let n = length-map (countFrom 0 (getD lengths r 0)) (byte r) ∙ length-count 0 (getD lengths r 0) in
     rw (length-append (map (byte r) (countFrom 0 (getD lengths r 0))) (flatMap (runBytes lengths) l)) (omega (arith, n, b r, runs-most lengths b l))
 
 bytes-most : (services lengths : List ℕ) → Bytes lengths → length (bytesOf services lengths) ≤ 255 * length services

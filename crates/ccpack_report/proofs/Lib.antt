@@ -4,3 +4,4 @@ pub mod Kept
 pub mod Fits
 pub mod Told
 pub mod Packed
+pub mod Examples

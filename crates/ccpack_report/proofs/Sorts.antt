@@ -1,5 +1,5 @@
 -- What a job is, one law for each way out of the tests on it, and a job of which bytes are beyond what is kept. Assumes nothing.
-use mathlib.Core.Path.{_≡_, refl, sym, ap, _∙_}
+use mathlib.Core.Path.{_≡_, ap, _∙_}
 use mathlib.Core.List.{List, _++_}
 use Prim.Native.Nat.{ℕ, _+_, _-_, _*_, _%_, _≤_, _<_}
 use native.Mathlib.Omega.{arith}
@@ -8,7 +8,7 @@ use lib.ListN.{length, getD, length-append, length-replicate, List·getD-append}
 use borrow.Author.Tests.{ltb-true, ltb-false, lt-ltb, le-ltb, eq-eqb, ne-eqb}
 use Rattle.model.proofs.Cases.{by-test}
 use Rattle.model_packing.specs.Proposals.{blank}
-use Rattle.ccpack_report.specs.Jobs.{headLength, checkJob, proposeJob, jobOf, jobIn, runsIn, mostKept, heard, heardLength}
+use Rattle.ccpack_report.specs.Jobs.{checkJob, proposeJob, jobOf, jobIn, mostKept, heard, heardLength}
 use Rattle.ccpack_report.specs.declared.Job.{Job}
 use Rattle.ccpack_report.specs.declared.Job.the-variants.{Bad, TooMany, Check, Propose}
 

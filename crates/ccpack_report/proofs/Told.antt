@@ -1,5 +1,5 @@
 -- What is told of a job, by what it is. Assumes nothing.
-use mathlib.Core.Path.{_≡_, sym, ap, subst, _∙_}
+use mathlib.Core.Path.{_≡_, sym, subst, _∙_}
 use mathlib.Core.List.{List}
 use Prim.Native.Nat.{ℕ, _+_, _*_, _≤_}
 use native.Mathlib.Omega.{arith}
@@ -12,7 +12,7 @@ use Rattle.model_packing.specs.Pieces.{piecesOf}
 use Rattle.model_packing.specs.Proposals.{checkProposal}
 use Rattle.program_text.specs.Laid.{Laid}
 use Rattle.ccpack_report.specs.Lines.{badLine, answerLine, packedText}
-use Rattle.ccpack_report.specs.Jobs.{headLength, jobIn, servicesIn, lengthsIn, checkedText, toldOf, jobText, heard}
+use Rattle.ccpack_report.specs.Jobs.{headLength, jobIn, checkedText, toldOf, jobText, heard}
 use Rattle.ccpack_report.specs.declared.Job.{Job}
 use Rattle.ccpack_report.specs.declared.Job.the-variants.{Bad, TooMany, Check, Propose}
 use Rattle.ccpack_report.proofs.Kept.{Bytes, Sized, sized, checked-kept, proposed-kept}

@@ -6,7 +6,7 @@ use lib.ListN.{length}
 use Rattle.model.specs.Said.{Said, overLimit}
 use Rattle.model_packing.specs.Pieces.{Piece}
 use Rattle.model_packing.specs.FirstCome.{firstCome, packetsFilled, packable}
-use Rattle.program_text.specs.Text.{word, decimal}
+use Rattle.program_text.specs.Text.{word}
 use Rattle.program_lines.specs.Lines.{valueText, answerText, endLine}
 
 -- what is no job

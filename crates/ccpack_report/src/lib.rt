@@ -1,8 +1,8 @@
 // What `ccpack` prints for a job: the answer to a proposal, or the lines of one that it makes. Lines are laid into a lent buffer from a place on and
 // as far as there is room; each function that lays some answers the place behind them.
 ghost use mathlib.Core.Path.{_≡_};
-ghost use Prim.Native.Nat.{_+_, _*_, _<_, _≤_};
-ghost use lib.ListN.{length, getD};
+ghost use Prim.Native.Nat.{_<_, _≤_};
+ghost use lib.ListN.{length};
 ghost use Rattle.caption.specs.Answers.{saidAnswer};
 ghost use Rattle.model_packing.specs.Pieces.{piecesOf};
 ghost use Rattle.program_text.specs.Laid.{Laid};
