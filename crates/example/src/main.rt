@@ -136,10 +136,10 @@ fn tell_run(answer: Answer) {
 fn tell_proposal(answer: Answer) {
     match answer {
         Answer::Accepted => {
-            io::write_all(STDOUT_FILENO, b"it can be carried out\n");
+            io::write_all(STDOUT_FILENO, b"accepted\n");
         }
         Answer::Refused(_) => {
-            io::write_all(STDOUT_FILENO, b"it cannot be carried out\n");
+            io::write_all(STDOUT_FILENO, b"refused\n");
         }
     }
 }
