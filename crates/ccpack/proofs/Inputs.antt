@@ -9,43 +9,43 @@ use lib.ListN.{length, take, drop, length-append, length-drop, take-append-drop}
 use lib.Seq.{length-take-le, take-all, take-append-le}
 use borrow.Author.Tests.{ltb-true, ltb-false, eq-eqb, ne-eqb}
 use Rattle.model.proofs.Cases.{by-test}
-use Rattle.model_packing.specs.Proposals.{blank}
+use Rattle.model_packing.specs.Proposals.{zeros}
 use Rattle.program_text.specs.Laid.{Laid}
 use Rattle.program_text.proofs.Layings.{laid-whole, whole-taken}
 use Rattle.program_streams.specs.Walk.{Follow}
 use Rattle.program_streams.proofs.Inputs.{given}
-use Rattle.ccpack_report.specs.Jobs.{jobText, mostKept, heard}
-use Rattle.ccpack_report.proofs.Sorts.{heard-kept, heard-beyond}
+use Rattle.ccpack_report.specs.Jobs.{jobText, mostKept, keptJob}
+use Rattle.ccpack_report.proofs.Sorts.{kept-whole, kept-beyond}
 use Rattle.ccpack_report.proofs.Kept.{Bytes, bytes-part, kept-tells}
-use Rattle.ccpack_report.proofs.Fits.{heard-fits}
+use Rattle.ccpack_report.proofs.Fits.{kept-job-fits}
 use Rattle.ccpack.specs.declared.Reading.{Reading}
 use Rattle.ccpack.specs.Input.{Leaves, unreadYet, Tells, Steps, Ran}
 
 module _ (buf : List ℕ) (bytes : Bytes buf) (s : Reading) where
   -- what is kept of an input tells what is told of it
-  heard-told : (input : List ℕ) → Leaves input buf s → jobText (heard (take (s .have) buf) (s .over)) ≡ jobText input
-  heard-told input l =
+  kept-told : (input : List ℕ) → Leaves input buf s → jobText (keptJob (take (s .have) buf) (s .over)) ≡ jobText input
+  kept-told input l =
       by-test (ltb (length input) mostKept)
       (λ t. let h : length input < mostKept = ltb-true _ _ t in
       let e : take (s .have) buf ≡ input = l .kept ∙ take-all (s .have) input (omega (arith, l .have)) in
       let k : length (take (s .have) buf) < mostKept = omega (arith, ap length e) in
-      ap jobText (heard-kept (take (s .have) buf) (s .over) k ∙ e))
+      ap jobText (kept-whole (take (s .have) buf) (s .over) k ∙ e))
       (λ t. let h : mostKept ≤ length input = ltb-false _ _ t in
       let n : length (take (s .have) buf) ≡ mostKept = ap length (l .kept) ∙ length-take-le (s .have) input (omega (arith, l .have)) ∙ omega (arith, l .have) in
       let d : length (drop (s .have) input) ≡ length input - s .have = length-drop (s .have) input in
       let o : s .over % 5 ≡ length (drop (s .have) input) % 5 = omega (arith, d, l .over) in
       let whole : take (s .have) buf ++ drop (s .have) input ≡ input = ap (λ (x : List ℕ). x ++ drop (s .have) input) (l .kept) ∙ take-append-drop (s .have) input in
-      ap jobText (heard-beyond (take (s .have) buf) (s .over) (omega (arith, n)) ∙ ap (λ (k : ℕ). take (s .have) buf ++ blank k) o)
+      ap jobText (kept-beyond (take (s .have) buf) (s .over) (omega (arith, n)) ∙ ap (λ (k : ℕ). take (s .have) buf ++ zeros k) o)
       ∙ sym (kept-tells (take (s .have) buf) (drop (s .have) input) n (bytes-part buf (s .have) 0 bytes)) ∙ ap jobText whole)
 
   -- and there is room for it
-  pub tells : {job out after text : List ℕ} {end : ℕ} → 8192 ≤ length out → job ≡ take (s .have) (drop 0 buf) → Laid (jobText (heard job (s .over))) out 0 end after
+  pub tells : {job out after text : List ℕ} {end : ℕ} → 8192 ≤ length out → job ≡ take (s .have) (drop 0 buf) → Laid (jobText (keptJob job (s .over))) out 0 end after
       → text ≡ take end (drop 0 after) → Tells text buf s
   tells {job} {out} {after} {text} {end} room j w e input l =
-      let fits : 0 + length (jobText (heard (take (s .have) buf) (s .over))) ≤ length out =
-      omega (arith, heard-fits (take (s .have) buf) (s .over) (bytes-part buf (s .have) 0 bytes)) in
-      let v : Laid (jobText (heard (take (s .have) buf) (s .over))) out 0 end after = rw j at w in
-      e ∙ whole-taken (laid-whole v fits) (omega arith) ∙ heard-told input l
+      let fits : 0 + length (jobText (keptJob (take (s .have) buf) (s .over))) ≤ length out =
+      omega (arith, kept-job-fits (take (s .have) buf) (s .over) (bytes-part buf (s .have) 0 bytes)) in
+      let v : Laid (jobText (keptJob (take (s .have) buf) (s .over))) out 0 end after = rw j at w in
+      e ∙ whole-taken (laid-whole v fits) (omega arith) ∙ kept-told input l
 
 -- bytes that a read gave are some, or none
 going-on : (n : ℕ) (bytes : List ℕ) → length bytes ≡ n → ltb 0 n ≡ not (eqb (length bytes) 0)

@@ -23,10 +23,10 @@ use Rattle.program_text.specs.Text.{word, decimal, decimalIn, digit}
 use Rattle.program_text.proofs.Decimals.{digits-most}
 use Rattle.program_lines.specs.Lines.{valueText, valuesText, answerText, endLine}
 use Rattle.ccpack_report.specs.Lines.{answerLine, packetsLine, pieceLine, pieceLines, proposalLines, packedText}
-use Rattle.ccpack_report.specs.Jobs.{jobIn, servicesIn, lengthsIn, numbersIn, checkedText, toldOf, jobText, heard}
+use Rattle.ccpack_report.specs.Jobs.{jobIn, servicesIn, lengthsIn, numbersIn, checkedText, toldOf, jobText, keptJob}
 use Rattle.ccpack_report.specs.declared.Job.{Job}
 use Rattle.ccpack_report.specs.declared.Job.the-variants.{Bad, TooMany, Check, Propose}
-use Rattle.ccpack_report.proofs.Kept.{Bytes, bytes-part, bytes-heard}
+use Rattle.ccpack_report.proofs.Kept.{Bytes, bytes-part, bytes-kept}
 
 -- a number of one byte, after a space
 value-fits : (n : ℕ) → n ≤ 256 → length (valueText n) ≤ 4
@@ -133,5 +133,5 @@ unfolding jobText
 job-fits job b = told-fits (jobIn job) job b
 
 -- The text of a job of which bytes are beyond what is kept.
-pub heard-fits : (job : List ℕ) (over : ℕ) → Bytes job → length (jobText (heard job over)) ≤ 8192
-heard-fits job over b = job-fits (heard job over) (bytes-heard job over b)
+pub kept-job-fits : (job : List ℕ) (over : ℕ) → Bytes job → length (jobText (keptJob job over)) ≤ 8192
+kept-job-fits job over b = job-fits (keptJob job over) (bytes-kept job over b)

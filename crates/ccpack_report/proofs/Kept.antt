@@ -11,13 +11,13 @@ use borrow.Author.Tests.{ltb-true, ltb-false, eqb-true, le-ltb, ne-eqb}
 use Rattle.model.specs.Said.{badCover}
 use Rattle.model.proofs.Cases.{by-test, by-cond}
 use Rattle.model_packing.specs.Pieces.{Byte, byte, piecesOf, countFrom, runBytes, bytesOf}
-use Rattle.model_packing.specs.Proposals.{blank, mostRuns, checkProposal}
+use Rattle.model_packing.specs.Proposals.{zeros, mostRuns, checkProposal}
 use Rattle.model_packing.proofs.Crowded.{crowded}
 use Rattle.ccpack_report.specs.Lines.{answerLine}
-use Rattle.ccpack_report.specs.Jobs.{headLength, checkJob, proposeJob, jobOf, jobIn, runsIn, servicesIn, lengthsIn, numbersIn, checkedText, toldOf, jobText, mostKept, heard}
+use Rattle.ccpack_report.specs.Jobs.{headLength, checkJob, proposeJob, jobOf, jobIn, runsIn, servicesIn, lengthsIn, numbersIn, checkedText, toldOf, jobText, mostKept, keptJob}
 use Rattle.ccpack_report.specs.declared.Job.{Job}
 use Rattle.ccpack_report.specs.declared.Job.the-variants.{Bad, TooMany, Check, Propose}
-use Rattle.ccpack_report.proofs.Sorts.{heard-kept, heard-beyond}
+use Rattle.ccpack_report.proofs.Sorts.{kept-whole, kept-beyond}
 
 -- numbers of one byte each
 abbrev pub Bytes : List ℕ → Type 0
@@ -32,26 +32,26 @@ bytes-part l n m b i =
     rw (List·getD-eq-default (take n (drop m l)) 0 h) (omega arith))
 
 -- such numbers, and zeros behind them
-bytes-blank : (l : List ℕ) (n : ℕ) → Bytes l → Bytes (l ++ blank n)
+bytes-blank : (l : List ℕ) (n : ℕ) → Bytes l → Bytes (l ++ zeros n)
 bytes-blank l n b i =
     by-test (ltb i (length l))
-    (λ t. rw (List·getD-append l (blank n) 0 i (ltb-true _ _ t)) (b i))
+    (λ t. rw (List·getD-append l (zeros n) 0 i (ltb-true _ _ t)) (b i))
     (λ t. let h : length l ≤ i = ltb-false _ _ t in
     let e : i ≡ length l + (i - length l) = omega arith in
-    let z : getD (l ++ blank n) i 0 ≡ getD (blank n) (i - length l) 0 =
-    ap (λ (k : ℕ). getD (l ++ blank n) k 0) e ∙ getD-append-add l (blank n) (i - length l) 0 in
+    let z : getD (l ++ zeros n) i 0 ≡ getD (zeros n) (i - length l) 0 =
+    ap (λ (k : ℕ). getD (l ++ zeros n) k 0) e ∙ getD-append-add l (zeros n) (i - length l) 0 in
     rw (z, blank-at n (i - length l)) (omega arith))
   where
-    blank-at : (n i : ℕ) → getD (blank n) i 0 ≡ 0
+    blank-at : (n i : ℕ) → getD (zeros n) i 0 ≡ 0
     blank-at n i =
         by-test (ltb i n) (λ t. getD-replicate n i 0 0 (ltb-true _ _ t))
-        (λ t. let h : length (blank n) ≤ i = rw length-replicate (ltb-false _ _ t) in List·getD-eq-default (blank n) 0 h)
+        (λ t. let h : length (zeros n) ≤ i = rw length-replicate (ltb-false _ _ t) in List·getD-eq-default (zeros n) 0 h)
 
-pub bytes-heard : (job : List ℕ) (over : ℕ) → Bytes job → Bytes (heard job over)
-bytes-heard job over b =
+pub bytes-kept : (job : List ℕ) (over : ℕ) → Bytes job → Bytes (keptJob job over)
+bytes-kept job over b =
     by-test (ltb (length job) mostKept)
-    (λ t. subst Bytes (sym (heard-kept job over (ltb-true _ _ t))) b)
-    (λ t. subst Bytes (sym (heard-beyond job over (ltb-false _ _ t))) (bytes-blank job (over % 5) b))
+    (λ t. subst Bytes (sym (kept-whole job over (ltb-true _ _ t))) b)
+    (λ t. subst Bytes (sym (kept-beyond job over (ltb-false _ _ t))) (bytes-blank job (over % 5) b))
 
 -- how many bytes runs have
 length-count : (a n : ℕ) → length (countFrom a n) ≡ n
@@ -185,25 +185,25 @@ module _ (job : List ℕ) (bytes : Bytes job) (long : mostKept ≤ length job) w
   text-beyond x y e = told-modulo x y (jobIn (job ++ x)) (sized (job ++ x)) ∙ ap (λ (j : Job). toldOf j (job ++ y)) (job-beyond x y e)
 
 -- What is told of an input is told of what is kept of it, and of as many bytes as there are beyond modulo 5, whatever they say.
-pub kept-tells : (job rest : List ℕ) → length job ≡ mostKept → Bytes job → jobText (job ++ rest) ≡ jobText (job ++ blank (length rest % 5))
+pub kept-tells : (job rest : List ℕ) → length job ≡ mostKept → Bytes job → jobText (job ++ rest) ≡ jobText (job ++ zeros (length rest % 5))
 kept-tells job rest e b =
-    let n : length (blank (length rest % 5)) ≡ length rest % 5 = length-replicate (length rest % 5) 0 in
-    text-beyond job b (omega arith) rest (blank (length rest % 5)) (omega (arith, n))
+    let n : length (zeros (length rest % 5)) ≡ length rest % 5 = length-replicate (length rest % 5) 0 in
+    text-beyond job b (omega arith) rest (zeros (length rest % 5)) (omega (arith, n))
 
 -- a proposal is answered, and runs are packed, as what is kept of the job says
 module _ (job : List ℕ) (over runs : ℕ) where
-  pub checked-kept : Bytes job → runs ≤ 256 → checkedText runs job ≡ checkedText runs (heard job over)
+  pub checked-kept : Bytes job → runs ≤ 256 → checkedText runs job ≡ checkedText runs (keptJob job over)
   checked-kept bytes few =
       by-test (ltb (length job) mostKept)
-      (λ t. ap (checkedText runs) (sym (heard-kept job over (ltb-true _ _ t))))
+      (λ t. ap (checkedText runs) (sym (kept-whole job over (ltb-true _ _ t))))
       (λ t. let h : mostKept ≤ length job = ltb-false _ _ t in
-      ap (checkedText runs) (sym (append-nil job)) ∙ long-refused job bytes h runs few [] ∙ sym (long-refused job bytes h runs few (blank (over % 5)))
-      ∙ ap (checkedText runs) (sym (heard-beyond job over h)))
+      ap (checkedText runs) (sym (append-nil job)) ∙ long-refused job bytes h runs few [] ∙ sym (long-refused job bytes h runs few (zeros (over % 5)))
+      ∙ ap (checkedText runs) (sym (kept-beyond job over h)))
 
-  pub proposed-kept : Sized (length (heard job over)) (Propose runs) → heard job over ≡ job
+  pub proposed-kept : Sized (length (keptJob job over)) (Propose runs) → keptJob job over ≡ job
   proposed-kept s =
       by-test (ltb (length job) mostKept)
-      (λ t. heard-kept job over (ltb-true _ _ t))
+      (λ t. kept-whole job over (ltb-true _ _ t))
       (λ t. let h : mostKept ≤ length job = ltb-false _ _ t in
-      let e = ap length (heard-beyond job over h) ∙ length-append job (blank (over % 5)) in
+      let e = ap length (kept-beyond job over h) ∙ length-append job (zeros (over % 5)) in
       absurd (omega (arith, s .0, s .1, e)))

@@ -7,8 +7,8 @@ use lib.Dec.{ltb}
 use lib.ListN.{length, getD, length-append, length-replicate, List·getD-append}
 use borrow.Author.Tests.{ltb-true, ltb-false, lt-ltb, le-ltb, eq-eqb, ne-eqb}
 use Rattle.model.proofs.Cases.{by-test}
-use Rattle.model_packing.specs.Proposals.{blank}
-use Rattle.ccpack_report.specs.Jobs.{checkJob, proposeJob, jobOf, jobIn, mostKept, heard, heardLength}
+use Rattle.model_packing.specs.Proposals.{zeros}
+use Rattle.ccpack_report.specs.Jobs.{checkJob, proposeJob, jobOf, jobIn, mostKept, keptJob, keptLength}
 use Rattle.ccpack_report.specs.declared.Job.{Job}
 use Rattle.ccpack_report.specs.declared.Job.the-variants.{Bad, TooMany, Check, Propose}
 
@@ -63,43 +63,43 @@ module _ (runs size : ℕ) where
 
 -- a length, and bytes beyond
 module _ (kept over : ℕ) where
-  pub length-kept : kept < mostKept → kept ≡ heardLength kept over
-  unfolding heardLength
+  pub length-kept : kept < mostKept → kept ≡ keptLength kept over
+  unfolding keptLength
   length-kept h = rw (lt-ltb _ _ h)
 
-  pub length-beyond : mostKept ≤ kept → kept + over % 5 ≡ heardLength kept over
-  unfolding heardLength
+  pub length-beyond : mostKept ≤ kept → kept + over % 5 ≡ keptLength kept over
+  unfolding keptLength
   length-beyond h = rw (le-ltb _ _ h)
 
 -- a job that is kept whole, and one with bytes beyond
 module _ (job : List ℕ) (over : ℕ) where
-  pub heard-kept : length job < mostKept → heard job over ≡ job
-  unfolding heard
-  heard-kept h = rw (lt-ltb _ _ h)
+  pub kept-whole : length job < mostKept → keptJob job over ≡ job
+  unfolding keptJob
+  kept-whole h = rw (lt-ltb _ _ h)
 
-  pub heard-beyond : mostKept ≤ length job → heard job over ≡ job ++ blank (over % 5)
-  unfolding heard
-  heard-beyond h = rw (le-ltb _ _ h)
+  pub kept-beyond : mostKept ≤ length job → keptJob job over ≡ job ++ zeros (over % 5)
+  unfolding keptJob
+  kept-beyond h = rw (le-ltb _ _ h)
 
   -- its length is the one that is told of it,
-  pub length-heard : length (heard job over) ≡ heardLength (length job) over
-  length-heard =
+  pub length-job : length (keptJob job over) ≡ keptLength (length job) over
+  length-job =
       by-test (ltb (length job) mostKept)
-      (λ t. let h = ltb-true _ _ t in ap length (heard-kept h) ∙ length-kept (length job) over h)
-      (λ t. let h = ltb-false _ _ t in ap length (heard-beyond h) ∙ length-append job (blank (over % 5)) ∙ ap (λ (n : ℕ). length job + n) (length-replicate (over % 5) 0)
+      (λ t. let h = ltb-true _ _ t in ap length (kept-whole h) ∙ length-kept (length job) over h)
+      (λ t. let h = ltb-false _ _ t in ap length (kept-beyond h) ∙ length-append job (zeros (over % 5)) ∙ ap (λ (n : ℕ). length job + n) (length-replicate (over % 5) 0)
       ∙ length-beyond (length job) over h)
 
   -- and it begins as what is kept does
-  pub heard-at : (i : ℕ) → i < 3 → getD (heard job over) i 0 ≡ getD job i 0
-  heard-at i g =
+  pub kept-at : (i : ℕ) → i < 3 → getD (keptJob job over) i 0 ≡ getD job i 0
+  kept-at i g =
       by-test (ltb (length job) mostKept)
-      (λ t. ap (λ (l : List ℕ). getD l i 0) (heard-kept (ltb-true _ _ t)))
+      (λ t. ap (λ (l : List ℕ). getD l i 0) (kept-whole (ltb-true _ _ t)))
       (λ t. let h : mostKept ≤ length job = ltb-false _ _ t in
-      ap (λ (l : List ℕ). getD l i 0) (heard-beyond h) ∙ List·getD-append job (blank (over % 5)) 0 i (omega arith))
+      ap (λ (l : List ℕ). getD l i 0) (kept-beyond h) ∙ List·getD-append job (zeros (over % 5)) 0 i (omega arith))
 
   -- so what it is shows in what is kept
-  pub job-heard : {kind high low size : ℕ} {r : Job} → kind ≡ getD job 0 0 → high ≡ getD job 1 0 → low ≡ getD job 2 0 → size ≡ heardLength (length job) over
-      → r ≡ jobOf kind (256 * high + low) size → r ≡ jobIn (heard job over)
+  pub job-kept : {kind high low size : ℕ} {r : Job} → kind ≡ getD job 0 0 → high ≡ getD job 1 0 → low ≡ getD job 2 0 → size ≡ keptLength (length job) over
+      → r ≡ jobOf kind (256 * high + low) size → r ≡ jobIn (keptJob job over)
   unfolding jobIn
-  job-heard k h l s e =
-      rw (heard-at 0 (omega arith), heard-at 1 (omega arith), heard-at 2 (omega arith), length-heard, ← k, ← h, ← l, ← s) e
+  job-kept k h l s e =
+      rw (kept-at 0 (omega arith), kept-at 1 (omega arith), kept-at 2 (omega arith), length-job, ← k, ← h, ← l, ← s) e

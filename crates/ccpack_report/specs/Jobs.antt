@@ -6,7 +6,7 @@ use lib.Dec.{eqb, ltb}
 use lib.ListN.{length, getD, take, drop}
 use Rattle.model.specs.Said.{overLimit}
 use Rattle.model_packing.specs.Pieces.{piecesOf}
-use Rattle.model_packing.specs.Proposals.{blank, mostRuns, checkProposal}
+use Rattle.model_packing.specs.Proposals.{zeros, mostRuns, checkProposal}
 use Rattle.ccpack_report.specs.Lines.{badLine, answerLine, packedText}
 use Rattle.ccpack_report.specs.declared.Job.{Job}
 use Rattle.ccpack_report.specs.declared.Job.the-variants.{Bad, TooMany, Check, Propose}
@@ -71,9 +71,9 @@ abbrev pub mostKept : ℕ
 mostKept = 327680
 
 -- a job of which `over` bytes are beyond what is kept, whatever they say
-unfoldable pub heard : List ℕ → ℕ → List ℕ
-heard job over = cond (ltb (length job) mostKept) job (job ++ blank (over % 5))
+unfoldable pub keptJob : List ℕ → ℕ → List ℕ
+keptJob job over = cond (ltb (length job) mostKept) job (job ++ zeros (over % 5))
 
 -- and its length
-unfoldable pub heardLength : ℕ → ℕ → ℕ
-heardLength kept over = cond (ltb kept mostKept) kept (kept + over % 5)
+unfoldable pub keptLength : ℕ → ℕ → ℕ
+keptLength kept over = cond (ltb kept mostKept) kept (kept + over % 5)

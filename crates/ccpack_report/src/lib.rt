@@ -7,10 +7,11 @@ ghost use Rattle.caption.specs.Answers.{saidAnswer};
 ghost use Rattle.model_packing.specs.Pieces.{piecesOf};
 ghost use Rattle.program_text.specs.Laid.{Laid};
 ghost use Rattle.ccpack_report.specs.Lines.{answerLine, packetsLine, pieceLine, pieceLines, proposalLines, packedText};
-ghost use Rattle.ccpack_report.specs.Jobs.{checkJob, proposeJob, jobOf, jobIn, checkedText, jobText, heard, heardLength};
+ghost use Rattle.ccpack_report.specs.Jobs.{checkJob, proposeJob, jobOf, jobIn, checkedText, jobText, keptJob, keptLength};
 use caption::Answer;
 use caption::Refusal;
 use packing::Proposal;
+use packing_runs::MOST_RUNS;
 use program_lines::put_value;
 use program_records::byte_at;
 use program_records::part;
@@ -19,9 +20,6 @@ use program_text::put_word;
 
 // So many bytes of a job are kept.
 pub const MOST_KEPT: usize = 327680;
-
-// A proposal has at most so many runs.
-const MOST_RUNS: usize = 256;
 
 // What a job is: none, one with too many runs, or one to check or to propose, with its number of runs.
 enum Job {
@@ -84,9 +82,9 @@ fn job_of(kind: u8, runs: usize, size: usize) -> Job
 }
 
 // How long a job is, of which at most so many bytes are kept; of those beyond, as many are counted as make the length right modulo 5.
-fn heard_length(kept: usize, over: usize) -> usize
+fn kept_length(kept: usize, over: usize) -> usize
     requires { ⌜ kept < 9223372036854775808 ⌝ }
-    ensures { λ r. ⌜ r ≡ heardLength kept over ⌝ }
+    ensures { λ r. ⌜ r ≡ keptLength kept over ⌝ }
 {
     if kept < MOST_KEPT {
         return kept;
@@ -96,10 +94,10 @@ fn heard_length(kept: usize, over: usize) -> usize
 
 // What the bytes of a job are that were kept, where `over` bytes are beyond.
 fn look(job: &[u8], over: usize) -> Job
-    ensures { λ r. ⌜ r ≡ jobIn (heard (now (job .entry)) over) ⌝ }
+    ensures { λ r. ⌜ r ≡ jobIn (keptJob (now (job .entry)) over) ⌝ }
 {
     let runs = 256 * byte_at(job, 1) as usize + byte_at(job, 2) as usize;
-    job_of(byte_at(job, 0), runs, heard_length(job.len(), over))
+    job_of(byte_at(job, 0), runs, kept_length(job.len(), over))
 }
 
 // The line of an answer.
@@ -201,7 +199,7 @@ fn put_packed(out: &mut [u8], at: usize, services: &[u8], lengths: &[u8]) -> usi
 
 // What is told of a job, of which at most MOST_KEPT bytes are kept and `over` bytes are beyond these.
 pub fn put_job(out: &mut [u8], at: usize, job: &[u8], over: usize) -> usize
-    ensures { λ r. ⌜ Laid (jobText (heard (now (job .entry)) over)) (now (out .entry)) at r (now (out .exit)) ⌝ }
+    ensures { λ r. ⌜ Laid (jobText (keptJob (now (job .entry)) over)) (now (out .entry)) at r (now (out .exit)) ⌝ }
 {
     match look(job, over) {
         Job::Bad => put_word(out, at, b"bad\n"),

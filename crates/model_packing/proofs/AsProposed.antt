@@ -12,7 +12,7 @@ use Rattle.model.specs.Packet.{Packet, latest, pushRun}
 use Rattle.model.proofs.Cases.{gives-at}
 use Rattle.model.proofs.Limits.{few-blocks}
 use Rattle.model_packing.specs.Pieces.{Piece, serviceOf, countFrom}
-use Rattle.model_packing.specs.Proposals.{blank, blocksIn}
+use Rattle.model_packing.specs.Proposals.{zeros, blocksIn}
 use Rattle.model_packing.specs.FirstCome.{placeOr0, firstCome, packable}
 use Rattle.model_packing.proofs.Lists.{In, in-map, in-count}
 use Rattle.model_packing.proofs.Blanks.{blanks, blanked, blankBlock, map-more, latest-blanked, pushed-blank}
@@ -65,7 +65,7 @@ module _ (services lengths : List ℕ) (ok : packable services lengths ≡ true)
 
   module _ (i n : ℕ) (h : i < length services) (old : List Block) (few : length old ≤ 63)
       (was : Describe services fill (piecesTo services lengths i) (pieceOf services lengths i .packet) old)
-      (took : pushRun (serviceOf services i) (blank (getD lengths i 0)) (blanked (record { sequence = 0; blocks = old })) ≡ gave (packedTo services lengths (suc i) .packet)) where
+      (took : pushRun (serviceOf services i) (zeros (getD lengths i 0)) (blanked (record { sequence = 0; blocks = old })) ≡ gave (packedTo services lengths (suc i) .packet)) where
     -- the packet that takes zeros takes the run
     given-as : (x : Packet) × (pushRun (serviceOf services i) (fill (pieceOf services lengths i)) (record { sequence = n; blocks = old }) ≡ gave x)
         × (blanked x ≡ packedTo services lengths (suc i) .packet)
@@ -117,7 +117,7 @@ module _ (services lengths : List ℕ) (ok : packable services lengths ≡ true)
   pushed-next : (i n : ℕ) → i < length services → Carried services lengths fill i → Pushed services lengths fill i n
   pushed-next i n h c = by-placing (placing-from services lengths ok i h)
     where
-      by-placing : Placing (serviceOf services i) (blank (getD lengths i 0)) (packedTo services lengths i) (packedTo services lengths (suc i)) → Pushed services lengths fill i n
+      by-placing : Placing (serviceOf services i) (zeros (getD lengths i 0)) (packedTo services lengths i) (packedTo services lengths (suc i)) → Pushed services lengths fill i n
       by-placing (intoSame b e) = pushed-from i n h (c .now) (few-alike i (omega arith) (c .now) (c .alike)) (rw b (c .here)) (rw (c .alike) e)
       by-placing (intoNext b r e) = pushed-from i n h [] (omega arith) (c .later (pieceOf services lengths i .packet) (omega arith)) e
 

@@ -10,11 +10,11 @@ use Rattle.model.specs.Said.{Outcome, mapped}
 use Rattle.model.specs.Block.{Block, blockLength, withRun}
 use Rattle.model.specs.Packet.{Packet, blocksLength, packetLength, noBlock, latestOf, latest, pushNew, pushAt, pushRunAt, pushRunBy, pushRun}
 use Rattle.model.proofs.Blocks.{written-length}
-use Rattle.model_packing.specs.Proposals.{blank}
+use Rattle.model_packing.specs.Proposals.{zeros}
 
 -- a block with zeros for its bytes
 abbrev pub blankBlock : Block → Block
-blankBlock b = record { number = b .number; payload = blank (length (b .payload)) }
+blankBlock b = record { number = b .number; payload = zeros (length (b .payload)) }
 
 -- blocks with zeros for their bytes
 abbrev pub blanks : List Block → List Block
@@ -44,7 +44,7 @@ map-set f (y ∷ l) (suc i) x = ap (λ m. f y ∷ m) (map-set f l i x)
 blank-length : (b : Block) → blockLength (blankBlock b) ≡ blockLength b
 unfolding blockLength
 blank-length b =
-    let n : length (blank (length (b .payload))) ≡ length (b .payload) = length-replicate (length (b .payload)) 0 in
+    let n : length (zeros (length (b .payload))) ≡ length (b .payload) = length-replicate (length (b .payload)) 0 in
     rw (written-length (blankBlock b), written-length b, n)
 
 -- of blocks,
@@ -73,33 +73,33 @@ pub latest-blanked : (n : ℕ) (p : Packet) → latest n (blanked p) ≡ latest 
 latest-blanked n p = rw length-map (blank-latest n (length (p .blocks)) (p .blocks))
 
 -- a block that takes a run
-blank-grown : (run : List ℕ) (b : Block) → blankBlock (withRun run b) ≡ withRun (blank (length run)) (blankBlock b)
+blank-grown : (run : List ℕ) (b : Block) → blankBlock (withRun run b) ≡ withRun (zeros (length run)) (blankBlock b)
 blank-grown run b =
     ap (λ (d : List ℕ). record { number = b .number; payload = d })
-    (ap blank (length-append (b .payload) run) ∙ sym (replicate-append-replicate (length (b .payload)) (length run) 0))
+    (ap zeros (length-append (b .payload) run) ∙ sym (replicate-append-replicate (length (b .payload)) (length run) 0))
 
 module _ (n : ℕ) (run : List ℕ) (p : Packet) where
   -- as many zeros as bytes
-  as-many : length (blank (length run)) ≡ length run
+  as-many : length (zeros (length run)) ≡ length run
   as-many = length-replicate (length run) 0
 
   -- a run as a new block
-  new-blank : mapped blanked (pushNew n run p) ≡ pushNew n (blank (length run)) (blanked p)
+  new-blank : mapped blanked (pushNew n run p) ≡ pushNew n (zeros (length run)) (blanked p)
   unfolding pushNew
   new-blank = simp (mapped-cond, as-many, blanked-length p, blank-length (record { number = n; payload = run }), map-more)
 
   -- a run to the block at a place
-  at-blank : (i : ℕ) → mapped blanked (pushAt i run p) ≡ pushAt i (blank (length run)) (blanked p)
+  at-blank : (i : ℕ) → mapped blanked (pushAt i run p) ≡ pushAt i (zeros (length run)) (blanked p)
   unfolding pushAt
   at-blank i = simp (mapped-cond, as-many, blanked-length p, blank-at (p .blocks) i, length-replicate, map-set, blank-grown)
 
   -- a run to the one or to the other
-  placed-blank : (o : Option ℕ) → mapped blanked (pushRunAt true n run p o) ≡ pushRunAt true n (blank (length run)) (blanked p) o
+  placed-blank : (o : Option ℕ) → mapped blanked (pushRunAt true n run p o) ≡ pushRunAt true n (zeros (length run)) (blanked p) o
   unfolding pushRunAt
   placed-blank none = new-blank
   placed-blank (some i) = simp (mapped-cond, as-many, blank-at (p .blocks) i, length-replicate, new-blank, at-blank i)
 
   -- A push of zeros to the packet with zeros: it is accepted where the push itself is, and gives what that gives, with zeros.
-  pub pushed-blank : mapped blanked (pushRun n run p) ≡ pushRun n (blank (length run)) (blanked p)
+  pub pushed-blank : mapped blanked (pushRun n run p) ≡ pushRun n (zeros (length run)) (blanked p)
   unfolding pushRunBy
   pushed-blank = simp (mapped-cond, as-many, length-map, blank-latest, placed-blank)

@@ -15,7 +15,7 @@ use Rattle.model.specs.Demux.{closed, packetsOf}
 use Rattle.model.proofs.Packets.{valid-facts, plain-back}
 use Rattle.model.proofs.Fill.{tidy-back}
 use Rattle.model_packing.specs.Pieces.{Piece, countFrom, serviceOf}
-use Rattle.model_packing.specs.Proposals.{mostNumbers, blocksIn, blank, blankPacket, checkProposal}
+use Rattle.model_packing.specs.Proposals.{mostNumbers, blocksIn, zeros, blankPacket, checkProposal}
 use Rattle.model_packing.specs.Carrying.{bytesIn, someBlock, proposedPackets, sequencedFrom, spoken, heardIn, heard}
 use Rattle.model_packing.proofs.Lists.{In, here, there, every-in, those-in, map-in}
 use Rattle.model_packing.proofs.Alike.{valid-alike, packet-alike}
@@ -68,8 +68,8 @@ module _ (services : List ℕ) (runs : List (List ℕ)) (ps : List Piece) (ok : 
   -- so a packet with these bytes is within the limits, as it is with any others
   filled-valid : (p n : ℕ) → n ≤ 3 → In p (countFrom 0 mostNumbers) → validPacket (record { sequence = n; blocks = blocksIn services (bytesIn runs) ps p }) ≡ true
   filled-valid p n few i =
-      let same-lengths : (q : Piece) → In q ps → length (bytesIn runs q) ≡ length (blank (q .size)) = λ q j. piece-length q j ∙ sym (length-replicate (q .size) 0) in
-      valid-alike n 0 few (packet-alike services (bytesIn runs) (λ q. blank (q .size)) ps p same-lengths)
+      let same-lengths : (q : Piece) → In q ps → length (bytesIn runs q) ≡ length (zeros (q .size)) = λ q j. piece-length q j ∙ sym (length-replicate (q .size) 0) in
+      valid-alike n 0 few (packet-alike services (bytesIn runs) (λ q. zeros (q .size)) ps p same-lengths)
       (every-in (λ r. validPacket (blankPacket services ps r)) (countFrom 0 mostNumbers) (ok .in-limits) i)
 
   -- a packet of the proposal has a block, and can be sent

@@ -19,7 +19,7 @@ use Rattle.model.proofs.Packets.{Valid, length-empty}
 use Rattle.model.proofs.Pushing.{run-valid}
 use Rattle.model.proofs.Limits.{few-blocks}
 use Rattle.model_packing.specs.Pieces.{Piece, serviceOf, countFrom}
-use Rattle.model_packing.specs.Proposals.{blank, runFits, runsFit}
+use Rattle.model_packing.specs.Proposals.{zeros, runFits, runsFit}
 use Rattle.model_packing.specs.FirstCome.{Filling, start, filledWith, placed, pieceFor, placedRun, piecesFrom, firstCome, packable}
 use Rattle.model_packing.proofs.Lists.{every-count}
 use Rattle.model_packing.proofs.Taking.{Took, push-takes}
@@ -97,25 +97,25 @@ bounded-start = record { valid = bare-valid; first = λ _. refl; fewer = λ h. a
 
 module _ (services lengths : List ℕ) (i : ℕ) (fits : runFits services lengths i ≡ true) where
   -- a run that fits may stand in a packet as a block
-  pub fits-carriable : Carriable (record { number = serviceOf services i; payload = blank (getD lengths i 0) })
+  pub fits-carriable : Carriable (record { number = serviceOf services i; payload = zeros (getD lengths i 0) })
   unfolding runFits
-  fits-carriable = carriable-facts (record { number = serviceOf services i; payload = blank (getD lengths i 0) }) fits
+  fits-carriable = carriable-facts (record { number = serviceOf services i; payload = zeros (getD lengths i 0) }) fits
 
   module _ (at : Filling) where
     -- how it is placed
-    pub run-placing : Placing (serviceOf services i) (blank (getD lengths i 0)) at (placedRun services lengths i at)
-    run-placing = placing (serviceOf services i) (blank (getD lengths i 0)) at fits-carriable
+    pub run-placing : Placing (serviceOf services i) (zeros (getD lengths i 0)) at (placedRun services lengths i at)
+    run-placing = placing (serviceOf services i) (zeros (getD lengths i 0)) at fits-carriable
 
     -- what placing it makes of a state
     pub run-placed : Valid (at .packet) → PlacedAt (serviceOf services i) at (placedRun services lengths i at)
-    run-placed v = placing-bounds (serviceOf services i) (blank (getD lengths i 0)) at (placedRun services lengths i at) v run-placing
+    run-placed v = placing-bounds (serviceOf services i) (zeros (getD lengths i 0)) at (placedRun services lengths i at) v run-placing
 
     -- the first run goes to the first packet
-    first-placed : at ≡ start → (to : Filling) → Placing (serviceOf services i) (blank (getD lengths i 0)) at to → to .before ≡ 0
+    first-placed : at ≡ start → (to : Filling) → Placing (serviceOf services i) (zeros (getD lengths i 0)) at to → to .before ≡ 0
     first-placed e to (intoSame b t) = rw e at b
     first-placed e to (intoNext b r t) =
         let f = rw e at r in
-        let g = bare-takes (serviceOf services i) (blank (getD lengths i 0)) fits-carriable in
+        let g = bare-takes (serviceOf services i) (zeros (getD lengths i 0)) fits-carriable in
         let z : _≡_ {A = ℕ} 0 1 = cc in
         absurd (omega arith)
 
@@ -178,7 +178,7 @@ module _ (services lengths : List ℕ) (ok : packable services lengths ≡ true)
   bounded (suc i) h = bounded-next services lengths i (run-fits i h) (packedTo services lengths i) (bounded i (omega arith))
 
   -- how a run is placed in the state before it,
-  pub placing-from : (i : ℕ) → i < length services → Placing (serviceOf services i) (blank (getD lengths i 0)) (packedTo services lengths i) (packedTo services lengths (suc i))
+  pub placing-from : (i : ℕ) → i < length services → Placing (serviceOf services i) (zeros (getD lengths i 0)) (packedTo services lengths i) (packedTo services lengths (suc i))
   unfolding packedTo
   placing-from i h = run-placing services lengths i (run-fits i h) (packedTo services lengths i)
 

@@ -12,7 +12,7 @@ use Rattle.model.specs.Block.{Block}
 use Rattle.model.specs.Packet.{noBlock, blockAt, latest, pushRun}
 use Rattle.model.proofs.Cases.{by-test, gives-at}
 use Rattle.model_packing.specs.Pieces.{Piece, serviceOf}
-use Rattle.model_packing.specs.Proposals.{blank}
+use Rattle.model_packing.specs.Proposals.{zeros}
 use Rattle.model_packing.specs.FirstCome.{Filling, placeOr0, pieceFor, packable}
 use Rattle.model_packing.proofs.Taking.{Took, push-takes, latest-is, latest-last}
 use Rattle.model_packing.proofs.Filling.{Placing, intoSame, intoNext, PlacedAt, packedTo, pieceOf, placing-from, placed-from}
@@ -59,7 +59,7 @@ module _ (services lengths : List ℕ) (ok : packable services lengths ≡ true)
   standing (suc i) r g h =
       by-test (eqb r i)
       (λ e. let z : r ≡ i = eqb-true r i e in rw z (standing-own services i (getD lengths i 0) (packedTo services lengths i) (packedTo services lengths (suc i)) (placed-from services lengths ok i h)))
-      (λ e. standing-next services (pieceOf services lengths r) (serviceOf services i) (blank (getD lengths i 0)) (packedTo services lengths i) (packedTo services lengths (suc i))
+      (λ e. standing-next services (pieceOf services lengths r) (serviceOf services i) (zeros (getD lengths i 0)) (packedTo services lengths i) (packedTo services lengths (suc i))
       (standing i r (omega (arith, eqb-false r i e)) (omega arith)) (placing-from services lengths ok i h))
 
   -- the piece of a later run follows that of an earlier one,

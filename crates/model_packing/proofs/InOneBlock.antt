@@ -11,7 +11,7 @@ use Rattle.model.specs.Block.{Block}
 use Rattle.model.proofs.Cases.{by-test, and-both}
 use Rattle.model.proofs.Lists.{same-true}
 use Rattle.model_packing.specs.Pieces.{Piece, Byte, byte, countFrom, runBytes, bytesOf, serviceOf, those}
-use Rattle.model_packing.specs.Proposals.{mostNumbers, sent, blockOf, withFirst, unsplit, liesIn, piecesIn, blockFor, blocksIn, numbered}
+use Rattle.model_packing.specs.Proposals.{mostNumbers, sent, blockSentIn, withFirst, unsplit, liesIn, piecesIn, blockFor, blocksIn, numbered}
 use Rattle.model_packing.specs.FirstCome.{packable}
 use Rattle.model_packing.specs.Carrying.{bytesIn, someBlock, proposedPackets}
 use Rattle.model_packing.proofs.Lists.{In, here, in-left, in-right, in-either, every-in, in-those, those-in, in-map, in-flatMap, flatMap-in, in-count, in-bytes, bytes-in}
@@ -194,9 +194,9 @@ module _ (services : List ℕ) (runs : List (List ℕ)) (ps : List Piece) (ok : 
         let here-too : In x (bytesOf services lengths) = in-flatMap (runBytes lengths) (countFrom 0 (length services)) (in-count r 0 (length services) (omega arith) (omega arith)) i in
         let f = piece-of (byte r 0) first-there in
         let g = piece-of x here-too in
-        let one : blockOf ps x ≡ blockOf ps (byte r 0) =
+        let one : blockSentIn ps x ≡ blockSentIn ps (byte r 0) =
         same-true _ _ (every-in (withFirst ps) (bytesOf services lengths) (ok .together) here-too)
-        ∙ ap (λ (n : ℕ). blockOf ps (byte n 0)) (bytes-run x r 0 (getD lengths r 0) i) in
+        ∙ ap (λ (n : ℕ). blockSentIn ps (byte n 0)) (bytes-run x r 0 (getD lengths r 0) i) in
         let first-sent : sent ps (byte r 0) ≡ sentAt (f .0) = sent-then services lengths ps covered (byte r 0) (f .0) (f .1) (f .2) in
         let two = rw (sent-then services lengths ps covered x (g .0) (g .1) (g .2), first-sent) at one in
         let p : g .0 .piece .packet ≡ opening .packet = ap (λ (l : List ℕ). getD l 0 0) two in

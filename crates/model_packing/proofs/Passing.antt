@@ -14,7 +14,7 @@ use Rattle.model.proofs.Lists.{same-self}
 use Rattle.model.proofs.Packets.{Valid, facts-valid}
 use Rattle.model.proofs.Pushing.{run-valid}
 use Rattle.model_packing.specs.Pieces.{Piece, Byte, byte, countFrom, runBytes, bytesOf, serviceOf}
-use Rattle.model_packing.specs.Proposals.{inside, heldOnce, covers, keepsOrder, ordered, withFirst, unsplit, liesIn, piecesIn, blank, blankPacket, runsFit, numbered, oneService, limits, mostRuns, checkProposal}
+use Rattle.model_packing.specs.Proposals.{inside, heldOnce, covers, keepsOrder, ordered, withFirst, unsplit, liesIn, piecesIn, zeros, blankPacket, runsFit, numbered, oneService, limits, mostRuns, checkProposal}
 use Rattle.model_packing.specs.FirstCome.{placeOr0, firstCome, packable}
 use Rattle.model_packing.proofs.Lists.{in-every, those-in, map-in, count-in, bytes-in}
 use Rattle.model_packing.proofs.Accepted.{Passes, accepted-passes}
@@ -110,23 +110,23 @@ module _ (services lengths : List ℕ) (ok : packable services lengths ≡ true)
       let g : u .0 < length services = omega (arith, count-in (u .0) 0 (length services) (u .1) .1) in
       rw (u .2) (eq-eqb _ _ (one-service (u .0) r g h (rw (u .2) at (t .1))))))
 
-  -- zeros for the bytes of a piece, as many as it has
-  abbrev zeros : Piece → List ℕ
-  zeros q = blank (q .size)
+  -- zerosOf for the bytes of a piece, as many as it has
+  abbrev zerosOf : Piece → List ℕ
+  zerosOf q = zeros (q .size)
 
   -- they are as many as the run has bytes
-  zeros-sized : (r : ℕ) → r < length services → length (zeros (pieceOf services lengths r)) ≡ getD lengths r 0
+  zeros-sized : (r : ℕ) → r < length services → length (zerosOf (pieceOf services lengths r)) ≡ getD lengths r 0
   zeros-sized r h = length-replicate (getD lengths r 0) 0
 
   -- no packet breaks a limit
   valid-to : (i : ℕ) → i ≤ length services → (p : ℕ) → Valid (blankPacket services (piecesTo services lengths i) p)
   unfolding countFrom
-  valid-to zero h p = rw (described services zeros [] p [] (none-described services zeros p) (omega arith)) bare-valid
+  valid-to zero h p = rw (described services zerosOf [] p [] (none-described services zerosOf p) (omega arith)) bare-valid
   valid-to (suc i) h p =
       by-test (eqb (pieceOf services lengths i .packet) p)
       (λ e. let z : pieceOf services lengths i .packet ≡ p = eqb-true _ _ e in
-      rw (← z) (gives-at Valid _ (run-pushed services lengths ok zeros zeros-sized i 0 h) (run-valid _ (valid-to i (omega arith) (pieceOf services lengths i .packet)) true (serviceOf services i) _)))
-      (λ e. rw (pieces-more services lengths i, others-same services zeros (piecesTo services lengths i) (pieceOf services lengths i) p (eqb-false _ _ e)) (valid-to i (omega arith) p))
+      rw (← z) (gives-at Valid _ (run-pushed services lengths ok zerosOf zeros-sized i 0 h) (run-valid _ (valid-to i (omega arith) (pieceOf services lengths i .packet)) true (serviceOf services i) _)))
+      (λ e. rw (pieces-more services lengths i, others-same services zerosOf (piecesTo services lengths i) (pieceOf services lengths i) p (eqb-false _ _ e)) (valid-to i (omega arith) p))
 
   -- no limit is broken
   all-limited : limits services lengths all ≡ true

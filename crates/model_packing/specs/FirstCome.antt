@@ -8,7 +8,7 @@ use lib.ListN.{length, getD}
 use Rattle.model.specs.Said.{Outcome, gave, refused, after, mapped, putInto, overLimit}
 use Rattle.model.specs.Packet.{Packet, noPacket, latest, pushRun}
 use Rattle.model_packing.specs.Pieces.{Piece, numbersOf, serviceOf}
-use Rattle.model_packing.specs.Proposals.{blank, runsFit, mostRuns}
+use Rattle.model_packing.specs.Proposals.{zeros, runsFit, mostRuns}
 
 -- what the packer has: the packet that it fills, and how many there are before it
 pub record Filling : Type 0 where
@@ -39,7 +39,7 @@ pieceFor i s n at = record { run = i; first = 0; size = n; packet = at .before; 
 
 -- what the packer has when run i is placed, of which it knows the service and the length alone
 abbrev pub placedRun : List ℕ → List ℕ → ℕ → Filling → Filling
-placedRun services lengths i at = placed (serviceOf services i) (blank (getD lengths i 0)) at
+placedRun services lengths i at = placed (serviceOf services i) (zeros (getD lengths i 0)) at
 
 -- the pieces of k runs from run i on
 unfoldable pub piecesFrom : List ℕ → List ℕ → ℕ → ℕ → Filling → List Piece

@@ -49,12 +49,12 @@ unfoldable pub ordered : List ℕ → List ℕ → List Piece → Bool
 ordered services lengths ps = everyTwo (keepsOrder services ps) (bytesOf services lengths)
 
 -- the packet and the block of a byte
-abbrev pub blockOf : List Piece → Byte → List ℕ
-blockOf ps x = take 2 (sent ps x)
+abbrev pub blockSentIn : List Piece → Byte → List ℕ
+blockSentIn ps x = take 2 (sent ps x)
 
 -- a byte is in the block that the first byte of its run is in [Q4]
 unfoldable pub withFirst : List Piece → Byte → Bool
-withFirst ps x = same (blockOf ps x) (blockOf ps (byte (x .run) 0))
+withFirst ps x = same (blockSentIn ps x) (blockSentIn ps (byte (x .run) 0))
 
 -- 25 unless each run is in one block [Q4].
 unfoldable pub unsplit : List ℕ → List ℕ → List Piece → Bool
@@ -82,16 +82,16 @@ unfoldable pub blocksIn : List ℕ → (Piece → List ℕ) → List Piece → �
 blocksIn services fill ps p = flatMap (λ b. blockFor services fill (piecesIn p b ps)) (countFrom 0 mostNumbers)
 
 -- so many bytes, whatever they say
-abbrev pub blank : ℕ → List ℕ
-blank n = replicate n 0
+abbrev pub zeros : ℕ → List ℕ
+zeros n = replicate n 0
 
 -- a packet with such bytes in its pieces: its lengths are those of the packet, whatever the bytes say [Q6]
 abbrev pub blankPacket : List ℕ → List Piece → ℕ → Packet
-blankPacket services ps p = record { sequence = 0; blocks = blocksIn services (λ q. blank (q .size)) ps p }
+blankPacket services ps p = record { sequence = 0; blocks = blocksIn services (λ q. zeros (q .size)) ps p }
 
 -- a run alone may stand in a packet as a block: its service is from 1 to 63, and it has 1 to 31 bytes [Q6]
 unfoldable pub runFits : List ℕ → List ℕ → ℕ → Bool
-runFits services lengths r = carriable (record { number = serviceOf services r; payload = blank (getD lengths r 0) })
+runFits services lengths r = carriable (record { number = serviceOf services r; payload = zeros (getD lengths r 0) })
 
 -- all runs fit
 unfoldable pub runsFit : List ℕ → List ℕ → Bool

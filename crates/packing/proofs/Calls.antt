@@ -29,6 +29,10 @@ unfolding piecesFrom
 length-pieces services lengths zero i at = refl
 length-pieces services lengths (suc k) i at = ap suc (length-pieces services lengths k (suc i) (placedRun services lengths i at))
 
+-- so that a proposal has five numbers for each run
+pub proposal-length : (services lengths : List ℕ) → length (numbersOf (firstCome services lengths)) ≡ 5 * length services
+proposal-length services lengths = length-numbers (firstCome services lengths) ∙ ap (λ (k : ℕ). 5 * k) (length-pieces services lengths (length services) 0 start)
+
 -- a proposal can be made for few runs that fit
 pub all-fit : (services lengths : List ℕ) → length services ≤ 256 → (fit : Bool) → fit ≡ runsFit services lengths → fit ≡ true → packable services lengths ≡ true
 unfolding packable
@@ -62,7 +66,7 @@ module _ (services lengths out : List ℕ) where
 
       -- they are five for each run
       needed : length numbers ≡ 5 * length services
-      needed = length-numbers (firstCome services lengths) ∙ ap (λ (k : ℕ). 5 * k) (length-pieces services lengths (length services) 0 start)
+      needed = proposal-length services lengths
 
       -- 9 where the pieces are longer than the output
       pub out-short : length out < 5 * length services → Proposes services lengths out (Refused (OutShort (5 * length services))) out

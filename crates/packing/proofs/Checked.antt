@@ -2,14 +2,14 @@
 use mathlib.Core.Path.{_≡_, refl, sym, ap, _∙_}
 use mathlib.Core.Bool.{true, false, false≢true}
 use mathlib.Core.List.{List, [], _∷_, _++_, map}
-use Prim.Native.Nat.{ℕ, _≤_, _<_}
+use Prim.Native.Nat.{ℕ, _≤_, _<_, _*_}
 use native.Mathlib.Omega.{arith}
 use contract.Lifetimes.{Lfts}
 use denote.Ref.{RefT, now}
 use lib.Dec.{ltb}
 use lib.ListN.{length, getD, take, drop}
 use lib.Seq.{take-at}
-use borrow.Author.Tests.{le-ltb}
+use borrow.Author.Tests.{le-ltb, le-leb}
 use Rattle.model.specs.Said.{Said, accepted, putInto, overLimit}
 use Rattle.model.proofs.Cases.{by-test}
 use Rattle.caption.specs.declared.Answer.{Answer}
@@ -17,8 +17,8 @@ use Rattle.caption.specs.declared.Answer.the-variants.{Accepted, Refused}
 use Rattle.caption.specs.declared.Refusal.the-variants.{BadCover, OverLimit}
 use Rattle.caption.specs.Answers.{saidAnswer}
 use Rattle.caption.proofs.Answers.{saidAnswer-injective}
-use Rattle.model_packing.specs.Pieces.{Piece, piecesOf, numbersOf, bytesOf}
-use Rattle.model_packing.specs.Proposals.{mostRuns, checkProposal}
+use Rattle.model_packing.specs.Pieces.{Piece, piecesOf, numbersOf, bytesOf, countFrom}
+use Rattle.model_packing.specs.Proposals.{mostRuns, checkProposal, runFits, runsFit}
 use Rattle.model_packing.specs.FirstCome.{firstCome, packetsFilled, packable}
 use Rattle.model_packing.specs.FirstCome as model
 use Rattle.model_packing.proofs.Crowded.{crowded}
@@ -28,9 +28,15 @@ use Rattle.packing.specs.declared.Proposal.{Proposal}
 use Rattle.packing.specs.declared.Proposal.the-variants as proposal
 use Rattle.packing.specs.Calls.{Proposes}
 use Rattle.packing.specs.Pushing.{Packets, Fresh, Pushes}
-use Rattle.packing.proofs.Pushed.{CarriesOut, proposal-pushed}
+use Rattle.packing.proofs.Pushed.{AllPushed, proposal-pushed}
 use Rattle.packing.proofs.check.Reads as check
 use Rattle.packing.proofs.propose.Reads as propose
+use Rattle.model.specs.Lists.{every}
+use Rattle.model_packing.proofs.Lists.{count-every}
+use Rattle.model_packing.proofs.Counting.{NamesBelow, filled-named}
+use Rattle.packing_runs.proofs.Runs.{fits-some}
+use Rattle.packing.proofs.Calls.{proposal-length}
+use Rattle.packing.proofs.Told.{saidProposal-injective}
 
 -- bytes that a caller lends
 abbrev pub Lent : Type 0
@@ -103,7 +109,7 @@ module _ (κs : Lfts 3) (services lengths out end : Lent) (packets len : ℕ) (m
 
   -- And it is carried out by `push_code`, piece by piece, into packets made anew.
   pub made-pushed : (runs : List (List ℕ)) → now lengths ≡ map length runs → (sequence : ℕ → ℕ) (fresh : Packets) → Fresh sequence fresh → (answers : List Answer) (pushed : Packets)
-      → Pushes (now services) runs (piecesOf (take len (now end))) fresh answers pushed → CarriesOut (now services) runs sequence (piecesOf (take len (now end))) answers pushed
+      → Pushes (now services) runs (piecesOf (take len (now end))) fresh answers pushed → AllPushed (now services) runs sequence (piecesOf (take len (now end))) answers pushed
   made-pushed runs long sequence fresh f answers pushed calls =
       let m = made-of (now services) (now lengths) (now out) packets len (now end) made in
       let z : piecesOf (take len (now end)) ≡ firstCome (now services) (map length runs) = m .pieces ∙ ap (firstCome (now services)) long in
@@ -129,3 +135,25 @@ refused-none κs services lengths out end p κt pieces r told e =
     let no = unpackable (now services) (now lengths) (now out) (now end) p in
     let ok = only-packable (now services) (now lengths) (piecesOf (now pieces)) (accepted-says κt services lengths pieces r told e) in
     false≢true (sym no ∙ ok)
+
+-- For at most 256 runs, each with a service from 1 to 63 and 1 to 31 bytes, a proposal is made where the output has five bytes for each.
+pub made-whenever : (κs : Lfts 3) (services lengths out end : Lent) (r : Proposal) → Propose κs services lengths out end r → length (now services) ≤ mostRuns
+    → ((i : ℕ) → i < length (now services) → (1 ≤ getD (now services) i 0) × (getD (now services) i 0 ≤ 63) × (1 ≤ getD (now lengths) i 0) × (getD (now lengths) i 0 ≤ 31))
+    → 5 * length (now services) ≤ length (now out) → r ≡ proposal.Made (packetsFilled (now services) (now lengths)) (5 * length (now services))
+unfolding model.propose putInto packable runsFit
+made-whenever κs services lengths out end r p few each room =
+    let fit : every (runFits (now services) (now lengths)) (countFrom 0 (length (now services))) ≡ true =
+    count-every (runFits (now services) (now lengths)) 0 (length (now services))
+    (λ i _ h. let f = each i (omega arith) in
+    sym (fits-some (now services) (now lengths) i _ _ refl refl true (f .0) (f .1) (f .2) (sym (le-leb _ 31 (f .3))))) in
+    let long : length (numbersOf (firstCome (now services) (now lengths))) ≡ 5 * length (now services) = proposal-length (now services) (now lengths) in
+    let s : ltb (length (now out)) (length (numbersOf (firstCome (now services) (now lengths)))) ≡ false =
+    le-ltb (length (now out)) (length (numbersOf (firstCome (now services) (now lengths)))) (omega arith) in
+    saidProposal-injective r (proposal.Made (packetsFilled (now services) (now lengths)) (5 * length (now services))) (p .answer ∙ rw (le-leb (length (now services)) mostRuns few, fit, s, long))
+
+-- The pieces of a proposal that is made name the packets below the number that it tells, each of them.
+pub made-counted : (κs : Lfts 3) (services lengths out end : Lent) (packets len : ℕ) → Propose κs services lengths out end (proposal.Made packets len)
+    → NamesBelow (piecesOf (take len (now end))) packets
+made-counted κs services lengths out end packets len made =
+    let m = made-of (now services) (now lengths) (now out) packets len (now end) made in
+    rw (m .pieces, m .filled) (filled-named (now services) (now lengths) (m .packs))

@@ -22,13 +22,13 @@ use Rattle.packet.specs.Packet as packet
 use Rattle.packet.specs.Replies.{fieldsOf}
 use Rattle.packet.proofs.Holds.{Places, blank-places, within-facts, entries-within}
 use Rattle.packet.proofs.Keeps.{blank-valid, none-laid, run-held}
-use Rattle.model_packing.specs.Proposals.{blank}
+use Rattle.model_packing.specs.Proposals.{zeros}
 use Rattle.model_packing.specs.FirstCome.{placed, placeOr0}
 use Rattle.packing.specs.declared.Filling.{Filling}
 use Rattle.packing.specs.Fillings.{BeginsWith, PlacesRun}
 use Rattle.packing.proofs.Pushes.{run-numbered}
 
--- a new packet is blank
+-- a new packet is zeros
 pub new-blank : (r : PacketAnswer) → Answers (newPacket 0) packet.blank r → r .packet ≡ packet.blank
 unfolding newPacket
 new-blank r a = a .places ∙ none-laid
@@ -76,7 +76,7 @@ run-begins before s run new r n a =
     }
 
 -- a run of so many zeros placed
-module _ (at : Filling) (v : validDTVCC (at .packet) ≡ true) (places : Places (at .packet)) (s n : ℕ) (run : List ℕ) (is : run ≡ blank n) (r : PacketAnswer)
+module _ (at : Filling) (v : validDTVCC (at .packet) ≡ true) (places : Places (at .packet)) (s n : ℕ) (run : List ℕ) (is : run ≡ zeros n) (r : PacketAnswer)
     (a : Answers (checked (validDTVCC (at .packet)) (pushRun s run (packetOf (at .packet)))) (at .packet) r) where
   -- in the packet that is being filled, where that takes it
   pub placed-here : r .answer ≡ Accepted → PlacesRun s n at (record { before = at .before; packet = r .packet })

@@ -83,7 +83,7 @@ abbrev Described : List ℕ → List (List ℕ) → (ℕ → ℕ) → List Piece
 Described services runs sequence ps packets = (p : ℕ) → Keeps (packets p) (record { sequence = sequence p; blocks = blocksIn services (bytesIn runs) ps p })
 
 -- What the calls come to: all of them are accepted, and each packet is within its limits and has the blocks that the proposal describes.
-pub record CarriesOut (services : List ℕ) (runs : List (List ℕ)) (sequence : ℕ → ℕ) (proposal : List Piece) (told : List Answer) (end : Packets) : Type 0 where
+pub record AllPushed (services : List ℕ) (runs : List (List ℕ)) (sequence : ℕ → ℕ) (proposal : List Piece) (told : List Answer) (end : Packets) : Type 0 where
   pub all-accepted : (a : Answer) → In a told → a ≡ Accepted
   pub as-described : (p : ℕ) → packetOf (end p) ≡ record { sequence = sequence p; blocks = blocksIn services (bytesIn runs) proposal p }
   pub within-limits : (p : ℕ) → validDTVCC (end p) ≡ true
@@ -105,7 +105,7 @@ module _ (services : List ℕ) (runs : List (List ℕ)) (sequence : ℕ → ℕ)
 
   -- all of them
   pushes-on : (ps qs : List Piece) → proposal ≡ ps ++ qs → (packets : Packets) → Described services runs sequence ps packets → (told : List Answer) (end : Packets)
-      → Pushes services runs qs packets told end → CarriesOut services runs sequence proposal told end
+      → Pushes services runs qs packets told end → AllPushed services runs sequence proposal told end
   pushes-on ps [] e packets keeps told end no-piece =
       let all : proposal ≡ ps = e ∙ append-nil ps in
       record {
@@ -149,7 +149,7 @@ module _ (services : List ℕ) (runs : List (List ℕ)) (ok : packable services 
   none-yet p = let m = fresh .made p in rw (m .2, out .begins p) (fresh-keeps (sequence p) (fresh .known p) (m .0) (m .1))
 
   -- A proposal of the first-come packer is carried out by `push_code`, whatever the bytes of the runs and the sequence numbers of the packets are;
-  pub proposal-pushed : (told : List Answer) (end : Packets) → Pushes services runs all packets told end → CarriesOut services runs sequence all told end
+  pub proposal-pushed : (told : List Answer) (end : Packets) → Pushes services runs all packets told end → AllPushed services runs sequence all told end
   proposal-pushed told end calls = pushes-on services runs sequence all out [] all refl packets none-yet told end calls
 
   -- and there are calls that do so.

@@ -11,7 +11,7 @@ use lib.ListN.{length, take, replicate}
 use Rattle.model.specs.Block.{blockLength, blockRoom}
 use Rattle.model.specs.Packet.{Packet, packetRoom, blockAt, latest, pushNew, pushAt, pushRunAt, pushRunBy}
 use Rattle.model.proofs.Cases.{by-cond, NotAccepted, Refuses}
-use Rattle.model_packing.specs.Proposals.{blank}
+use Rattle.model_packing.specs.Proposals.{zeros}
 
 -- no refusal of a push has the number of what is accepted
 module _ (n : ℕ) (run : List ℕ) (p : Packet) where
@@ -45,11 +45,11 @@ module _ (n : ℕ) (run : List ℕ) (p : Packet) where
       (λ _. by-cond (Refuses NotAccepted) (eqb (length run) 0) (λ _ e. omega (arith, e)) (λ _. where-numbered needsRoom (latest n p)))
 
 -- the first of more zeros
-take-blank : (n m : ℕ) → n ≤ m → take n (replicate m 0) ≡ blank n
+take-blank : (n m : ℕ) → n ≤ m → take n (replicate m 0) ≡ zeros n
 take-blank zero m h = refl
 take-blank (suc n) zero h = absurd (omega arith)
 take-blank (suc n) (suc m) h = ap (λ (l : List ℕ). 0 ∷ l) (take-blank n m (omega arith))
 
 -- as a part that begins at 0
-pub part-blank : (n m : ℕ) → n ≤ m → take (n - 0) (replicate m 0) ≡ blank n
+pub part-blank : (n m : ℕ) → n ≤ m → take (n - 0) (replicate m 0) ≡ zeros n
 part-blank n m h = rw (sub-zero n) (take-blank n m h)

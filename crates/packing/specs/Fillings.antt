@@ -6,7 +6,7 @@ use Prim.Native.Nat.{ℕ, suc}
 use Rattle.model.specs.Said.{after}
 use Rattle.model.specs.Packet.{noPacket, pushRun}
 use Rattle.packet.specs.Packet.{validDTVCC, packetOf}
-use Rattle.model_packing.specs.Proposals.{blank}
+use Rattle.model_packing.specs.Proposals.{zeros}
 use Rattle.model_packing.specs.FirstCome.{placed}
 use Rattle.model_packing.specs.FirstCome as model
 use Rattle.packing.specs.declared.Filling.{Filling}
@@ -22,5 +22,5 @@ pub record BeginsWith (before service : ℕ) (run : List ℕ) (to : Filling) : T
 
 -- what there is when a run of so many bytes is placed
 pub record PlacesRun (service size : ℕ) (at to : Filling) : Type 0 where
-  pub means : fillingOf to ≡ placed service (blank size) (fillingOf at)
+  pub means : fillingOf to ≡ placed service (zeros size) (fillingOf at)
   pub valid : validDTVCC (to .packet) ≡ true

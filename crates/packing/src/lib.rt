@@ -20,14 +20,10 @@ use packet::DTVCCPacket;
 use packet_entries::Found;
 use packing_bytes::check_bytes;
 use packing_limits::within_limits;
+use packing_runs::MOST_RUNS;
+use packing_runs::PIECE;
 use packing_runs::number_at;
 use packing_runs::runs_fit;
-
-// The most runs of a proposal.
-const MOST_RUNS: usize = 256;
-
-// The numbers of a piece.
-const PIECE: usize = 5;
 
 // A proposal: how many packets it fills, and how many bytes of the lent output are its pieces; or why there is none.
 pub enum Proposal {

@@ -13,7 +13,7 @@ use Rattle.model.proofs.Cases.{by-test, both, and-both}
 use Rattle.model_packing.specs.Pieces.{Piece, Byte, byte, bytesOf, piecesOf}
 use Rattle.model_packing.specs.Proposals.{inside, holds, holders, heldOnce, covers, sentFrom}
 use Rattle.model_packing.proofs.Lists.{In, here, there, every-in, in-bytes}
-use Rattle.packing_bytes.specs.Table.{cellOf, LowPiece, Empty, pieceAt, free, filled, holderFrom, Tells}
+use Rattle.packing_bytes.specs.Table.{cellOf, LowPiece, Empty, nthPiece, free, filled, holderFrom, TellsHolders}
 use Rattle.packing_bytes.proofs.Cells.{length-filled, filled-in, filled-out, free-had, not-free}
 use Rattle.packing_bytes.proofs.Numbers.{noPiece, piece-at}
 
@@ -75,9 +75,9 @@ inside-tells services lengths q e =
     (ltb-true _ _ (b .0), leb-true _ _ (b .1))
 
 module _ (services lengths t : List ℕ) (few : length services ≤ 256) (i : ℕ) (q : Piece) (qs : List Piece) where
-  module _ (T : Tells services lengths t (suc i) qs) (is : inside services lengths q ≡ true) (low : LowPiece q) where
+  module _ (T : TellsHolders services lengths t (suc i) qs) (is : inside services lengths q ≡ true) (low : LowPiece q) where
     -- one piece more, whose cells had 0
-    pub tells-more : free (q .size) (cellOf q) (suc i) t ≡ true → (u : List ℕ) → u ≡ filled (q .size) (cellOf q) (suc i) t → Tells services lengths u i (q ∷ qs)
+    pub tells-more : free (q .size) (cellOf q) (suc i) t ≡ true → (u : List ℕ) → u ≡ filled (q .size) (cellOf q) (suc i) t → TellsHolders services lengths u i (q ∷ qs)
     unfolding every holders holderFrom
     tells-more f u e =
         let b = inside-tells services lengths q is in
@@ -126,13 +126,13 @@ module _ (services lengths t : List ℕ) (few : length services ≤ 256) (i : �
         (byte (q .run) k, in-bytes services lengths (byte (q .run) k) (b .0) (omega (arith, b .1)), rw h (omega arith))
 
 -- no piece yet
-pub tells-first : (services lengths t : List ℕ) (ps : List Piece) (n : ℕ) → n ≡ length ps → Empty t → Tells services lengths t n (drop n ps)
+pub tells-first : (services lengths t : List ℕ) (ps : List Piece) (n : ℕ) → n ≡ length ps → Empty t → TellsHolders services lengths t n (drop n ps)
 unfolding every holders holderFrom
 tells-first services lengths t ps n e z =
     rw (e, drop-length ps) (record { long = z .long; within = refl; single = λ x. omega arith; tells = λ r k g m. z .zeros (256 * r + k) })
 
 -- all pieces
-pub tells-all : (services lengths t : List ℕ) (ps : List Piece) (n : ℕ) → n ≤ 0 → Tells services lengths t n (drop n ps) → Tells services lengths t 0 ps
+pub tells-all : (services lengths t : List ℕ) (ps : List Piece) (n : ℕ) → n ≤ 0 → TellsHolders services lengths t n (drop n ps) → TellsHolders services lengths t 0 ps
 tells-all services lengths t ps n h T = let z : n ≡ 0 = omega arith in rw z at T
 
 -- a byte that is in some pieces of a part is in as many of the whole, or more
@@ -169,8 +169,8 @@ module _ (services lengths : List ℕ) (ps : List Piece) where
 
 -- the loop over all pieces, from the last one to the first
 module _ (services lengths l t : List ℕ) (few : length services ≤ 256) (n : ℕ) (most : n ≤ length (piecesOf l)) (some : 0 < n)
-    (T : Tells services lengths t n (drop n (piecesOf l)))
-    (a : Bool) (ins : a ≡ inside services lengths (pieceAt l (n - 1)))
+    (T : TellsHolders services lengths t n (drop n (piecesOf l)))
+    (a : Bool) (ins : a ≡ inside services lengths (nthPiece l (n - 1)))
   where
     -- there is one more piece
     here-is : n - 1 < length (piecesOf l)
@@ -184,11 +184,11 @@ module _ (services lengths l t : List ℕ) (few : length services ≤ 256) (n : 
     pub fill-outside : not a ≡ true → covers services lengths (piecesOf l) ≡ false
     fill-outside e = outside-uncovered services lengths (piecesOf l) (n - 1) here-is (inside-is ∙ not-true a e)
 
-    module _ (yes : not a ≡ false) (low : a ≡ true → LowPiece (pieceAt l (n - 1)))
-        (b : Bool) (fr : b ≡ free (pieceAt l (n - 1) .size) (cellOf (pieceAt l (n - 1))) (n - 1 + 1) t)
+    module _ (yes : not a ≡ false) (low : a ≡ true → LowPiece (nthPiece l (n - 1)))
+        (b : Bool) (fr : b ≡ free (nthPiece l (n - 1) .size) (cellOf (nthPiece l (n - 1))) (n - 1 + 1) t)
       where
         -- it is inside
-        is : inside services lengths (pieceAt l (n - 1)) ≡ true
+        is : inside services lengths (nthPiece l (n - 1)) ≡ true
         is = sym ins ∙ not-false a yes
 
         -- its place, and one more
@@ -199,27 +199,27 @@ module _ (services lengths l t : List ℕ) (few : length services ≤ 256) (n : 
         the-value = omega arith
 
         -- the pieces from it on
-        from-here : drop (n - 1) (piecesOf l) ≡ pieceAt l (n - 1) ∷ drop (suc (n - 1)) (piecesOf l)
+        from-here : drop (n - 1) (piecesOf l) ≡ nthPiece l (n - 1) ∷ drop (suc (n - 1)) (piecesOf l)
         from-here = drop-cons (piecesOf l) (n - 1) noPiece here-is ∙ rw (piece-at l (n - 1) here-is)
 
         -- and the table that tells of those behind it
-        behind : Tells services lengths t (suc (n - 1)) (drop (suc (n - 1)) (piecesOf l))
-        behind = subst (λ (m : ℕ). Tells services lengths t m (drop m (piecesOf l))) at-next T
+        behind : TellsHolders services lengths t (suc (n - 1)) (drop (suc (n - 1)) (piecesOf l))
+        behind = subst (λ (m : ℕ). TellsHolders services lengths t m (drop m (piecesOf l))) at-next T
 
         -- a piece with a byte that a later one has
         pub fill-twice : not b ≡ true → covers services lengths (piecesOf l) ≡ false
         fill-twice e =
-            let w = tells-twice services lengths t few (n - 1) (pieceAt l (n - 1)) (drop (suc (n - 1)) (piecesOf l)) behind is (low (not-false a yes))
-            (ap (λ (v : ℕ). free (pieceAt l (n - 1) .size) (cellOf (pieceAt l (n - 1))) v t) (sym the-value) ∙ sym fr ∙ not-true b e) in
+            let w = tells-twice services lengths t few (n - 1) (nthPiece l (n - 1)) (drop (suc (n - 1)) (piecesOf l)) behind is (low (not-false a yes))
+            (ap (λ (v : ℕ). free (nthPiece l (n - 1) .size) (cellOf (nthPiece l (n - 1))) v t) (sym the-value) ∙ sym fr ∙ not-true b e) in
             let h : 2 ≤ holders (w .0) (drop (n - 1) (piecesOf l)) = rw from-here (w .2) in
             twice-uncovered services lengths (piecesOf l) (w .0) (w .1) (omega (arith, holders-part (w .0) (n - 1) (piecesOf l)))
 
         -- one more
-        pub fill-more : not b ≡ false → (u : List ℕ) → (b ≡ true → u ≡ filled (pieceAt l (n - 1) .size) (cellOf (pieceAt l (n - 1))) (n - 1 + 1) t)
-            → Tells services lengths u (n - 1) (drop (n - 1) (piecesOf l))
+        pub fill-more : not b ≡ false → (u : List ℕ) → (b ≡ true → u ≡ filled (nthPiece l (n - 1) .size) (cellOf (nthPiece l (n - 1))) (n - 1 + 1) t)
+            → TellsHolders services lengths u (n - 1) (drop (n - 1) (piecesOf l))
         fill-more e u f =
             rw from-here
-            (tells-more services lengths t few (n - 1) (pieceAt l (n - 1)) (drop (suc (n - 1)) (piecesOf l)) behind is (low (not-false a yes))
-            (ap (λ (v : ℕ). free (pieceAt l (n - 1) .size) (cellOf (pieceAt l (n - 1))) v t) (sym the-value) ∙ sym fr ∙ not-false b e)
+            (tells-more services lengths t few (n - 1) (nthPiece l (n - 1)) (drop (suc (n - 1)) (piecesOf l)) behind is (low (not-false a yes))
+            (ap (λ (v : ℕ). free (nthPiece l (n - 1) .size) (cellOf (nthPiece l (n - 1))) v t) (sym the-value) ∙ sym fr ∙ not-false b e)
             u
-            (f (not-false b e) ∙ ap (λ (v : ℕ). filled (pieceAt l (n - 1) .size) (cellOf (pieceAt l (n - 1))) v t) the-value))
+            (f (not-false b e) ∙ ap (λ (v : ℕ). filled (nthPiece l (n - 1) .size) (cellOf (nthPiece l (n - 1))) v t) the-value))

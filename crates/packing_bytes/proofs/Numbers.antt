@@ -6,7 +6,7 @@ use native.Mathlib.Omega.{arith}
 use lib.ListN.{length, getD, drop, length-drop}
 use lib.Seq.{getD-drop, drop-drop}
 use Rattle.model_packing.specs.Pieces.{Piece, piecesOf}
-use Rattle.packing_bytes.specs.Table.{pieceAt}
+use Rattle.packing_bytes.specs.Table.{nthPiece}
 
 -- what stands for the piece at a place that has none
 abbrev pub noPiece : Piece
@@ -50,7 +50,7 @@ module _ (l : List ℕ) (o count most : ℕ) (all : length (piecesOf l) ≡ coun
   counted-all h = let z = few-numbers (drop o l) (simp length-drop (omega arith)) in (λ g. omega arith, λ g. omega arith)
 
 -- the piece at a place of the list
-pub piece-at : (l : List ℕ) (i : ℕ) → i < length (piecesOf l) → getD (piecesOf l) i noPiece ≡ pieceAt l i
+pub piece-at : (l : List ℕ) (i : ℕ) → i < length (piecesOf l) → getD (piecesOf l) i noPiece ≡ nthPiece l i
 unfolding piecesOf
 piece-at [] i h = absurd (omega arith)
 piece-at (a ∷ []) i h = absurd (omega arith)

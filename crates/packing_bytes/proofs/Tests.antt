@@ -12,22 +12,22 @@ use Rattle.model.proofs.Cases.{by-test}
 use Rattle.model_packing.specs.Pieces.{byte, bytesOf, notAfter}
 use Rattle.model_packing.specs.Proposals.{inside}
 use Rattle.model_packing.proofs.Lists.{every-in, in-bytes}
-use Rattle.packing_bytes.specs.Table.{pieceAt, hasHolder, sentBy, oneBlock, follows}
+use Rattle.packing_bytes.specs.Table.{nthPiece, hasHolder, sentBy, oneBlock, follows}
 
 -- a piece of run r, with n bytes from byte f on
 module _ (services lengths l : List ℕ) (i r f n : ℕ) (er : r ≡ getD l (5 * i) 0) (ef : f ≡ getD l (5 * i + 1) 0) (en : n ≡ getD l (5 * i + 2) 0) where
   -- it is empty
-  pub inside-empty : n < 1 → false ≡ inside services lengths (pieceAt l i)
+  pub inside-empty : n < 1 → false ≡ inside services lengths (nthPiece l i)
   unfolding inside
   inside-empty h = simp (← en, lt-leb 1 n h)
 
   -- its run is not there
-  pub inside-nowhere : 1 ≤ n → length services ≤ r → false ≡ inside services lengths (pieceAt l i)
+  pub inside-nowhere : 1 ≤ n → length services ≤ r → false ≡ inside services lengths (nthPiece l i)
   unfolding inside
   inside-nowhere g h = simp (← en, ← er, le-leb 1 n g, le-ltb r (length services) h)
 
   -- and else its bytes decide
-  pub inside-there : (m : ℕ) → 1 ≤ n → r < length services → m ≡ getD lengths r 0 → leb (f + n) m ≡ inside services lengths (pieceAt l i)
+  pub inside-there : (m : ℕ) → 1 ≤ n → r < length services → m ≡ getD lengths r 0 → leb (f + n) m ≡ inside services lengths (nthPiece l i)
   unfolding inside
   inside-there m g h e = simp (← en, ← er, ← ef, ← e, le-leb 1 n g, lt-ltb r (length services) h)
 
@@ -91,24 +91,24 @@ module _ (p b q d : ℕ) (hb : b < 256) (hd : d < 256) where
 
 -- two cells, and where the pieces lie that they name
 module _ (l : List ℕ) (g h x y : ℕ)
-    (ex : x ≡ 256 * pieceAt l (g - 1) .packet + pieceAt l (g - 1) .block) (hx : pieceAt l (g - 1) .block < 256)
-    (ey : y ≡ 256 * pieceAt l (h - 1) .packet + pieceAt l (h - 1) .block) (hy : pieceAt l (h - 1) .block < 256)
+    (ex : x ≡ 256 * nthPiece l (g - 1) .packet + nthPiece l (g - 1) .block) (hx : nthPiece l (g - 1) .block < 256)
+    (ey : y ≡ 256 * nthPiece l (h - 1) .packet + nthPiece l (h - 1) .block) (hy : nthPiece l (h - 1) .block < 256)
   where
     pub one-block : eqb x y ≡ oneBlock l g h
     unfolding oneBlock sentBy
-    one-block = rw (ex, ey) (same-place (pieceAt l (g - 1) .packet) (pieceAt l (g - 1) .block) (pieceAt l (h - 1) .packet) (pieceAt l (h - 1) .block) hx hy)
+    one-block = rw (ex, ey) (same-place (nthPiece l (g - 1) .packet) (nthPiece l (g - 1) .block) (nthPiece l (h - 1) .packet) (nthPiece l (h - 1) .block) hx hy)
 
     pub follows-same : (g ≡ 0 → ⊥) → 0 < h → x ≡ y → leb g h ≡ follows l g h
     unfolding follows sentBy
     follows-same f p e =
         rw (ne-eqb g 0 f)
-        (same-order (pieceAt l (g - 1) .packet) (pieceAt l (g - 1) .block) (pieceAt l (h - 1) .packet) (pieceAt l (h - 1) .block) hx hy g h (sym ex ∙ e ∙ ey) (omega arith) p)
+        (same-order (nthPiece l (g - 1) .packet) (nthPiece l (g - 1) .block) (nthPiece l (h - 1) .packet) (nthPiece l (h - 1) .block) hx hy g h (sym ex ∙ e ∙ ey) (omega arith) p)
 
     pub follows-other : (g ≡ 0 → ⊥) → (x ≡ y → ⊥) → ltb x y ≡ follows l g h
     unfolding follows sentBy
     follows-other f n =
         rw (ne-eqb g 0 f, ex, ey)
-        (other-order (pieceAt l (g - 1) .packet) (pieceAt l (g - 1) .block) (pieceAt l (h - 1) .packet) (pieceAt l (h - 1) .block) hx hy (g - 1) (h - 1) (λ z. n (ex ∙ z ∙ sym ey)))
+        (other-order (nthPiece l (g - 1) .packet) (nthPiece l (g - 1) .block) (nthPiece l (h - 1) .packet) (nthPiece l (h - 1) .block) hx hy (g - 1) (h - 1) (λ z. n (ex ∙ z ∙ sym ey)))
 
 -- a cell that names nothing
 pub follows-none : (l : List ℕ) (g h : ℕ) → g ≡ 0 → true ≡ follows l g h

@@ -15,7 +15,7 @@ use Rattle.model_packing.specs.Proposals.{heldOnce, holders, covers, sent, keep
 use Rattle.model_packing.proofs.Lists.{In, here, there, every-in, in-bytes, bytes-in}
 use Rattle.model_packing.proofs.Crowded.{crowded}
 use Rattle.packing_bytes.specs.Bytes.{bytesSaid}
-use Rattle.packing_bytes.specs.Table.{holderFrom, Tells, Runs, told, hasHolder, sentBy, oneBlock, besideFirst, follow}
+use Rattle.packing_bytes.specs.Table.{holderFrom, TellsHolders, FewRuns, told, hasHolder, sentBy, oneBlock, besideFirst, follow}
 use Rattle.packing_bytes.proofs.Numbers.{piece-at}
 use Rattle.packing_bytes.proofs.Holding.{held-at, no-holder}
 use Rattle.packing_bytes.proofs.Order.{inOrder, follow-all}
@@ -35,7 +35,7 @@ two-agree f g (x ∷ xs) h =
       two-agree f g xs (λ y z i j. h y z (there i) (there j)),
     )
 
-module _ (services lengths l t : List ℕ) (R : Runs services lengths) (T : Tells services lengths t 0 (piecesOf l)) where
+module _ (services lengths l t : List ℕ) (R : FewRuns services lengths) (T : TellsHolders services lengths t 0 (piecesOf l)) where
   -- a byte of a run has its cell
   told-is : (x : Byte) → In x (bytesOf services lengths) → told t x ≡ holderFrom 0 (piecesOf l) x
   told-is x i =
@@ -108,7 +108,7 @@ module _ (services lengths l : List ℕ) where
     pub said-crowded : (n m : ℕ) → n ≡ length (bytesOf services lengths) → n < m → (n < m → n < length (piecesOf l)) → badCover ≡ bytesSaid services lengths (piecesOf l)
     said-crowded n m e h f = let g = f h in said-uncovered (crowded services lengths (piecesOf l) (omega arith))
 
-  module _ (R : Runs services lengths) (t : List ℕ) (T : Tells services lengths t 0 (piecesOf l))
+  module _ (R : FewRuns services lengths) (t : List ℕ) (T : TellsHolders services lengths t 0 (piecesOf l))
       (a : Bool) (is : a ≡ every (hasHolder t) (bytesOf services lengths))
     where
       -- a byte that is in no piece

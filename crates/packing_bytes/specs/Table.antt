@@ -15,8 +15,8 @@ abbrev pub cells : ℕ
 cells = 65536
 
 -- the piece whose five numbers are those from 5 times its place on
-abbrev pub pieceAt : List ℕ → ℕ → Piece
-pieceAt l i =
+abbrev pub nthPiece : List ℕ → ℕ → Piece
+nthPiece l i =
     record { run = getD l (5 * i) 0; first = getD l (5 * i + 1) 0; size = getD l (5 * i + 2) 0; packet = getD l (5 * i + 3) 0; block = getD l (5 * i + 4) 0 }
 
 -- the cell of its first byte
@@ -53,7 +53,7 @@ holderFrom i [] x = 0
 holderFrom i (q ∷ qs) x = cond (holds x q) (suc i) (holderFrom (suc i) qs x)
 
 -- a table that tells the holders of pieces that are counted from i: all of them are inside, and no byte is in two
-pub record Tells (services lengths t : List ℕ) (i : ℕ) (qs : List Piece) : Type 0 where
+pub record TellsHolders (services lengths t : List ℕ) (i : ℕ) (qs : List Piece) : Type 0 where
   pub long : length t ≡ cells
   pub within : every (inside services lengths) qs ≡ true
   pub single : (x : Byte) → holders x qs ≤ 1
@@ -61,11 +61,11 @@ pub record Tells (services lengths t : List ℕ) (i : ℕ) (qs : List Piece) : T
 
 -- what filling a table with all pieces says: it tells of them, or they do not cover the bytes
 pub record TellsOrNot (services lengths u : List ℕ) (ps : List Piece) (r : Bool) : Type 0 where
-  pub tells : r ≡ true → Tells services lengths u 0 ps
+  pub tells : r ≡ true → TellsHolders services lengths u 0 ps
   pub uncovered : r ≡ false → covers services lengths ps ≡ false
 
 -- runs that the table has cells for: 256 of them at the most, each with a service and a length of one byte
-pub record Runs (services lengths : List ℕ) : Type 0 where
+pub record FewRuns (services lengths : List ℕ) : Type 0 where
   pub few : length services ≤ 256
   pub named : (r : ℕ) → getD services r 0 < 256
   pub short : (r : ℕ) → getD lengths r 0 < 256
@@ -80,7 +80,7 @@ hasHolder t x = ltb 0 (told t x)
 
 -- when the piece that a cell names is sent: its packet, its block, and its place
 unfoldable pub sentBy : List ℕ → ℕ → List ℕ
-sentBy l h = pieceAt l (h - 1) .packet ∷ pieceAt l (h - 1) .block ∷ (h - 1) ∷ []
+sentBy l h = nthPiece l (h - 1) .packet ∷ nthPiece l (h - 1) .block ∷ (h - 1) ∷ []
 
 -- whether two cells name pieces of one block
 unfoldable pub oneBlock : List ℕ → ℕ → ℕ → Bool

@@ -9,16 +9,13 @@ ghost use Rattle.caption.specs.Answers.{saidAnswer};
 ghost use Rattle.model_packing.specs.Pieces.{piecesOf, bytesOf};
 ghost use Rattle.model_packing.specs.Proposals.{inside};
 ghost use Rattle.packing_bytes.specs.Bytes.{bytesSaid};
-ghost use Rattle.packing_bytes.specs.Table.{pieceAt, cellOf, LowPiece, Fills, Empty, Tells, TellsOrNot, Runs, hasHolder, oneBlock, besideFirst, follows, follow};
+ghost use Rattle.packing_bytes.specs.Table.{nthPiece, cellOf, LowPiece, Fills, Empty, TellsHolders, TellsOrNot, FewRuns, hasHolder, oneBlock, besideFirst, follows, follow};
 use caption::Answer;
 use caption::Refusal;
+use packing_runs::MOST_NUMBERS;
+use packing_runs::MOST_RUNS;
+use packing_runs::PIECE;
 use packing_runs::number_at;
-
-// The most runs of a proposal.
-const MOST_RUNS: usize = 256;
-
-// How many numbers a piece has.
-const NUMBERS: usize = 5;
 
 // How many cells of the table a run has.
 const RUN_CELLS: usize = 256;
@@ -28,9 +25,6 @@ const CELLS: usize = 65536;
 
 // Tells of each byte which piece holds it.
 type Table = [u16; CELLS];
-
-// How many packets, and blocks of a packet, there may be.
-const MOST_NUMBERS: usize = 256;
 
 // The sum of the lengths of all runs.
 fn count_bytes(services: &[u8], lengths: &[u8]) -> usize
@@ -55,12 +49,12 @@ fn count_pieces(pieces: &[u8], most: usize) -> usize
     let n = pieces.len();
     let mut o = 0;
     let mut count: usize = 0;
-    while NUMBERS <= n - o {
+    while PIECE <= n - o {
         if most < count {
             return count;
         }
         count += 1;
-        o += NUMBERS;
+        o += PIECE;
     }
     count
 }
@@ -68,11 +62,11 @@ fn count_pieces(pieces: &[u8], most: usize) -> usize
 // Whether a piece has a byte or more, and its bytes are its run's.
 fn is_inside(services: &[u8], lengths: &[u8], pieces: &[u8], place: usize) -> bool
     requires { ⌜ place < 65280 ⌝ }
-    ensures { λ r. ⌜ (r ≡ inside (now (services .entry)) (now (lengths .entry)) (pieceAt (now (pieces .entry)) place)) × (r ≡ true → LowPiece (pieceAt (now (pieces .entry)) place)) ⌝ }
+    ensures { λ r. ⌜ (r ≡ inside (now (services .entry)) (now (lengths .entry)) (nthPiece (now (pieces .entry)) place)) × (r ≡ true → LowPiece (nthPiece (now (pieces .entry)) place)) ⌝ }
 {
-    let run = number_at(pieces, NUMBERS * place);
-    let first = number_at(pieces, NUMBERS * place + 1);
-    let size = number_at(pieces, NUMBERS * place + 2);
+    let run = number_at(pieces, PIECE * place);
+    let first = number_at(pieces, PIECE * place + 1);
+    let size = number_at(pieces, PIECE * place + 2);
     if size < 1 {
         return false;
     }
@@ -101,12 +95,12 @@ fn fill_cells(table: &mut Table, from: usize, size: usize, value: u16) -> bool
 
 // Fills the cells of the bytes of a piece.
 fn fill_piece(pieces: &[u8], place: usize, table: &mut Table) -> bool
-    requires { ⌜ (place < 65280) × LowPiece (pieceAt (now pieces) place) ⌝ }
-    ensures { λ r. ⌜ Fills (pieceAt (now (pieces .entry)) place .size) (cellOf (pieceAt (now (pieces .entry)) place)) (place + 1) (now (table .entry)) (now (table .exit)) r ⌝ }
+    requires { ⌜ (place < 65280) × LowPiece (nthPiece (now pieces) place) ⌝ }
+    ensures { λ r. ⌜ Fills (nthPiece (now (pieces .entry)) place .size) (cellOf (nthPiece (now (pieces .entry)) place)) (place + 1) (now (table .entry)) (now (table .exit)) r ⌝ }
 {
-    let run = number_at(pieces, NUMBERS * place);
-    let first = number_at(pieces, NUMBERS * place + 1);
-    let size = number_at(pieces, NUMBERS * place + 2);
+    let run = number_at(pieces, PIECE * place);
+    let first = number_at(pieces, PIECE * place + 1);
+    let size = number_at(pieces, PIECE * place + 2);
     let value = (place + 1) as u16;
     fill_cells(table, RUN_CELLS * run + first, size, value)
 }
@@ -160,9 +154,9 @@ fn all_held(services: &[u8], lengths: &[u8], table: &Table) -> bool
 // Where the piece that a cell names lies: 256 times its packet, and its block.
 fn lies_at(pieces: &[u8], holder: u16) -> usize
     requires { ⌜ 0 < holder ⌝ }
-    ensures { λ r. ⌜ (r ≡ 256 * pieceAt (now (pieces .entry)) (holder - 1) .packet + pieceAt (now (pieces .entry)) (holder - 1) .block) × (pieceAt (now (pieces .entry)) (holder - 1) .block < 256) ⌝ }
+    ensures { λ r. ⌜ (r ≡ 256 * nthPiece (now (pieces .entry)) (holder - 1) .packet + nthPiece (now (pieces .entry)) (holder - 1) .block) × (nthPiece (now (pieces .entry)) (holder - 1) .block < 256) ⌝ }
 {
-    let o = NUMBERS * (holder as usize - 1);
+    let o = PIECE * (holder as usize - 1);
     MOST_NUMBERS * number_at(pieces, o + 3) + number_at(pieces, o + 4)
 }
 
@@ -244,7 +238,7 @@ fn all_whole(services: &[u8], lengths: &[u8], pieces: &[u8], table: &Table) -> b
 
 // The answer by a table that tells of all pieces.
 fn answer_told(services: &[u8], lengths: &[u8], pieces: &[u8], table: &Table) -> Answer
-    requires { ⌜ Runs (now services) (now lengths) × Tells (now services) (now lengths) (now table) 0 (piecesOf (now pieces)) ⌝ }
+    requires { ⌜ FewRuns (now services) (now lengths) × TellsHolders (now services) (now lengths) (now table) 0 (piecesOf (now pieces)) ⌝ }
     ensures { λ r. ⌜ saidAnswer r ≡ bytesSaid (now (services .entry)) (now (lengths .entry)) (piecesOf (now (pieces .entry))) ⌝ }
 {
     if !all_held(services, lengths, table) {

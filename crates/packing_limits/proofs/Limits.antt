@@ -14,7 +14,7 @@ use Rattle.model.proofs.Cases.{by-test, both}
 use Rattle.model.proofs.Blocks.{Carriable, carriable-facts}
 use Rattle.model.proofs.Packets.{valid-facts}
 use Rattle.model_packing.specs.Pieces.{Piece, serviceOf, countFrom}
-use Rattle.model_packing.specs.Proposals.{liesIn, piecesIn, blockFor, blocksIn, blank, blankPacket, runsFit, numbered, oneService, limits}
+use Rattle.model_packing.specs.Proposals.{liesIn, piecesIn, blockFor, blocksIn, zeros, blankPacket, runsFit, numbered, oneService, limits}
 use Rattle.model_packing.proofs.Lists.{In, here, every-in, in-those, those-in, in-flatMap, in-count}
 use Rattle.model_packing.proofs.Limits.{limits-all}
 use Rattle.packing_limits.specs.Tables.{placeOf, firstService, totalSize, allJoin, Tables, blockAt, blocksAt, packetAt}
@@ -23,22 +23,22 @@ use Rattle.packing_limits.proofs.Tabled.{lies-own}
 use Rattle.packing_limits.proofs.Joining.{joined-first, joined-one, Sound, sound-joins}
 
 -- the bytes of pieces, whatever they say
-flat-blank : (qs : List Piece) → flatMap (λ (q : Piece). blank (q .size)) qs ≡ blank (totalSize qs)
+flat-blank : (qs : List Piece) → flatMap (λ (q : Piece). zeros (q .size)) qs ≡ zeros (totalSize qs)
 unfolding flatMap totalSize
 flat-blank [] = refl
-flat-blank (q ∷ qs) = ap (λ l. blank (q .size) ++ l) (flat-blank qs) ∙ replicate-append-replicate (q .size) (totalSize qs) 0
+flat-blank (q ∷ qs) = ap (λ l. zeros (q .size) ++ l) (flat-blank qs) ∙ replicate-append-replicate (q .size) (totalSize qs) 0
 
 -- the block of some pieces, by their service and their bytes
 abbrev blankBlock : List ℕ → List Piece → Block
-blankBlock services qs = record { number = firstService services qs; payload = blank (totalSize qs) }
+blankBlock services qs = record { number = firstService services qs; payload = zeros (totalSize qs) }
 
 -- the pieces make it,
-block-of : (services : List ℕ) (q : Piece) (qs : List Piece) → blockFor services (λ r. blank (r .size)) (q ∷ qs) ≡ blankBlock services (q ∷ qs) ∷ []
+block-of : (services : List ℕ) (q : Piece) (qs : List Piece) → blockFor services (λ r. zeros (r .size)) (q ∷ qs) ≡ blankBlock services (q ∷ qs) ∷ []
 unfolding blockFor firstService
 block-of services q qs = rw (flat-blank (q ∷ qs))
 
 -- and it is there where one of them is
-block-in : (services : List ℕ) (q : Piece) (qs : List Piece) → In q qs → In (blankBlock services qs) (blockFor services (λ r. blank (r .size)) qs)
+block-in : (services : List ℕ) (q : Piece) (qs : List Piece) → In q qs → In (blankBlock services qs) (blockFor services (λ r. zeros (r .size)) qs)
 block-in services q (r ∷ qs) i = rw (block-of services r qs) (here refl)
 
 module _ (services lengths : List ℕ) (ps : List Piece) where
@@ -66,8 +66,8 @@ module _ (services lengths : List ℕ) (ps : List Piece) where
       let hb : q .block < 256 = ltb-true _ _ (n .1) in
       let v = valid-facts (blankPacket services ps (q .packet)) (every-in (λ (r : Piece). validPacket (blankPacket services ps (r .packet))) ps (w .valid) i) in
       carriable-facts _
-      (every-in carriable (blocksIn services (λ r. blank (r .size)) ps (q .packet)) (v .blocks)
-      (in-flatMap (λ b. blockFor services (λ r. blank (r .size)) (piecesIn (q .packet) b ps)) (countFrom 0 256) (in-count (q .block) 0 256 (omega arith) (omega arith))
+      (every-in carriable (blocksIn services (λ r. zeros (r .size)) ps (q .packet)) (v .blocks)
+      (in-flatMap (λ b. blockFor services (λ r. zeros (r .size)) (piecesIn (q .packet) b ps)) (countFrom 0 256) (in-count (q .block) 0 256 (omega arith) (omega arith))
       (block-in services q (piecesIn (q .packet) (q .block) ps) (in-those (liesIn (q .packet) (q .block)) ps i (lies-own q)))))
 
   -- and all pieces there are of its service
@@ -111,7 +111,7 @@ module _ (services lengths : List ℕ) (ps : List Piece) where
   module _ (ns ss : List ℕ) (joined : allJoin services ps ≡ true) (t : Tables services ps ns ss) where
     -- the tables tell a block,
     told-block : (qs : List Piece) (n k : ℕ) → n ≡ firstService services qs → k ≡ totalSize qs → ((q : Piece) → In q qs → 1 ≤ serviceOf services (q .run))
-        → blockFor services (λ r. blank (r .size)) qs ≡ cond (eqb n 0) [] (record { number = n; payload = blank k } ∷ [])
+        → blockFor services (λ r. zeros (r .size)) qs ≡ cond (eqb n 0) [] (record { number = n; payload = zeros k } ∷ [])
     unfolding blockFor firstService
     told-block [] n k en ek f = rw (eq-eqb n 0 en)
     told-block (q ∷ qs) n k en ek f =
@@ -119,10 +119,10 @@ module _ (services lengths : List ℕ) (ps : List Piece) where
         rw (z, en, ek) (block-of services q qs)
 
     -- and so a packet
-    told-packet : (p : ℕ) → p < 256 → blocksIn services (λ r. blank (r .size)) ps p ≡ blocksAt ns ss p 0 256
+    told-packet : (p : ℕ) → p < 256 → blocksIn services (λ r. zeros (r .size)) ps p ≡ blocksAt ns ss p 0 256
     unfolding blocksIn blocksAt blockAt
     told-packet p hp =
-        flat-same (λ b. blockFor services (λ r. blank (r .size)) (piecesIn p b ps)) (λ b. blockAt ns ss (placeOf p b)) 256
+        flat-same (λ b. blockFor services (λ r. zeros (r .size)) (piecesIn p b ps)) (λ b. blockAt ns ss (placeOf p b)) 256
         (λ b hb. told-block (piecesIn p b ps) (getD ns (placeOf p b) 0) (getD ss (placeOf p b) 0) (t .number p b hp hb) (t .size p b hp hb)
         (λ q i. joined-first services ps joined q (those-in (liesIn p b) ps i .0) .0))
 

@@ -12,7 +12,7 @@ use Rattle.model.specs.Lists.{every}
 use Rattle.model.proofs.Cases.{by-test, both, and-both}
 use Rattle.model_packing.specs.Pieces.{Piece, piecesOf, serviceOf, those}
 use Rattle.model_packing.specs.Proposals.{liesIn, piecesIn, numbered}
-use Rattle.packing_limits.specs.Tables.{pieceAt, placeOf, Placed, firstService, totalSize, Entered, EnteredPiece, joins, allJoin, Tables}
+use Rattle.packing_limits.specs.Tables.{pieceAt, placeOf, PlacedIn, firstService, totalSize, Entered, EnteredPiece, joins, allJoin, Tables}
 use Rattle.packing_limits.proofs.Fives.{piece-first, piece-none, piece-left}
 
 -- tables without pieces tell none
@@ -28,7 +28,7 @@ tables-blank services n e =
 
 -- the piece of the list that is entered
 pub piece-entered : (services l : List ℕ) (o run service place : ℕ) (ns ss ms ts : List ℕ) (r : Bool) → run ≡ getD l o 0 → service ≡ getD services run 0
-    → Placed (pieceAt l o) place → Entered service (getD l (o + 2) 0) place ns ss r ms ts → EnteredPiece services (pieceAt l o) ns ss r ms ts
+    → PlacedIn (pieceAt l o) place → Entered service (getD l (o + 2) 0) place ns ss r ms ts → EnteredPiece services (pieceAt l o) ns ss r ms ts
 piece-entered services l o run service place ns ss ms ts r er es p e = record { packet = p .packet; block = p .block; entered = rw (← er, ← es, ← p .is) e }
 
 -- a piece lies in its block,

@@ -10,7 +10,7 @@ use Rattle.model.specs.Lists.{every}
 use Rattle.model.specs.Block.{Block, blockLength}
 use Rattle.model.specs.Packet.{Packet, mostPacket, carriable}
 use Rattle.model_packing.specs.Pieces.{Piece, serviceOf, countFrom}
-use Rattle.model_packing.specs.Proposals.{mostNumbers, piecesIn, blank, numbered}
+use Rattle.model_packing.specs.Proposals.{mostNumbers, piecesIn, zeros, numbered}
 
 -- the piece whose five numbers stand from a place on
 abbrev pub pieceAt : List ℕ → ℕ → Piece
@@ -28,7 +28,7 @@ abbrev pub placeOf : ℕ → ℕ → ℕ
 placeOf p b = 256 * p + b
 
 -- the place of the block that a piece lies in, whose packet and block have numbers of one byte
-pub record Placed (q : Piece) (place : ℕ) : Type 0 where
+pub record PlacedIn (q : Piece) (place : ℕ) : Type 0 where
   pub is : place ≡ placeOf (q .packet) (q .block)
   pub packet : q .packet < 256
   pub block : q .block < 256
@@ -82,7 +82,7 @@ pub record Tables (services : List ℕ) (ps : List Piece) (ns ss : List ℕ) : T
 
 -- the block at a place of the tables; none where the number is 0
 unfoldable pub blockAt : List ℕ → List ℕ → ℕ → List Block
-blockAt ns ss i = cond (eqb (getD ns i 0) 0) [] (record { number = getD ns i 0; payload = blank (getD ss i 0) } ∷ [])
+blockAt ns ss i = cond (eqb (getD ns i 0) 0) [] (record { number = getD ns i 0; payload = zeros (getD ss i 0) } ∷ [])
 
 -- those of packet p from block b on, n of them
 unfoldable pub blocksAt : List ℕ → List ℕ → ℕ → ℕ → ℕ → List Block

@@ -9,20 +9,16 @@ ghost use Rattle.model.specs.Lists.{every};
 ghost use Rattle.model.specs.Packet.{validPacket};
 ghost use Rattle.model_packing.specs.Pieces.{piecesOf, countFrom};
 ghost use Rattle.model_packing.specs.Proposals.{limits, mostNumbers};
-ghost use Rattle.packing_limits.specs.Tables.{pieceAt, Placed, agrees, Entered, EnteredPiece, allJoin, Tables, blockAt, packetAt, taken};
+ghost use Rattle.packing_limits.specs.Tables.{pieceAt, PlacedIn, agrees, Entered, EnteredPiece, allJoin, Tables, blockAt, packetAt, taken};
 use basics::MOST_NUMBER;
 use basics::MOST_PACKET;
 use basics::MOST_PAYLOAD;
 use basics::wide;
+use packing_runs::MOST_NUMBERS;
+use packing_runs::PIECE;
 use packing_runs::number_at;
 use packing_runs::runs_fit;
 use service_headers::block_length;
-
-// The numbers that a piece is made of.
-const PIECE: usize = 5;
-
-// The packets, and the blocks of each, that have a number.
-const MOST_NUMBERS: usize = 256;
 
 // Where the last piece ends: fewer than five numbers at the end make none.
 fn pieces_end(pieces: &[u8]) -> usize
@@ -39,7 +35,7 @@ fn pieces_end(pieces: &[u8]) -> usize
 // The place in the tables of the block that a piece lies in.
 fn place_of(pieces: &[u8], at: usize) -> usize
     requires { ⌜ at + 5 ≤ length (now pieces) ⌝ }
-    ensures { λ r. ⌜ Placed (pieceAt (now (pieces .entry)) at) r ⌝ }
+    ensures { λ r. ⌜ PlacedIn (pieceAt (now (pieces .entry)) at) r ⌝ }
 {
     wide(pieces[at + 3]) * 256 + wide(pieces[at + 4])
 }

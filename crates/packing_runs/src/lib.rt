@@ -7,6 +7,15 @@ use basics::MOST_NUMBER;
 use basics::MOST_PAYLOAD;
 use basics::wide;
 
+// The most runs of a proposal.
+pub const MOST_RUNS: usize = 256;
+
+// How many numbers a piece is made of.
+pub const PIECE: usize = 5;
+
+// How many numbers packets have, and the blocks of a packet.
+pub const MOST_NUMBERS: usize = 256;
+
 // The highest service.
 const MOST_SERVICE: usize = MOST_NUMBER as usize;
 

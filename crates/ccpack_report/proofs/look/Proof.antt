@@ -1,5 +1,5 @@
 -- The kind and the number of runs stand in what is kept. Assumes nothing.
-use Rattle.ccpack_report.proofs.Sorts.{job-heard}
+use Rattle.ccpack_report.proofs.Sorts.{job-kept}
 use borrow.Author.Needs.{needs}
 use Rattle.ccpack_report.proofs.look.Statement.{statement}
 use Rattle.ccpack_report.proofs.look.Tie as tie
@@ -25,14 +25,14 @@ add-runs c = search needs
 byte-at-requires-3 : tie.Need-byte-at-requires-3
 byte-at-requires-3 c κs = search needs
 
-heard-length-requires : tie.Need-heard-length-requires
-heard-length-requires c κs = search needs
+kept-length-requires : tie.Need-kept-length-requires
+kept-length-requires c κs = search needs
 
 job-of-requires : tie.Need-job-of-requires
 job-of-requires c κs = search needs
 
 returns : tie.Need-returns
-returns c = search (needs, job-heard)
+returns c = search (needs, job-kept)
 
 pub look-spec : {M : Type 1} → statement M
 look-spec =
@@ -45,6 +45,6 @@ look-spec =
     cast-runs-2
     add-runs
     byte-at-requires-3
-    heard-length-requires
+    kept-length-requires
     job-of-requires
     returns)

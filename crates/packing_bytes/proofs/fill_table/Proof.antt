@@ -6,7 +6,7 @@ use Prim.Native.Nat.{_≤_}
 use lib.ListN.{length, drop}
 use borrow.Author.Tests.{not-false}
 use Rattle.model_packing.specs.Pieces.{piecesOf}
-use Rattle.packing_bytes.specs.Table.{Tells}
+use Rattle.packing_bytes.specs.Table.{TellsHolders}
 use Rattle.packing_bytes.proofs.Holding.{tells-first, tells-all, fill-outside, fill-twice, fill-more}
 use borrow.Author.Needs.{needs}
 use Rattle.packing_bytes.proofs.fill_table.Statement.{statement}
@@ -15,7 +15,7 @@ use Rattle.packing_bytes.proofs.fill_table.Tie as tie
 abbrev Inv-loop : tie.InvT-loop
 Inv-loop services lengths pieces count table₀ place₀ table place =
     (place ≤ length (piecesOf pieces))
-    × Tells services lengths table place (drop place (piecesOf pieces))
+    × TellsHolders services lengths table place (drop place (piecesOf pieces))
 
 abbrev μ-loop : tie.MeasureT-loop
 μ-loop services lengths pieces count table₀ place₀ table place = place
