@@ -6,7 +6,7 @@ use Rattle.model.specs.Lists.{every, same}
 use Rattle.model.specs.Block.{writtenHeader, writtenBlock, blockLength}
 use Rattle.model.specs.Packet.{blocksLength, packetLength, carriable, validPacket, latestOf, pushNew, pushAt, pushRunAt, pushRunBy}
 use Rattle.model_packing.specs.Pieces.{piecesOf, countFrom, runBytes, bytesOf, those, everyTwo, notAfter}
-use Rattle.model_packing.specs.Proposals.{inside, holds, holders, heldOnce, covers, sentFrom, keepsOrder, ordered, withFirst, unsplit, liesIn, blockFor, blocksIn, runFits, runsFit, numbered, oneService, limits, checkProposal}
+use Rattle.model_packing.specs.Proposals.{inside, holds, holders, heldOnce, covers, sentFrom, keepsOrder, ordered, withFirst, unsplit, liesIn, blockFor, blocksIn, runFits, runsFit, numbered, oneService, limits, checkProposal, bytesFirst}
 use Rattle.model_packing.specs.FirstCome.{placed, piecesFrom, packetsFrom, packetsFilled, packable}
 use Rattle.program_text.specs.Text.{word, digit, decimalIn, decimal}
 use Rattle.program_lines.specs.Lines.{valueText, valuesText, answerText, endLine}
@@ -43,5 +43,5 @@ table =
     ∷ []
 
 examples : map (λ (r : Row). jobText (r .job)) table ≡ map (λ (r : Row). r .text) table
-unfolding table every same writtenHeader writtenBlock blockLength blocksLength packetLength carriable validPacket flatMap latestOf pushNew pushAt pushRunAt pushRunBy piecesOf countFrom runBytes bytesOf those everyTwo notAfter inside holds holders heldOnce covers sentFrom keepsOrder ordered withFirst unsplit liesIn blockFor blocksIn runFits runsFit numbered oneService limits checkProposal placed piecesFrom packetsFrom packetsFilled packable digit decimalIn decimal valueText valuesText answerText endLine answerLine packetsLine pieceLine pieceLines proposalLines packedText checkJob proposeJob jobOf jobIn checkedText toldOf jobText
+unfolding table every same writtenHeader writtenBlock blockLength blocksLength packetLength carriable validPacket flatMap latestOf pushNew pushAt pushRunAt pushRunBy piecesOf countFrom runBytes bytesOf those everyTwo notAfter inside holds holders heldOnce covers sentFrom keepsOrder ordered withFirst unsplit liesIn blockFor blocksIn runFits runsFit numbered oneService limits checkProposal bytesFirst placed piecesFrom packetsFrom packetsFilled packable digit decimalIn decimal valueText valuesText answerText endLine answerLine packetsLine pieceLine pieceLines proposalLines packedText checkJob proposeJob jobOf jobIn checkedText toldOf jobText
 examples = refl

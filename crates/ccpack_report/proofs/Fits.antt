@@ -11,7 +11,7 @@ use borrow.Author.Tests.{leb-true, ltb-true}
 use Rattle.model.specs.Said.{Said, overLimit}
 use Rattle.model.proofs.Cases.{by-cond, both}
 use Rattle.model_packing.specs.Pieces.{Piece, piecesOf}
-use Rattle.model_packing.specs.Proposals.{mostRuns, inside, numbered, covers, ordered, unsplit, limits, checkProposal}
+use Rattle.model_packing.specs.Proposals.{mostRuns, inside, numbered, covers, ordered, unsplit, limits, checkProposal, bytesFirst}
 use Rattle.model_packing.specs.FirstCome.{start, firstCome, packetsFilled, packable}
 use Rattle.model_packing.proofs.Lists.{In, here, there, every-in}
 use Rattle.model_packing.proofs.Accepted.{Passes, accepted-passes}
@@ -102,7 +102,7 @@ unfolding answerLine answerText valuesText decimal decimalIn digit
 over-short = omega arith
 
 check-short-line : (services lengths : List ℕ) (ps : List Piece) → Short (checkProposal services lengths ps)
-unfolding checkProposal answerLine answerText valuesText decimal decimalIn digit
+unfolding checkProposal bytesFirst answerLine answerText valuesText decimal decimalIn digit
 check-short-line services lengths ps =
     by-cond Short (ltb mostRuns (length services)) (λ _. omega arith)
     (λ _. by-cond Short (covers services lengths ps)

@@ -11,7 +11,7 @@ use borrow.Author.Tests.{ltb-true, ltb-false, eqb-true, le-ltb, ne-eqb}
 use Rattle.model.specs.Said.{badCover}
 use Rattle.model.proofs.Cases.{by-test, by-cond}
 use Rattle.model_packing.specs.Pieces.{Byte, byte, piecesOf, countFrom, runBytes, bytesOf}
-use Rattle.model_packing.specs.Proposals.{zeros, mostRuns, checkProposal}
+use Rattle.model_packing.specs.Proposals.{zeros, mostRuns, checkProposal, bytesFirst}
 use Rattle.model_packing.proofs.Crowded.{crowded}
 use Rattle.ccpack_report.specs.Lines.{answerLine}
 use Rattle.ccpack_report.specs.Jobs.{headLength, checkJob, proposeJob, jobOf, jobIn, runsIn, servicesIn, lengthsIn, numbersIn, checkedText, toldOf, jobText, mostKept, keptJob}
@@ -141,7 +141,7 @@ module _ (runs a b : ℕ) (far : mostKept ≤ a) (farther : mostKept ≤ b) (sam
 module _ (job : List ℕ) (bytes : Bytes job) (long : mostKept ≤ length job) where
   -- its proposal does not cover the runs
   pub long-refused : (runs : ℕ) → runs ≤ 256 → (x : List ℕ) → checkedText runs (job ++ x) ≡ answerLine badCover
-  unfolding checkedText checkProposal
+  unfolding checkedText checkProposal bytesFirst
   long-refused runs few x =
       let ss = servicesIn runs (job ++ x) in
       let ls = lengthsIn runs (job ++ x) in

@@ -41,13 +41,15 @@ runsIn job = 256 * getD job 1 0 + getD job 2 0
 unfoldable pub jobIn : List ℕ → Job
 jobIn job = jobOf (getD job 0 0) (runsIn job) (length job)
 
--- the services of so many runs, their lengths, and the numbers of the pieces
+-- the services of so many runs,
 abbrev pub servicesIn : ℕ → List ℕ → List ℕ
 servicesIn runs job = take runs (drop 3 job)
 
+-- their lengths,
 abbrev pub lengthsIn : ℕ → List ℕ → List ℕ
 lengthsIn runs job = take runs (drop (3 + runs) job)
 
+-- and the numbers of the pieces
 abbrev pub numbersIn : ℕ → List ℕ → List ℕ
 numbersIn runs job = drop (headLength runs) job
 

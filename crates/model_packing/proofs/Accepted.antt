@@ -12,7 +12,7 @@ use Rattle.model.specs.Said.{Said, accepted, badCover, outOfOrder, runSplit, ov
 use Rattle.model.specs.Packet.{validPacket}
 use Rattle.model.proofs.Cases.{both}
 use Rattle.model_packing.specs.Pieces.{Piece, countFrom, bytesOf, everyTwo}
-use Rattle.model_packing.specs.Proposals.{inside, heldOnce, covers, keepsOrder, ordered, unsplit, blankPacket, mostNumbers, runsFit, numbered, oneService, limits, mostRuns, checkProposal}
+use Rattle.model_packing.specs.Proposals.{inside, heldOnce, covers, keepsOrder, ordered, unsplit, blankPacket, mostNumbers, runsFit, numbered, oneService, limits, mostRuns, checkProposal, bytesFirst}
 use Rattle.model_packing.proofs.Limits.{limits-all}
 
 -- the tests of a proposal, the limits with the packets of all numbers
@@ -32,18 +32,18 @@ not-refused : (why : Said) → (why .number ≡ 0 → ⊥) → why ≡ accepted 
 not-refused why other e = other (ap (λ (a : Said). a .number) e)
 
 -- so it is the answer behind a test that does not refuse,
-none-refused : (b : Bool) (why so : Said) → (why .number ≡ 0 → ⊥) → cond b why so ≡ accepted [] → (b ≡ false) × (so ≡ accepted [])
+pub none-refused : (b : Bool) (why so : Said) → (why .number ≡ 0 → ⊥) → cond b why so ≡ accepted [] → (b ≡ false) × (so ≡ accepted [])
 none-refused true why so other e = absurd (not-refused why other e)
 none-refused false why so other e = (refl, e)
 
 -- or behind one that is passed
-both-passed : (b : Bool) (so why : Said) → (why .number ≡ 0 → ⊥) → cond b so why ≡ accepted [] → (b ≡ true) × (so ≡ accepted [])
+pub both-passed : (b : Bool) (so why : Said) → (why .number ≡ 0 → ⊥) → cond b so why ≡ accepted [] → (b ≡ true) × (so ≡ accepted [])
 both-passed true so why other e = (refl, e)
 both-passed false so why other e = absurd (not-refused why other e)
 
 -- an accepted proposal passes them
 pub accepted-passes : (services lengths : List ℕ) (ps : List Piece) → checkProposal services lengths ps ≡ accepted [] → Passes services lengths ps
-unfolding checkProposal covers ordered
+unfolding checkProposal bytesFirst covers ordered
 accepted-passes services lengths ps e =
     let few = none-refused (ltb mostRuns (length services)) overLimit _ (λ z. omega arith) e in
     let cover = both-passed (covers services lengths ps) _ badCover (λ z. omega arith) (few .1) in

@@ -9,7 +9,7 @@ use Rattle.model.specs.Said.{Outcome, gave, refused, putInto}
 use Rattle.model.specs.Block.{writtenHeader, writtenBlock, blockLength}
 use Rattle.model.specs.Packet.{blocksLength, packetLength, carriable, validPacket, latestOf, pushNew, pushAt, pushRunAt, pushRunBy}
 use Rattle.model_packing.specs.Pieces.{piecesOf, numbersOf, countFrom, runBytes, bytesOf, those, everyTwo, notAfter}
-use Rattle.model_packing.specs.Proposals.{inside, holds, holders, heldOnce, covers, sentFrom, keepsOrder, ordered, withFirst, unsplit, liesIn, blockFor, blocksIn, runFits, runsFit, numbered, oneService, limits, checkProposal}
+use Rattle.model_packing.specs.Proposals.{inside, holds, holders, heldOnce, covers, sentFrom, keepsOrder, ordered, withFirst, unsplit, liesIn, blockFor, blocksIn, runFits, runsFit, numbered, oneService, limits, checkProposal, bytesFirst}
 use Rattle.model_packing.specs.FirstCome.{placed, piecesFrom, packetsFrom, packetsFilled, packable, propose, Proposed}
 
 -- runs, by their services and their lengths
@@ -112,5 +112,5 @@ table =
 
 -- the definitions give what the rule book says, row by row
 pub examples : map (λ (r : Row). answer (r .input)) table ≡ map (λ (r : Row). r .result) table
-unfolding table every same putInto writtenHeader writtenBlock blockLength blocksLength packetLength carriable validPacket latestOf pushNew pushAt pushRunAt pushRunBy flatMap piecesOf numbersOf countFrom runBytes bytesOf those everyTwo notAfter inside holds holders heldOnce covers sentFrom keepsOrder ordered withFirst unsplit liesIn blockFor blocksIn runFits runsFit numbered oneService limits checkProposal placed piecesFrom packetsFrom packetsFilled packable propose
+unfolding table every same putInto writtenHeader writtenBlock blockLength blocksLength packetLength carriable validPacket latestOf pushNew pushAt pushRunAt pushRunBy flatMap piecesOf numbersOf countFrom runBytes bytesOf those everyTwo notAfter inside holds holders heldOnce covers sentFrom keepsOrder ordered withFirst unsplit liesIn blockFor blocksIn runFits runsFit numbered oneService limits checkProposal bytesFirst placed piecesFrom packetsFrom packetsFilled packable propose
 examples = refl

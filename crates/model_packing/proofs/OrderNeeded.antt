@@ -14,7 +14,7 @@ use Rattle.model.proofs.Cases.{by-test, by-cond, and-both}
 use Rattle.model.proofs.Lists.{same-true, same-self}
 use Rattle.model.proofs.Distribution.{isByte}
 use Rattle.model_packing.specs.Pieces.{Piece, Byte, byte, countFrom, bytesOf, serviceOf, everyTwo, notAfter}
-use Rattle.model_packing.specs.Proposals.{covers, sent, keepsOrder, ordered, unsplit, limits, mostRuns, checkProposal}
+use Rattle.model_packing.specs.Proposals.{covers, sent, keepsOrder, ordered, unsplit, limits, mostRuns, checkProposal, bytesFirst}
 use Rattle.model_packing.specs.Carrying.{proposedPackets, spoken, heardIn}
 use Rattle.model_packing.proofs.Lists.{In, here, there, every-in, in-every, in-those, those-in, every-count, bytes-in}
 use Rattle.model_packing.proofs.Sorted.{Sorted, none, next, sorted-by, sorted-those, every-two-before}
@@ -147,7 +147,7 @@ order-needed services lengths ps c l all =
 -- what is refused with 24 covers its runs and does not keep the order
 order-refused : (services lengths : List ℕ) (ps : List Piece) → checkProposal services lengths ps ≡ outOfOrder
     → (covers services lengths ps ≡ true) × (ordered services lengths ps ≡ false)
-unfolding checkProposal
+unfolding checkProposal bytesFirst
 order-refused services lengths ps h =
     by-test (ltb mostRuns (length services)) (λ e. absurd (other overLimit (λ z. omega arith) (rw e at h)))
     (λ few. by-test (covers services lengths ps)

@@ -14,7 +14,7 @@ use Rattle.model.proofs.Lists.{same-self}
 use Rattle.model.proofs.Packets.{Valid, facts-valid}
 use Rattle.model.proofs.Pushing.{run-valid}
 use Rattle.model_packing.specs.Pieces.{Piece, Byte, byte, countFrom, runBytes, bytesOf, serviceOf}
-use Rattle.model_packing.specs.Proposals.{inside, heldOnce, covers, keepsOrder, ordered, withFirst, unsplit, liesIn, piecesIn, zeros, blankPacket, runsFit, numbered, oneService, limits, mostRuns, checkProposal}
+use Rattle.model_packing.specs.Proposals.{inside, heldOnce, covers, keepsOrder, ordered, withFirst, unsplit, liesIn, piecesIn, zeros, blankPacket, runsFit, numbered, oneService, limits, mostRuns, checkProposal, bytesFirst}
 use Rattle.model_packing.specs.FirstCome.{placeOr0, firstCome, packable}
 use Rattle.model_packing.proofs.Lists.{in-every, those-in, map-in, count-in, bytes-in}
 use Rattle.model_packing.proofs.Accepted.{Passes, accepted-passes}
@@ -139,7 +139,7 @@ module _ (services lengths : List ℕ) (ok : packable services lengths ≡ true)
 
   -- What the packer proposes passes.
   pub passes : checkProposal services lengths (firstCome services lengths) ≡ accepted []
-  unfolding checkProposal
+  unfolding checkProposal bytesFirst
   passes = simp (first-come-pieces services lengths, le-ltb 256 (length services) (few-runs services lengths ok), all-covered, all-ordered, all-unsplit, all-limited)
 
 -- Where the packer makes none, no proposal passes.

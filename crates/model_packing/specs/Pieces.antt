@@ -38,6 +38,7 @@ pub record Byte : Type 0 where
   pub run : ℕ
   pub place : ℕ
 
+-- by the two
 abbrev pub byte : ℕ → ℕ → Byte
 byte r k = record { run = r; place = k }
 

@@ -37,6 +37,7 @@ unfoldable pub sentFrom : ℕ → List Piece → Byte → List ℕ
 sentFrom i [] x = []
 sentFrom i (q ∷ qs) x = cond (holds x q) (q .packet ∷ q .block ∷ i ∷ []) (sentFrom (suc i) qs x)
 
+-- the same in the whole list [Q3]
 abbrev pub sent : List Piece → Byte → List ℕ
 sent ps x = sentFrom 0 ps x
 
@@ -118,14 +119,19 @@ limits services lengths ps =
 abbrev pub mostRuns : ℕ
 mostRuns = 256
 
--- What a proposal is answered: more than 256 runs are 26; then 23, 24, 25 and 26, in this order [Q7].
-unfoldable pub checkProposal : List ℕ → List ℕ → List Piece → Said
-checkProposal services lengths ps =
+-- What a proposal is answered, where `last` is asked once its bytes are all there, in order and not split: more than 256 runs are 26; then come 23, 24
+-- and 25, in this order [Q7].
+unfoldable pub bytesFirst : List ℕ → List ℕ → List Piece → Said → Said
+bytesFirst services lengths ps last =
     cond (ltb mostRuns (length services)) overLimit
     (cond (covers services lengths ps)
     (cond (ordered services lengths ps)
     (cond (unsplit services lengths ps)
-    (cond (limits services lengths ps) (accepted []) overLimit)
+    last
     runSplit)
     outOfOrder)
     badCover)
+
+-- What a proposal is answered: its bytes first, and then its limits, 26 [Q7].
+unfoldable pub checkProposal : List ℕ → List ℕ → List Piece → Said
+checkProposal services lengths ps = bytesFirst services lengths ps (cond (limits services lengths ps) (accepted []) overLimit)

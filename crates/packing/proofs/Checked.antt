@@ -18,7 +18,7 @@ use Rattle.caption.specs.declared.Refusal.the-variants.{BadCover, OverLimit}
 use Rattle.caption.specs.Answers.{saidAnswer}
 use Rattle.caption.proofs.Answers.{saidAnswer-injective}
 use Rattle.model_packing.specs.Pieces.{Piece, piecesOf, numbersOf, bytesOf, countFrom}
-use Rattle.model_packing.specs.Proposals.{mostRuns, checkProposal, runFits, runsFit}
+use Rattle.model_packing.specs.Proposals.{mostRuns, checkProposal, runFits, runsFit, bytesFirst}
 use Rattle.model_packing.specs.FirstCome.{firstCome, packetsFilled, packable}
 use Rattle.model_packing.specs.FirstCome as model
 use Rattle.model_packing.proofs.Crowded.{crowded}
@@ -62,7 +62,7 @@ module _ (κs : Lfts 3) (services lengths pieces : Lent) (r : Answer) (told : Ch
 
   -- More pieces than there are bytes to cover are refused with 23.
   pub crowded-refused : length (now services) ≤ mostRuns → length (bytesOf (now services) (now lengths)) < length (piecesOf (now pieces)) → r ≡ Refused BadCover
-  unfolding checkProposal
+  unfolding checkProposal bytesFirst
   crowded-refused few more =
       saidAnswer-injective r (Refused BadCover)
       (told ∙ rw (le-ltb mostRuns (length (now services)) few, crowded (now services) (now lengths) (piecesOf (now pieces)) more))

@@ -5,13 +5,13 @@ use mathlib.Core.List.{List, [], _∷_}
 use Prim.Native.Nat.{ℕ, _+_, _-_, _≤_, _<_}
 use native.Mathlib.Omega.{arith}
 use lib.Dec.{eqb}
-use lib.ListN.{length, getD, replicate}
+use lib.ListN.{length, replicate}
 use borrow.Author.Tests.{not-true, not-false, ltb-true, eqb-true, eqb-false, eq-eqb, lt-ltb, le-ltb}
 use Rattle.model.specs.Lists.{every}
 use Rattle.model.specs.Said.{accepted, badCover, outOfOrder, runSplit, overLimit}
 use Rattle.model.proofs.Cases.{by-test}
 use Rattle.model_packing.specs.Pieces.{Byte, byte, bytesOf, piecesOf, everyTwo}
-use Rattle.model_packing.specs.Proposals.{heldOnce, holders, covers, sent, keepsOrder, ordered, withFirst, unsplit}
+use Rattle.model_packing.specs.Proposals.{heldOnce, holders, covers, sent, keepsOrder, ordered, withFirst, unsplit, bytesFirst}
 use Rattle.model_packing.proofs.Lists.{In, here, there, every-in, in-bytes, bytes-in}
 use Rattle.model_packing.proofs.Crowded.{crowded}
 use Rattle.packing_bytes.specs.Bytes.{bytesSaid}
@@ -95,13 +95,13 @@ module _ (services lengths l t : List ℕ) (R : FewRuns services lengths) (T : T
 module _ (services lengths l : List ℕ) where
   -- too many runs
   pub said-many : 256 < length services → overLimit ≡ bytesSaid services lengths (piecesOf l)
-  unfolding bytesSaid
+  unfolding bytesSaid bytesFirst
   said-many h = rw (lt-ltb 256 (length services) h)
 
   module _ (few : length services ≤ 256) where
     -- bytes that are not covered
     pub said-uncovered : covers services lengths (piecesOf l) ≡ false → badCover ≡ bytesSaid services lengths (piecesOf l)
-    unfolding bytesSaid
+    unfolding bytesSaid bytesFirst
     said-uncovered e = rw (le-ltb 256 (length services) few, e)
 
     -- more pieces than bytes
@@ -129,7 +129,7 @@ module _ (services lengths l : List ℕ) where
 
           -- bytes that do not keep their order
           pub said-unordered : not b ≡ true → outOfOrder ≡ bytesSaid services lengths (piecesOf l)
-          unfolding bytesSaid
+          unfolding bytesSaid bytesFirst
           said-unordered e = rw (le-ltb 256 (length services) (R .few), covered, in-order, not-true b e)
 
           module _ (kept : not b ≡ false) (d : Bool) (beside : d ≡ every (besideFirst l t) (bytesOf services lengths)) where
@@ -138,10 +138,10 @@ module _ (services lengths l : List ℕ) where
 
             -- a run that is split
             pub said-split : not d ≡ true → runSplit ≡ bytesSaid services lengths (piecesOf l)
-            unfolding bytesSaid
+            unfolding bytesSaid bytesFirst
             said-split e = rw (le-ltb 256 (length services) (R .few), covered, in-order, not-false b kept, whole, not-true d e)
 
             -- and none
             pub said-accepted : not d ≡ false → accepted [] ≡ bytesSaid services lengths (piecesOf l)
-            unfolding bytesSaid
+            unfolding bytesSaid bytesFirst
             said-accepted e = rw (le-ltb 256 (length services) (R .few), covered, in-order, not-false b kept, whole, not-false d e)
