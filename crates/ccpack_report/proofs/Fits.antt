@@ -10,10 +10,10 @@ use lib.ListN.{length, getD, length-append}
 use borrow.Author.Tests.{leb-true, ltb-true}
 use Rattle.model.specs.Said.{Said, overLimit}
 use Rattle.model.proofs.Cases.{by-cond, both}
-use Rattle.model_packing.specs.Pieces.{Piece, piecesOf}
+use Rattle.model_packing.specs.Pieces.{Piece, piecesOf, In, here, there}
 use Rattle.model_packing.specs.Proposals.{mostRuns, inside, numbered, covers, ordered, unsplit, limits, checkProposal, bytesFirst}
 use Rattle.model_packing.specs.FirstCome.{start, firstCome, packetsFilled, packable}
-use Rattle.model_packing.proofs.Lists.{In, here, there, every-in}
+use Rattle.model_packing.proofs.Lists.{every-in}
 use Rattle.model_packing.proofs.Accepted.{Passes, accepted-passes}
 use Rattle.model_packing.proofs.Sending.{numbered-facts}
 use Rattle.model_packing.proofs.Counting.{few-packets}

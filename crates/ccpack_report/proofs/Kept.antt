@@ -10,7 +10,7 @@ use lib.Seq.{getD-take, getD-drop, getD-append-add, take-append-le, drop-append-
 use borrow.Author.Tests.{ltb-true, ltb-false, eqb-true, le-ltb, ne-eqb}
 use Rattle.model.specs.Said.{badCover}
 use Rattle.model.proofs.Cases.{by-test, by-cond}
-use Rattle.model_packing.specs.Pieces.{Byte, byte, piecesOf, countFrom, runBytes, bytesOf}
+use Rattle.model_packing.specs.Pieces.{byte, piecesOf, countFrom, runBytes, bytesOf}
 use Rattle.model_packing.specs.Proposals.{zeros, mostRuns, checkProposal, bytesFirst}
 use Rattle.model_packing.proofs.Crowded.{crowded}
 use Rattle.ccpack_report.specs.Lines.{answerLine}

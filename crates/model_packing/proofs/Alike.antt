@@ -10,9 +10,9 @@ use Rattle.model.specs.Block.{Block, blockLength}
 use Rattle.model.specs.Packet.{carriable, blocksLength, packetLength, validPacket}
 use Rattle.model.proofs.Blocks.{written-length}
 use Rattle.model.proofs.Packets.{valid-facts, facts-valid}
-use Rattle.model_packing.specs.Pieces.{Piece, countFrom}
+use Rattle.model_packing.specs.Pieces.{Piece, countFrom, In, here, there}
 use Rattle.model_packing.specs.Proposals.{mostNumbers, blockFor, blocksIn}
-use Rattle.model_packing.proofs.Lists.{In, here, there, those-in}
+use Rattle.model_packing.proofs.Lists.{those-in}
 
 -- as many blocks, of the same numbers and lengths
 pub data Alike : List Block → List Block → Type 0 where

@@ -11,10 +11,10 @@ use Rattle.model.specs.Block.{Block}
 use Rattle.model.specs.Packet.{Packet, latest, pushRun}
 use Rattle.model.proofs.Cases.{gives-at}
 use Rattle.model.proofs.Limits.{few-blocks}
-use Rattle.model_packing.specs.Pieces.{Piece, serviceOf, countFrom}
+use Rattle.model_packing.specs.Pieces.{Piece, serviceOf, countFrom, In}
 use Rattle.model_packing.specs.Proposals.{zeros, blocksIn}
 use Rattle.model_packing.specs.FirstCome.{placeOr0, firstCome, packable}
-use Rattle.model_packing.proofs.Lists.{In, in-map, in-count}
+use Rattle.model_packing.proofs.Lists.{in-map, in-count}
 use Rattle.model_packing.proofs.Blanks.{blanks, blanked, blankBlock, map-more, latest-blanked, pushed-blank}
 use Rattle.model_packing.proofs.Taking.{Took, push-takes}
 use Rattle.model_packing.proofs.Filling.{Placing, intoSame, intoNext, packedTo, pieceOf, piecesTo, first-come-pieces, bounded, placing-from, placed-from}

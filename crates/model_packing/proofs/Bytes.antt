@@ -9,9 +9,9 @@ use lib.ListN.{length, getD, take, drop}
 use lib.Seq.{drop-cons}
 use borrow.Author.Tests.{eq-eqb, le-leb, lt-ltb, eqb-true, leb-true, ltb-true, ltb-false}
 use Rattle.model.proofs.Cases.{by-test, both}
-use Rattle.model_packing.specs.Pieces.{Piece, Byte, byte, countFrom, runBytes, bytesOf}
+use Rattle.model_packing.specs.Pieces.{Piece, Byte, byte, countFrom, runBytes, bytesOf, In}
 use Rattle.model_packing.specs.Proposals.{holds}
-use Rattle.model_packing.proofs.Lists.{In, in-map, map-in, in-count, count-in}
+use Rattle.model_packing.proofs.Lists.{in-map, map-in, in-count, count-in}
 use Rattle.model_packing.proofs.Sorted.{Sorted, sorted-map, sorted-flatMap, sorted-count}
 
 -- a byte is earlier than another: its run is, or its place in the same run

@@ -8,39 +8,22 @@ use native.Mathlib.Omega.{arith}
 use lib.ListN.{length, getD, drop, length-drop, length-replicate, List·getD-map}
 use lib.Seq.{length-take-le}
 use borrow.Author.Tests.{leb-true}
-use Rattle.model.specs.Said.{gave, accepted}
+use Rattle.model.specs.Said.{accepted}
 use Rattle.model.specs.Block.{Block}
-use Rattle.model.specs.Packet.{Packet, readPacket, readTidy, writtenPacket, validPacket}
+use Rattle.model.specs.Packet.{Packet, writtenPacket, validPacket}
 use Rattle.model.specs.Demux.{closed, packetsOf}
 use Rattle.model.proofs.Packets.{valid-facts, plain-back}
 use Rattle.model.proofs.Fill.{tidy-back}
-use Rattle.model_packing.specs.Pieces.{Piece, countFrom, serviceOf}
+use Rattle.model_packing.specs.Promises.{AnySendable, Delivers}
+use Rattle.model_packing.specs.Pieces.{Piece, countFrom, In, here, there}
 use Rattle.model_packing.specs.Proposals.{mostNumbers, blocksIn, zeros, blankPacket, checkProposal}
-use Rattle.model_packing.specs.Carrying.{bytesIn, someBlock, proposedPackets, sequencedFrom, spoken, heardIn, heard}
-use Rattle.model_packing.proofs.Lists.{In, here, there, every-in, those-in, map-in}
+use Rattle.model_packing.specs.Carrying.{bytesIn, someBlock, proposedPackets, sequencedFrom, heardIn, heard}
+use Rattle.model_packing.proofs.Lists.{every-in, those-in, map-in}
 use Rattle.model_packing.proofs.Alike.{valid-alike, packet-alike}
 use Rattle.model_packing.proofs.Accepted.{Passes, accepted-passes}
 use Rattle.model_packing.proofs.Covered.{passes-covered, Inside, piece-inside}
 use Rattle.model_packing.proofs.Heard.{heard-spoken}
-use Rattle.model_packing.proofs.InOneBlock.{StandsWhole, run-whole}
-
--- a packet that can be sent: it is within the limits, and both readers give it back as it was written
-pub record Sendable (p : Packet) : Type 0 where
-  pub within-limits : validPacket p ≡ true
-  pub read-plainly : readPacket (writtenPacket p) ≡ gave p
-  pub read-tidily : readTidy (writtenPacket p) ≡ gave p
-
--- blocks that make such a packet with any sequence number
-abbrev pub AnySendable : List Block → Type 0
-AnySendable bs = (n : ℕ) → n ≤ 3 → Sendable (record { sequence = n; blocks = bs })
-
--- A proposal carried out with the bytes of runs: each of its packets can be sent; and where they are written, with any sequence numbers, and read
--- back, they say to each service all that is spoken to it, in order, once each; and each run stands whole in a block of its service.
-pub record Delivers (services : List ℕ) (runs : List (List ℕ)) (ps : List Piece) : Type 0 where
-  pub each-sendable : (bs : List Block) → In bs (proposedPackets services runs ps) → AnySendable bs
-  pub heard-in-order : (sequence : ℕ → ℕ) → ((i : ℕ) → sequence i ≤ 3) → (s : ℕ)
-      → heard s (packetsOf (map writtenPacket (sequencedFrom sequence 0 (proposedPackets services runs ps)))) ≡ spoken s services runs
-  pub runs-whole : (r : ℕ) → r < length services → StandsWhole (getD runs r []) (serviceOf services r) (proposedPackets services runs ps)
+use Rattle.model_packing.proofs.InOneBlock.{run-whole}
 
 -- such packets are read back as they were written, one after the other
 packets-back : (sequence : ℕ → ℕ) → ((i : ℕ) → sequence i ≤ 3) → (i : ℕ) (l : List (List Block)) → ((bs : List Block) → In bs l → AnySendable bs)

@@ -8,18 +8,12 @@ use lib.Dec.{eqb}
 use lib.ListN.{length}
 use borrow.Author.Tests.{eqb-true, eqb-false}
 use Rattle.model.proofs.Cases.{by-test}
+use Rattle.model_packing.specs.Promises.{NamesBelow}
 use Rattle.model_packing.specs.Pieces.{Piece, countFrom}
 use Rattle.model_packing.specs.FirstCome.{firstCome, packable, packetsFrom, packetsFilled}
-use Rattle.model_packing.proofs.Lists.{In, in-map, map-in, in-count, count-in}
+use Rattle.model_packing.proofs.Lists.{in-map, map-in, in-count, count-in}
 use Rattle.model_packing.proofs.Filling.{packedTo, pieceOf, piecesTo, first-come-pieces, bounded, placed-from}
 use Rattle.model_packing.proofs.Following.{standing}
-
--- so many packets, by the pieces that name them
-pub record NamesBelow (ps : List Piece) (n : ℕ) : Type 0 where
-  -- no piece names one from there on,
-  pub below : (q : Piece) → In q ps → q .packet < n
-  -- and every one before is named
-  pub reached : (p : ℕ) → p < n → (q : Piece) × In q ps × (q .packet ≡ p)
 
 -- the packets after k runs more: that which is being filled, and those before it
 packets-from : (services lengths : List ℕ) (k i : ℕ) → packetsFrom services lengths k i (packedTo services lengths i) ≡ suc (packedTo services lengths (i + k) .before)

@@ -7,9 +7,9 @@ use lib.ListN.{length, getD}
 use borrow.Author.Tests.{leb-true, ltb-true}
 use Rattle.model.specs.Lists.{every}
 use Rattle.model.proofs.Cases.{both}
-use Rattle.model_packing.specs.Pieces.{Piece, bytesOf}
+use Rattle.model_packing.specs.Pieces.{Piece, bytesOf, In}
 use Rattle.model_packing.specs.Proposals.{inside, heldOnce, covers, runsFit, numbered, oneService, limits}
-use Rattle.model_packing.proofs.Lists.{In, every-in}
+use Rattle.model_packing.proofs.Lists.{every-in}
 use Rattle.model_packing.proofs.Accepted.{Passes}
 
 -- each piece is inside its run, each byte is in one piece, the pieces have numbers of one byte, and those of a block are of one service

@@ -9,9 +9,9 @@ use lib.ListN.{length, getD}
 use borrow.Author.Tests.{eqb-true, leb-true, ltb-true, eq-eqb, le-leb, lt-ltb}
 use Rattle.model.specs.Lists.{every}
 use Rattle.model.proofs.Cases.{by-test, both}
-use Rattle.model_packing.specs.Pieces.{Piece, Byte, byte, bytesOf}
+use Rattle.model_packing.specs.Pieces.{Piece, Byte, byte, bytesOf, In, here, there}
 use Rattle.model_packing.specs.Proposals.{inside, holds, holders, heldOnce, covers}
-use Rattle.model_packing.proofs.Lists.{In, here, there, in-bytes}
+use Rattle.model_packing.proofs.Lists.{in-bytes}
 
 -- how many of some bytes are in a piece
 held : Piece → List Byte → ℕ

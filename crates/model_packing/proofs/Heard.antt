@@ -10,10 +10,10 @@ use lib.Seq.{take-length}
 use borrow.Author.Tests.{eqb-true, leb-false}
 use Rattle.model.specs.Block.{Block}
 use Rattle.model.proofs.Cases.{by-test}
-use Rattle.model_packing.specs.Pieces.{Piece, Byte, countFrom, runBytes, bytesOf, serviceOf, those}
+use Rattle.model_packing.specs.Pieces.{Piece, Byte, countFrom, runBytes, bytesOf, serviceOf, those, In, here}
 use Rattle.model_packing.specs.Proposals.{mostNumbers, liesIn, piecesIn, blockFor, blocksIn, oneService}
 use Rattle.model_packing.specs.Carrying.{bytesIn, someBlock, proposedPackets, spoken, heardIn}
-use Rattle.model_packing.proofs.Lists.{In, here, every-in, those-in}
+use Rattle.model_packing.proofs.Lists.{every-in, those-in}
 use Rattle.model_packing.proofs.Maps.{those-all, those-none, flatMap-same, flatMap-those, those-map, those-flatMap, map-flatMap, flatMap-map, flatMap-flatMap}
 use Rattle.model_packing.proofs.Sending.{Listed, listed-in, listedIn, listed-block, packetListed, lies-facts, sendingOrder, sending-in}
 use Rattle.model_packing.proofs.Bytes.{bytesFrom, bytes-run, pieceBytes, numberAt, part-numbers}

@@ -10,11 +10,12 @@ use borrow.Author.Tests.{eq-eqb, le-leb, ltb-true, ltb-false}
 use Rattle.model.specs.Block.{Block}
 use Rattle.model.proofs.Cases.{by-test, and-both}
 use Rattle.model.proofs.Lists.{same-true}
-use Rattle.model_packing.specs.Pieces.{Piece, Byte, byte, countFrom, runBytes, bytesOf, serviceOf, those}
+use Rattle.model_packing.specs.Promises.{StandsWhole}
+use Rattle.model_packing.specs.Pieces.{Piece, Byte, byte, countFrom, runBytes, bytesOf, serviceOf, those, In, here}
 use Rattle.model_packing.specs.Proposals.{mostNumbers, sent, blockSentIn, withFirst, unsplit, liesIn, piecesIn, blockFor, blocksIn, numbered}
 use Rattle.model_packing.specs.FirstCome.{packable}
 use Rattle.model_packing.specs.Carrying.{bytesIn, someBlock, proposedPackets}
-use Rattle.model_packing.proofs.Lists.{In, here, in-left, in-right, in-either, every-in, in-those, those-in, in-map, in-flatMap, flatMap-in, in-count, in-bytes, bytes-in}
+use Rattle.model_packing.proofs.Lists.{in-left, in-right, in-either, every-in, in-those, those-in, in-map, in-flatMap, flatMap-in, in-count, in-bytes, bytes-in}
 use Rattle.model_packing.proofs.Maps.{map-append, map-flatMap, flatMap-map, flatMap-same}
 use Rattle.model_packing.proofs.Sorted.{Sorted, in-some, sorted-append, sorted-those, sorted-flatMap, sorted-same}
 use Rattle.model_packing.proofs.Sending.{Listed, listedFrom, listed-in, sentAt, listedIn, listed-block, lies-itself, block-facts, block-sorted, sendingOrder, in-sending, numbered-facts, held-by}
@@ -24,17 +25,6 @@ use Rattle.model_packing.proofs.Covered.{Covered, passes-covered}
 use Rattle.model_packing.proofs.Spoken.{isListedOf, sendingTo, held-there, held-once, sent-then, across}
 use Rattle.model_packing.proofs.Heard.{block-of-one, piece-numbers, run-numbers}
 use Rattle.model_packing.proofs.Filling.{run-some}
-
--- a run stands whole in a block of a service, in one of some packets
-pub record StandsWhole (run : List ℕ) (s : ℕ) (packets : List (List Block)) : Type 0 where
-  pub blocks : List Block
-  pub in-packets : In blocks packets
-  pub block : Block
-  pub in-blocks : In block blocks
-  pub number : block .number ≡ s
-  pub front : List ℕ
-  pub back : List ℕ
-  pub payload : block .payload ≡ front ++ (run ++ back)
 
 -- pieces make a block: its number is the service of one of them, and it has the bytes of all
 pub block-made : (services : List ℕ) (fill : Piece → List ℕ) (qs : List Piece) {q : Piece} → In q qs

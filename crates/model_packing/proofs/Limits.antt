@@ -9,9 +9,9 @@ use borrow.Author.Tests.{eqb-true, eqb-false, ltb-true, ne-eqb}
 use Rattle.model.specs.Lists.{every}
 use Rattle.model.specs.Packet.{packetLength, validPacket}
 use Rattle.model.proofs.Cases.{by-test, both}
-use Rattle.model_packing.specs.Pieces.{Piece, countFrom, those}
+use Rattle.model_packing.specs.Pieces.{Piece, countFrom, those, In, here, there}
 use Rattle.model_packing.specs.Proposals.{mostNumbers, liesIn, piecesIn, blockFor, blocksIn, blankPacket, runsFit, numbered, oneService, limits}
-use Rattle.model_packing.proofs.Lists.{In, here, there, nothing-in, every-in, in-every, count-every, every-count}
+use Rattle.model_packing.proofs.Lists.{nothing-in, every-in, in-every, count-every, every-count}
 
 -- two truths, each of which follows from the other
 pub same-truth : (a b : Bool) → (a ≡ true → b ≡ true) → (b ≡ true → a ≡ true) → a ≡ b

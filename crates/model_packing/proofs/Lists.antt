@@ -9,12 +9,7 @@ use lib.ListN.{length, getD}
 use borrow.Author.Tests.{eqb-true, eqb-false}
 use Rattle.model.specs.Lists.{every}
 use Rattle.model.proofs.Cases.{by-test, both, and-both}
-use Rattle.model_packing.specs.Pieces.{Byte, byte, countFrom, runBytes, bytesOf, those}
-
--- an element of a list
-pub data In {A : Type 0} (x : A) : List A → Type 0 where
-  here : {y : A} {l : List A} → x ≡ y → In x (y ∷ l)
-  there : {y : A} {l : List A} → In x l → In x (y ∷ l)
+use Rattle.model_packing.specs.Pieces.{Byte, byte, countFrom, runBytes, bytesOf, those, In, here, there}
 
 module _ {A : Type 0} where
   -- there is none in an empty list

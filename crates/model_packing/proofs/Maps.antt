@@ -3,8 +3,7 @@ use mathlib.Core.Path.{_≡_, refl, sym, _∙_}
 use mathlib.Core.Bool.{Bool, true, false}
 use mathlib.Core.List.{List, [], _∷_, _++_, map, flatMap, append-assoc}
 use Rattle.model.proofs.Cases.{by-test}
-use Rattle.model_packing.specs.Pieces.{those}
-use Rattle.model_packing.proofs.Lists.{In, here, there}
+use Rattle.model_packing.specs.Pieces.{those, In, here, there}
 
 module _ {A : Type 0} (test : A → Bool) where
   -- those of two lists, one behind the other

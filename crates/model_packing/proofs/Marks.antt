@@ -11,8 +11,8 @@ use borrow.Author.Tests.{eq-eqb, eqb-true}
 use Rattle.model.specs.Lists.{every}
 use Rattle.model.proofs.Cases.{by-test, both, and-both}
 use Rattle.model.proofs.Distribution.{isByte}
-use Rattle.model_packing.specs.Pieces.{Byte, byte, countFrom}
-use Rattle.model_packing.proofs.Lists.{In, here, there, in-every, map-in}
+use Rattle.model_packing.specs.Pieces.{Byte, byte, countFrom, In, here, there}
+use Rattle.model_packing.proofs.Lists.{in-every, map-in}
 use Rattle.model_packing.proofs.Bytes.{bytesFrom}
 
 -- 1 at one byte, 0 at all others

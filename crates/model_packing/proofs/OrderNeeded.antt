@@ -13,10 +13,11 @@ use Rattle.model.specs.Said.{Said, accepted, badCover, outOfOrder, runSplit, ov
 use Rattle.model.proofs.Cases.{by-test, by-cond, and-both}
 use Rattle.model.proofs.Lists.{same-true, same-self}
 use Rattle.model.proofs.Distribution.{isByte}
-use Rattle.model_packing.specs.Pieces.{Piece, Byte, byte, countFrom, bytesOf, serviceOf, everyTwo, notAfter}
+use Rattle.model_packing.specs.Promises.{Misheard}
+use Rattle.model_packing.specs.Pieces.{Piece, Byte, byte, countFrom, bytesOf, serviceOf, everyTwo, notAfter, In, here, there}
 use Rattle.model_packing.specs.Proposals.{covers, sent, keepsOrder, ordered, unsplit, limits, mostRuns, checkProposal, bytesFirst}
 use Rattle.model_packing.specs.Carrying.{proposedPackets, spoken, heardIn}
-use Rattle.model_packing.proofs.Lists.{In, here, there, every-in, in-every, in-those, those-in, every-count, bytes-in}
+use Rattle.model_packing.proofs.Lists.{every-in, in-every, in-those, those-in, every-count, bytes-in}
 use Rattle.model_packing.proofs.Sorted.{Sorted, none, next, sorted-by, sorted-those, every-two-before}
 use Rattle.model_packing.proofs.Bytes.{Earlier, earlier-one-way, all-sorted, numberAt}
 use Rattle.model_packing.proofs.Spoken.{isByteOf, spokenBytes, sentBytes, sent-is-spoken}
@@ -37,14 +38,6 @@ unfolding every
 by-every test [] all one = all refl
 by-every test (x ∷ l) all one =
     by-test (test x) (λ e. by-every test l (λ d. all (and-both _ _ e d)) (λ y i. one y (there i))) (one x (here refl))
-
--- bytes of runs that some service would hear in another order than they are spoken to it
-pub record Misheard (services lengths : List ℕ) (ps : List Piece) : Type 0 where
-  pub runs : List (List ℕ)
-  pub so-long : map length runs ≡ lengths
-  pub all-bytes : every (every isByte) runs ≡ true
-  pub service : ℕ
-  pub otherwise : flatMap (heardIn service) (proposedPackets services runs ps) ≡ spoken service services runs → ⊥
 
 module _ (services lengths : List ℕ) (ps : List Piece) (ok : Covered services lengths ps) where
   -- runs with a 1 at one byte

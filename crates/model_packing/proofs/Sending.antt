@@ -7,9 +7,9 @@ use native.Mathlib.Omega.{arith}
 use borrow.Author.Tests.{eq-eqb, ne-eqb, le-ltb, eqb-true, ltb-true}
 use Rattle.model.specs.Lists.{every}
 use Rattle.model.proofs.Cases.{by-test, both, and-both}
-use Rattle.model_packing.specs.Pieces.{Piece, Byte, countFrom, those, notAfter}
+use Rattle.model_packing.specs.Pieces.{Piece, Byte, countFrom, those, notAfter, In, here, there}
 use Rattle.model_packing.specs.Proposals.{holds, holders, sentFrom, mostNumbers, liesIn, piecesIn, numbered}
-use Rattle.model_packing.proofs.Lists.{In, here, there, every-in, in-those, those-in, in-flatMap, flatMap-in, in-count}
+use Rattle.model_packing.proofs.Lists.{every-in, in-those, those-in, in-flatMap, flatMap-in, in-count}
 use Rattle.model_packing.proofs.Maps.{those-map}
 use Rattle.model_packing.proofs.Sorted.{Sorted, none, next, sorted-those, sorted-by, sorted-flatMap, sorted-count}
 

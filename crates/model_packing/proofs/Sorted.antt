@@ -7,8 +7,8 @@ use native.Mathlib.Omega.{arith}
 use lib.ListN.{length}
 use Rattle.model.specs.Lists.{every}
 use Rattle.model.proofs.Cases.{by-test, both}
-use Rattle.model_packing.specs.Pieces.{countFrom, those, everyTwo}
-use Rattle.model_packing.proofs.Lists.{In, here, there, in-either, every-in, those-in, map-in, flatMap-in, count-in}
+use Rattle.model_packing.specs.Pieces.{countFrom, those, everyTwo, In, here, there}
+use Rattle.model_packing.proofs.Lists.{in-either, every-in, those-in, map-in, flatMap-in, count-in}
 
 -- each element is before all that are behind it
 pub data Sorted {A : Type 0} (Before : A → A → Type 0) : List A → Type 0 where

@@ -6,9 +6,9 @@ use Prim.Native.Nat.{ℕ}
 use native.Mathlib.Omega.{arith}
 use lib.Dec.{eqb}
 use borrow.Author.Tests.{eq-eqb, eqb-true}
-use Rattle.model_packing.specs.Pieces.{Piece, Byte, bytesOf, serviceOf, those, notAfter}
+use Rattle.model_packing.specs.Pieces.{Piece, Byte, bytesOf, serviceOf, those, notAfter, In}
 use Rattle.model_packing.specs.Proposals.{holders, heldOnce, sent, keepsOrder}
-use Rattle.model_packing.proofs.Lists.{In, every-in, in-those, those-in, in-flatMap, flatMap-in, in-bytes}
+use Rattle.model_packing.proofs.Lists.{every-in, in-those, those-in, in-flatMap, flatMap-in, in-bytes}
 use Rattle.model_packing.proofs.Sorted.{Sorted, sorted-those, sorted-flatMap, sorted-same, every-two-before}
 use Rattle.model_packing.proofs.Sending.{Listed, listedFrom, listed-in, sentAt, SentBefore, same-not-before, sendingOrder, sending-sorted, sending-in, in-sending, sent-with, held-by}
 use Rattle.model_packing.proofs.Bytes.{Earlier, earlier-one-way, by-order, pieceBytes, in-piece, piece-in, piece-holds, bytes-sorted, all-sorted}

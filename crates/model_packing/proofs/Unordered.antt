@@ -7,9 +7,8 @@ use native.Mathlib.Omega.{arith}
 use lib.Dec.{eqb}
 use borrow.Author.Tests.{eq-eqb, ne-eqb, lt-ltb, eqb-true, eqb-false, ltb-false}
 use Rattle.model.proofs.Cases.{by-test}
-use Rattle.model_packing.specs.Pieces.{Piece, Byte, notAfter}
+use Rattle.model_packing.specs.Pieces.{Piece, Byte, notAfter, In}
 use Rattle.model_packing.specs.Proposals.{sent}
-use Rattle.model_packing.proofs.Lists.{In}
 use Rattle.model_packing.proofs.Sorted.{Sorted, sorted-by, sorted-those, sorted-flatMap}
 use Rattle.model_packing.proofs.Sending.{Listed, sentAt, not-after-itself, sending-sorted}
 use Rattle.model_packing.proofs.Bytes.{pieceBytes, bytes-sorted}

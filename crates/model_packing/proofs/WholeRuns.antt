@@ -9,9 +9,9 @@ use lib.ListN.{length, getD}
 use borrow.Author.Tests.{eq-eqb, ne-eqb, le-leb, lt-ltb, eqb-true, eqb-false}
 use Rattle.model.specs.Lists.{every}
 use Rattle.model.proofs.Cases.{by-test, both, and-both}
-use Rattle.model_packing.specs.Pieces.{Byte, byte, countFrom, runBytes, everyTwo, notAfter}
+use Rattle.model_packing.specs.Pieces.{Byte, byte, countFrom, runBytes, everyTwo, notAfter, In, here, there}
 use Rattle.model_packing.specs.Proposals.{holds, holders, sentFrom, sent}
-use Rattle.model_packing.proofs.Lists.{In, here, there, in-every, every-both, map-in, flatMap-in, count-in}
+use Rattle.model_packing.proofs.Lists.{in-every, every-both, map-in, flatMap-in, count-in}
 use Rattle.model_packing.proofs.Filling.{pieceOf, piecesTo}
 
 module _ (services lengths : List ℕ) (r k : ℕ) where

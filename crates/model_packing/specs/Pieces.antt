@@ -1,5 +1,6 @@
 -- A proposal: its pieces, and the bytes of the runs that they are cut from. Assumes nothing.
 use mathlib.Core.Bool.{Bool, true, false, cond, _&&_}
+use mathlib.Core.Path.{_≡_}
 use mathlib.Core.List.{List, [], _∷_, map, flatMap}
 use Prim.Native.Nat.{ℕ, zero, suc}
 use lib.Dec.{eqb, ltb}
@@ -69,3 +70,8 @@ unfoldable pub notAfter : List ℕ → List ℕ → Bool
 notAfter [] l = true
 notAfter (x ∷ l) [] = false
 notAfter (x ∷ l) (y ∷ m) = cond (eqb x y) (notAfter l m) (ltb x y)
+
+-- an element of a list
+pub data In {A : Type 0} (x : A) : List A → Type 0 where
+  here : {y : A} {l : List A} → x ≡ y → In x (y ∷ l)
+  there : {y : A} {l : List A} → In x l → In x (y ∷ l)

@@ -17,23 +17,24 @@ use Rattle.caption.specs.declared.Answer.the-variants.{Accepted, Refused}
 use Rattle.caption.specs.declared.Refusal.the-variants.{BadCover, OverLimit}
 use Rattle.caption.specs.Answers.{saidAnswer}
 use Rattle.caption.proofs.Answers.{saidAnswer-injective}
+use Rattle.model_packing.specs.Promises.{Delivers, NamesBelow}
 use Rattle.model_packing.specs.Pieces.{Piece, piecesOf, numbersOf, bytesOf, countFrom}
 use Rattle.model_packing.specs.Proposals.{mostRuns, checkProposal, runFits, runsFit, bytesFirst}
 use Rattle.model_packing.specs.FirstCome.{firstCome, packetsFilled, packable}
 use Rattle.model_packing.specs.FirstCome as model
 use Rattle.model_packing.proofs.Crowded.{crowded}
-use Rattle.model_packing.proofs.Carried.{Delivers, accepted-delivers}
+use Rattle.model_packing.proofs.Carried.{accepted-delivers}
 use Rattle.model_packing.proofs.Passing.{passes, only-packable}
 use Rattle.packing.specs.declared.Proposal.{Proposal}
 use Rattle.packing.specs.declared.Proposal.the-variants as proposal
 use Rattle.packing.specs.Calls.{Proposes}
-use Rattle.packing.specs.Pushing.{Packets, Fresh, Pushes}
-use Rattle.packing.proofs.Pushed.{AllPushed, proposal-pushed}
+use Rattle.packing.specs.Pushing.{Packets, Fresh, Pushes, AllPushed}
+use Rattle.packing.proofs.Pushed.{proposal-pushed}
 use Rattle.packing.proofs.check.Reads as check
 use Rattle.packing.proofs.propose.Reads as propose
 use Rattle.model.specs.Lists.{every}
 use Rattle.model_packing.proofs.Lists.{count-every}
-use Rattle.model_packing.proofs.Counting.{NamesBelow, filled-named}
+use Rattle.model_packing.proofs.Counting.{filled-named}
 use Rattle.packing_runs.proofs.Runs.{fits-some}
 use Rattle.packing.proofs.Calls.{proposal-length}
 use Rattle.packing.proofs.Told.{saidProposal-injective}

@@ -16,7 +16,7 @@ use Rattle.packet.specs.Packet.{Answers, packetOf, validDTVCC}
 use Rattle.packet.specs.Packet as packet
 use Rattle.packet.proofs.Keeps.{blank-valid}
 use Rattle.model_packing.specs.Pieces.{numbersOf, serviceOf}
-use Rattle.model_packing.specs.Proposals.{zeros, runFits}
+use Rattle.model_packing.specs.Proposals.{runFits}
 use Rattle.model_packing.specs.FirstCome.{start, placedRun, placeOr0, pieceFor, piecesFrom, packetsFrom, firstCome, packetsFilled, packable}
 use Rattle.model_packing.specs.FirstCome as model
 use Rattle.model_packing.proofs.Filling.{PlacedAt, Bounded, bounded-start, fits-carriable, run-placed, bounded-next, few-runs, run-fits}

@@ -21,16 +21,16 @@ use Rattle.packet.specs.Packet.{Answers, packetOf, over, blank, validDTVCC}
 use Rattle.packet.proofs.Holds.{Places, blank-places}
 use Rattle.packet.proofs.Measures.{new-valid}
 use Rattle.packet.proofs.Keeps.{Laid, laid-over, run-held}
-use Rattle.model_packing.specs.Pieces.{Piece, serviceOf}
+use Rattle.model_packing.specs.Pieces.{Piece, serviceOf, In, here, there}
 use Rattle.model_packing.specs.Proposals.{blocksIn}
 use Rattle.model_packing.specs.FirstCome.{firstCome, packable}
 use Rattle.model_packing.specs.Carrying.{bytesIn}
-use Rattle.model_packing.proofs.Lists.{In, here, there, nothing-in}
+use Rattle.model_packing.proofs.Lists.{nothing-in}
 use Rattle.model_packing.proofs.Accepted.{accepted-passes}
 use Rattle.model_packing.proofs.Carried.{piece-length}
 use Rattle.model_packing.proofs.AsProposed.{CarriedOut, pushed-as-proposed}
 use Rattle.model_packing.proofs.Passing.{passes}
-use Rattle.packing.specs.Pushing.{NewPacket, Packets, Fresh, replaced, Pushes, no-piece, push-piece}
+use Rattle.packing.specs.Pushing.{NewPacket, Packets, Fresh, replaced, Pushes, no-piece, push-piece, AllPushed}
 
 -- bytes that are lent
 abbrev lent : List ℕ → RefT (List ℕ)
@@ -81,12 +81,6 @@ module _ (p : DTVCCPacket) (m : Packet) (k : Keeps p m) (s : ℕ) (run : List �
 -- packets that keep what pieces describe
 abbrev Described : List ℕ → List (List ℕ) → (ℕ → ℕ) → List Piece → Packets → Type 0
 Described services runs sequence ps packets = (p : ℕ) → Keeps (packets p) (record { sequence = sequence p; blocks = blocksIn services (bytesIn runs) ps p })
-
--- What the calls come to: all of them are accepted, and each packet is within its limits and has the blocks that the proposal describes.
-pub record AllPushed (services : List ℕ) (runs : List (List ℕ)) (sequence : ℕ → ℕ) (proposal : List Piece) (told : List Answer) (end : Packets) : Type 0 where
-  pub all-accepted : (a : Answer) → In a told → a ≡ Accepted
-  pub as-described : (p : ℕ) → packetOf (end p) ≡ record { sequence = sequence p; blocks = blocksIn services (bytesIn runs) proposal p }
-  pub within-limits : (p : ℕ) → validDTVCC (end p) ≡ true
 
 module _ (services : List ℕ) (runs : List (List ℕ)) (sequence : ℕ → ℕ) (proposal : List Piece) (out : CarriedOut services (bytesIn runs) proposal) where
   -- one push more

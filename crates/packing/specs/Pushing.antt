@@ -1,6 +1,6 @@
 -- A proposal carried out by calls of `push_code`, each with a result that its contract allows. Assumes nothing.
 use mathlib.Core.Path.{_≡_}
-use mathlib.Core.Bool.{cond}
+use mathlib.Core.Bool.{cond, true}
 use mathlib.Core.List.{List, [], _∷_}
 use Prim.Native.Nat.{ℕ, _≤_}
 use lib.Dec.{eqb}
@@ -11,7 +11,10 @@ use Rattle.packet.specs.declared.DTVCCPacket.{DTVCCPacket}
 use Rattle.packet.specs.declared.PacketAnswer.{PacketAnswer}
 use Rattle.packet.proofs.DTVCCPacket.new.Reads as new
 use Rattle.packet.proofs.DTVCCPacket.push_code.Reads as push_code
-use Rattle.model_packing.specs.Pieces.{Piece, serviceOf}
+use Rattle.caption.specs.declared.Answer.the-variants.{Accepted}
+use Rattle.packet.specs.Packet.{packetOf, validDTVCC}
+use Rattle.model_packing.specs.Proposals.{blocksIn}
+use Rattle.model_packing.specs.Pieces.{Piece, serviceOf, In}
 use Rattle.model_packing.specs.Carrying.{bytesIn}
 
 -- `DTVCCPacket::new(n)`
@@ -42,3 +45,9 @@ pub data Pushes (services : List ℕ) (runs : List (List ℕ)) : List Piece → 
   push-piece : {q : Piece} {qs : List Piece} {packets end : Packets} {told : List Answer} (κs : Lfts 1) (code : RefT (List ℕ)) (r : PacketAnswer)
       → now code ≡ bytesIn runs q → PushCode κs (packets (q .packet)) (serviceOf services (q .run)) code r
       → Pushes services runs qs (replaced packets (q .packet) (r .packet)) told end → Pushes services runs (q ∷ qs) packets (r .answer ∷ told) end
+
+-- What the calls come to: all of them are accepted, and each packet is within its limits and has the blocks that the proposal describes.
+pub record AllPushed (services : List ℕ) (runs : List (List ℕ)) (sequence : ℕ → ℕ) (proposal : List Piece) (told : List Answer) (end : Packets) : Type 0 where
+  pub all-accepted : (a : Answer) → In a told → a ≡ Accepted
+  pub as-described : (p : ℕ) → packetOf (end p) ≡ record { sequence = sequence p; blocks = blocksIn services (bytesIn runs) proposal p }
+  pub within-limits : (p : ℕ) → validDTVCC (end p) ≡ true

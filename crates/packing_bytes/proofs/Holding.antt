@@ -10,9 +10,9 @@ use lib.Seq.{drop-cons, drop-nil, drop-length}
 use borrow.Author.Tests.{not-true, not-false, eqb-true, leb-true, ltb-true, eq-eqb, le-leb, lt-ltb}
 use Rattle.model.specs.Lists.{every}
 use Rattle.model.proofs.Cases.{by-test, both, and-both}
-use Rattle.model_packing.specs.Pieces.{Piece, Byte, byte, bytesOf, piecesOf}
+use Rattle.model_packing.specs.Pieces.{Piece, Byte, byte, bytesOf, piecesOf, In, here, there}
 use Rattle.model_packing.specs.Proposals.{inside, holds, holders, heldOnce, covers, sentFrom}
-use Rattle.model_packing.proofs.Lists.{In, here, there, every-in, in-bytes}
+use Rattle.model_packing.proofs.Lists.{every-in, in-bytes}
 use Rattle.packing_bytes.specs.Table.{cellOf, LowPiece, Empty, nthPiece, free, filled, holderFrom, TellsHolders}
 use Rattle.packing_bytes.proofs.Cells.{length-filled, filled-in, filled-out, free-had, not-free}
 use Rattle.packing_bytes.proofs.Numbers.{noPiece, piece-at}

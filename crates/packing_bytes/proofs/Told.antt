@@ -10,9 +10,9 @@ use borrow.Author.Tests.{not-true, not-false, ltb-true, eqb-true, eqb-false, eq-
 use Rattle.model.specs.Lists.{every}
 use Rattle.model.specs.Said.{accepted, badCover, outOfOrder, runSplit, overLimit}
 use Rattle.model.proofs.Cases.{by-test}
-use Rattle.model_packing.specs.Pieces.{Byte, byte, bytesOf, piecesOf, everyTwo}
+use Rattle.model_packing.specs.Pieces.{Byte, byte, bytesOf, piecesOf, everyTwo, In, here, there}
 use Rattle.model_packing.specs.Proposals.{heldOnce, holders, covers, sent, keepsOrder, ordered, withFirst, unsplit, bytesFirst}
-use Rattle.model_packing.proofs.Lists.{In, here, there, every-in, in-bytes, bytes-in}
+use Rattle.model_packing.proofs.Lists.{every-in, in-bytes, bytes-in}
 use Rattle.model_packing.proofs.Crowded.{crowded}
 use Rattle.packing_bytes.specs.Bytes.{bytesSaid}
 use Rattle.packing_bytes.specs.Table.{holderFrom, TellsHolders, FewRuns, told, hasHolder, sentBy, oneBlock, besideFirst, follow}

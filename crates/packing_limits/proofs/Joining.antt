@@ -9,9 +9,9 @@ use lib.Dec.{eqb, leb}
 use borrow.Author.Tests.{eqb-true, leb-true, eq-eqb, ne-eqb, le-leb}
 use Rattle.model.specs.Lists.{every}
 use Rattle.model.proofs.Cases.{by-test, both, and-both}
-use Rattle.model_packing.specs.Pieces.{Piece, serviceOf, those}
+use Rattle.model_packing.specs.Pieces.{Piece, serviceOf, those, In, here, there}
 use Rattle.model_packing.specs.Proposals.{liesIn, piecesIn, oneService}
-use Rattle.model_packing.proofs.Lists.{In, here, there, in-every, those-in}
+use Rattle.model_packing.proofs.Lists.{in-every, those-in}
 use Rattle.packing_limits.specs.Tables.{firstService, totalSize, agrees, enters, joins, allJoin}
 use Rattle.packing_limits.proofs.Tabled.{lies-own, lies-facts}
 

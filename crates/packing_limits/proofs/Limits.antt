@@ -13,9 +13,9 @@ use Rattle.model.specs.Packet.{carriable, validPacket}
 use Rattle.model.proofs.Cases.{by-test, both}
 use Rattle.model.proofs.Blocks.{Carriable, carriable-facts}
 use Rattle.model.proofs.Packets.{valid-facts}
-use Rattle.model_packing.specs.Pieces.{Piece, serviceOf, countFrom}
+use Rattle.model_packing.specs.Pieces.{Piece, serviceOf, countFrom, In, here}
 use Rattle.model_packing.specs.Proposals.{liesIn, piecesIn, blockFor, blocksIn, zeros, blankPacket, runsFit, numbered, oneService, limits}
-use Rattle.model_packing.proofs.Lists.{In, here, every-in, in-those, those-in, in-flatMap, in-count}
+use Rattle.model_packing.proofs.Lists.{every-in, in-those, those-in, in-flatMap, in-count}
 use Rattle.model_packing.proofs.Limits.{limits-all}
 use Rattle.packing_limits.specs.Tables.{placeOf, firstService, totalSize, allJoin, Tables, blockAt, blocksAt, packetAt}
 use Rattle.packing_limits.proofs.Along.{flat-same, every-same}
