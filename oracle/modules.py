@@ -2,7 +2,7 @@
 
 The compiler takes one module for the whole program. It is kept on the way, by a compiler that stands in its place in a copy of the toolchain.
 """
-import os, platform, shutil, stat, subprocess
+import os, shutil, stat, subprocess
 
 ROOT = os.path.dirname(os.path.dirname(os.path.abspath(__file__)))
 KEEP = """#!/bin/sh
@@ -22,13 +22,30 @@ def executable(path, text):
 
 
 def toolchain():
-    """The kit's folder and its toolchain for this machine."""
+    """The kit's folder and its toolchain."""
     rt = shutil.which("rt")
     if rt is None:
         raise Missing("rt is not in the path")
     kit = os.path.dirname(os.path.dirname(os.path.realpath(rt)))
-    own = os.path.join(kit, "on", platform.machine(), "toolchain")
-    return kit, own if os.path.isdir(own) else os.path.join(kit, "toolchain")
+    return kit, os.path.join(kit, "toolchain")
+
+
+def keeping(kit, tools, own, keep):
+    """The kit as links in a folder of its own, with another compiler. Its command takes the kit to be where it lies itself, so its scripts are copied."""
+    os.mkdir(own)
+    for name in os.listdir(kit):
+        if name not in ("bin", "toolchain"):
+            os.symlink(os.path.join(kit, name), os.path.join(own, name))
+    os.mkdir(own + "/bin")
+    for name in os.listdir(kit + "/bin"):
+        path = os.path.join(kit, "bin", name)
+        with open(path, "rb") as file:
+            is_program = file.read(4) == b"\x7fELF"
+        (os.symlink if is_program else shutil.copy)(path, os.path.join(own, "bin", name))
+    subprocess.run(["cp", "-rs", tools, own + "/toolchain"], check=True)
+    os.remove(own + "/toolchain/bin/clang")
+    executable(own + "/toolchain/bin/clang", keep)
+    return own + "/bin/rt"
 
 
 class Module:
@@ -38,19 +55,14 @@ class Module:
         os.chmod(work, 0o755)
         kit, tools = toolchain()
         self.work, self.clang = work, os.path.join(tools, "bin/clang")
-        self.path, self.object = os.path.join(work, "module.bc"), os.path.join(work, "copy/target/obj", program + ".o")
-        keeping = os.path.join(work, "tools")
-        subprocess.run(["cp", "-rs", tools, keeping], check=True)
-        os.remove(keeping + "/bin/clang")
-        executable(keeping + "/bin/clang", KEEP.format(module=self.path, clang=self.clang))
-        with open(os.path.realpath(shutil.which("rt"))) as file:
-            executable(work + "/rt", "".join(f"tools={keeping}\n" if line.startswith("tools=") else line for line in file))
         copy = os.path.join(work, "copy")
+        self.path, self.object = os.path.join(work, "module.bc"), os.path.join(copy, f"crates/{program}/out/{program}.o")
+        rt = keeping(kit, tools, os.path.join(work, "kit"), KEEP.format(module=self.path, clang=self.clang))
         shutil.copytree(ROOT, copy, symlinks=True, ignore=shutil.ignore_patterns(".git"))
-        for path in (f"target/bin/{program}", f"target/stamp/{program}"):
-            if os.path.exists(os.path.join(copy, path)):
-                os.remove(os.path.join(copy, path))
-        done = subprocess.run([work + "/rt", "check", program], cwd=copy, env={**os.environ, "RATTLE_HOME": kit}, capture_output=True)
+        for path in (program, program + ".o", program + ".stamp"):
+            if os.path.exists(os.path.join(copy, "crates", program, "out", path)):
+                os.remove(os.path.join(copy, "crates", program, "out", path))
+        done = subprocess.run([rt, "run"], cwd=os.path.join(copy, "crates", program), stdin=subprocess.DEVNULL, capture_output=True)
         if done.returncode != 0 or not os.path.exists(self.path):
             raise Missing(f"{program} is not proved, or no module of it was seen")
 

@@ -1,5 +1,7 @@
 // What every part shares: the numbers of the rule book, the lesser of two counts, a sum cut into steps, a byte as a number, and bytes laid into a
 // buffer.
+#![tactic(auto)]
+
 ghost use Rattle.std.specs.Prelude.{◌≡◌, cond, ◌+◌, ◌*◌, ◌≤◌, min, leb};
 ghost use Rattle.std.proofs.lemmas.List.Edits.{sets};
 ghost use Rattle.basics.specs.Cut.{cut_of};
@@ -48,7 +50,7 @@ pub fn lesser(a: usize, b: usize) -> usize
 }
 
 // A sum in steps: how many whole ones there are, and what is left over.
-#[derive(Drop)]
+#[derive(Clone, Copy)]
 pub struct Steps {
     pub count: usize,
     pub rest: usize,

@@ -2,9 +2,14 @@
 // rate is eight bytes, the numerator and the denominator, higher bytes first. Each time the budgets found the time before are added to both, so that
 // the next ones cannot be worked out ahead. The line written is how often a rate was accepted and the sums of the pairs and of the triples, and both
 // programs write the same.
+#![tactic(auto)]
+
+ghost use Rattle.std.specs.Prelude.{◌≤◌, length, IfOk};
+
 use basics::wide;
 use caption::{Budgets, Framerate};
-use libc::{STDIN_FILENO, STDOUT_FILENO};
+use std::io;
+use std::io::Read;
 
 // How often each rate is asked.
 const TIMES: usize = 100000;
@@ -25,17 +30,17 @@ fn number(a: u8, b: u8, c: u8, d: u8) -> usize {
 
 // The lower 32 bits of a sum.
 fn moved(n: usize, by: usize) -> u32 {
-    (std::num::wrapping_add_usize(n, by) % 4294967296) as u32
+    (n.wrapping_add(by) % 4294967296) as u32
 }
 
 // The totals with the budgets of a rate; a refused one adds nothing.
 fn with_budgets(t: Totals, found: Budgets) -> Totals {
     match found {
         Budgets::Of { pairs, triples } => Totals {
-            accepted: std::num::wrapping_add_u64(t.accepted, 1),
-            pairs: std::num::wrapping_add_u64(t.pairs, pairs as u64),
-            triples: std::num::wrapping_add_u64(t.triples, triples as u64),
-            last: std::num::wrapping_add_usize(pairs, triples),
+            accepted: t.accepted.wrapping_add(1),
+            pairs: t.pairs.wrapping_add(pairs as u64),
+            triples: t.triples.wrapping_add(triples as u64),
+            last: pairs.wrapping_add(triples),
         },
         Budgets::BadRate => Totals {
             accepted: t.accepted,
@@ -80,14 +85,24 @@ fn with_rates(input: &[u8; 4096], len: usize) -> Totals {
     t
 }
 
-fn main() {
-    let mut input = io::buffer();
-    let len = io::read_full(STDIN_FILENO, &mut input);
+// Reads until `buf` is full or the input ends: how many bytes are at its front.
+fn read_full(rt: &HostRuntime, buf: &mut [u8]) -> io::Result<usize>
+    ensures { IfOk result (λ n. n ≤ length buf.new) }
+{
+    let mut done = 0;
+    while done < buf.len() {
+        let n = rt.stdin().read(&mut buf[done..])?;
+        if n == 0 {
+            return Ok(done);
+        }
+        done += n;
+    }
+    Ok(done)
+}
+
+fn main(rt: HostRuntime) -> io::Result<()> {
+    let mut input = [0u8; 4096];
+    let len = read_full(&rt, &mut input)?;
     let t = with_rates(&input, len);
-    io::print_decimal(STDOUT_FILENO, t.accepted);
-    io::write_all(STDOUT_FILENO, b" ");
-    io::print_decimal(STDOUT_FILENO, t.pairs);
-    io::write_all(STDOUT_FILENO, b" ");
-    io::print_decimal(STDOUT_FILENO, t.triples);
-    io::write_all(STDOUT_FILENO, b"\n");
+    println!(rt; "{} {} {}", t.accepted, t.pairs, t.triples)
 }

@@ -1,4 +1,6 @@
 // What every part of the caption gateway shares: the answers of a call, a CEA-608 byte pair, and a frame rate with its two budgets.
+#![tactic(auto)]
+
 ghost use Rattle.std.specs.Prelude.{◌≡◌, ◌*◌, ◌<◌};
 ghost use Rattle.model.specs.Said.{says_with};
 ghost use Rattle.model.specs.Rate.{budgets, pairs_then_triples, rounded};
@@ -7,7 +9,7 @@ ghost use Rattle.caption.specs.Rates.{rate, named_rates, said_budgets};
 use basics::{MOST_TRIPLES, PAIRS_A_SECOND, TRIPLES_A_SECOND, cut};
 
 // Why a call was refused.
-#[derive(Drop)]
+#[derive(Clone, Copy)]
 pub enum Refusal {
     // A valid 608 triple stands after a 708 triple.
     Cea608AfterCea708 {
@@ -82,28 +84,28 @@ pub enum Refusal {
 }
 
 // The answer of a call that only accepts or refuses.
-#[derive(Drop)]
+#[derive(Clone, Copy)]
 pub enum Answer {
     Accepted,
     Refused(Refusal),
 }
 
 // The answer of a call that gives a number: a length, a room, a number of bytes written.
-#[derive(Drop)]
+#[derive(Clone, Copy)]
 pub enum Counted {
     Count(usize),
     Refused(Refusal),
 }
 
 // The answer of a call that says yes or no.
-#[derive(Drop)]
+#[derive(Clone, Copy)]
 pub enum Truth {
     Is(bool),
     Refused(Refusal),
 }
 
 // A CEA-608 compatibility byte pair.
-#[derive(Drop)]
+#[derive(Clone, Copy)]
 pub enum Cea608 {
     Field1(u8, u8),
     Field2(u8, u8),
@@ -111,14 +113,14 @@ pub enum Cea608 {
 
 // A frame rate: `numer` frames in `denom` seconds. One that has no budgets is refused, and no other [G2]: a frame would carry no pair (above 120
 // frames a second) or more than 31 triples (below 19.05), or the numerator is 0.
-#[derive(Drop)]
+#[derive(Clone, Copy)]
 pub struct Framerate {
     pub numer: u32,
     pub denom: u32,
 }
 
 // The most that one frame of a rate carries.
-#[derive(Drop)]
+#[derive(Clone, Copy)]
 pub enum Budgets {
     Of { pairs: usize, triples: usize },
     BadRate,

@@ -110,3 +110,7 @@ first_stays buf s e = rw e (record { most = omega arith; few = omega arith; goin
 -- and one read more
 pub ran_next : {buf after : List ℕ} {s r : Reading} → Stays buf s → Steps buf s after r → Ran after r
 ran_next w t = (w.ran.0 ++ t.0, t.1 w.ran.0 w.ran.1)
+
+-- a read that failed, or a text that was not written, leaves what is read as it was
+pub still_ran : {buf after : List ℕ} {s : Reading} → Ran buf s → take s.have after ≡ take s.have buf → Ran after s
+still_ran i e = let l = i.1 in (i.0, record { have = l.have; kept = e ∙ l.kept; over = l.over })

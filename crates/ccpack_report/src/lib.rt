@@ -1,5 +1,7 @@
 // What `ccpack` prints for a job: the answer to a proposal, or the lines of one that it makes. Lines are laid into a lent buffer from a place on and
 // as far as there is room; each function that lays some answers the place behind them.
+#![tactic(auto)]
+
 ghost use Rattle.std.specs.Prelude.{◌≡◌, ◌<◌, ◌≤◌, length};
 ghost use Rattle.caption.specs.Answers.{said_answer};
 ghost use Rattle.model_packing.specs.Pieces.{pieces_of};
@@ -18,7 +20,7 @@ use program_text::{put_newline, put_word};
 pub const MOST_KEPT: usize = 327680;
 
 // What a job is: none, one with too many runs, or one to check or to propose, with its number of runs.
-#[derive(Drop)]
+#[derive(Clone, Copy)]
 enum Job {
     Bad,
     TooMany,
@@ -27,7 +29,7 @@ enum Job {
 }
 
 // The place behind the lines of pieces, and how many these are.
-#[derive(Drop)]
+#[derive(Clone, Copy)]
 struct Listed {
     laid: usize,
     count: u64,

@@ -1,5 +1,5 @@
 -- What `ccread` tells of its input, records of frames and of distribution packets [C1]. Assumes nothing.
-use Rattle.std.specs.Prelude.{Bool, true, List, [], ◌∷◌, ℕ}
+use Rattle.std.specs.Prelude.{◌≡◌, Bool, true, false, List, [], ◌∷◌, ℕ}
 use Rattle.parser.specs.Calls.{fresh}
 use Rattle.parser.specs.After.{turned_on}
 use Rattle.distribution.specs.States.{fresh_reader}
@@ -40,3 +40,8 @@ Steps buf s after r = Stepped mark tell buf s.held s.capture after r.held r.capt
 -- all of some input is told
 abbrev pub Ran : List ℕ → State → Type 0
 Ran buf r = ToldSoFar mark tell true fresh_state.capture buf r.held r.capture
+
+-- where a read or a write failed: more is to be read, all that some input completes is told, and the bytes of it that wait are at the front of the
+-- buffer still; of what the step that failed has read nothing is said
+abbrev pub Broke : List ℕ → State → Type 0
+Broke buf r = (r.held.going ≡ true) × ToldSoFar mark tell false fresh_state.capture buf r.held r.capture

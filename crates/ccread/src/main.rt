@@ -1,30 +1,33 @@
 // Reads records of frames and of distribution packets from standard input to its end and writes what each of them holds [C2] [C5]. Reads and writes go through two buffers of fixed size, whatever the input's length and cut.
-ghost use Rattle.std.specs.Prelude.{◌≡◌, true, false, ◌+◌, ◌≤◌, ◌<◌, length, take};
+#![tactic(auto)]
+
+ghost use Rattle.std.specs.Prelude.{◌≡◌, true, false, ◌+◌, ◌≤◌, ◌<◌, length, take, IfOk, OnErr};
 ghost use Rattle.program_text.specs.Laid.{Whole};
 ghost use Rattle.program_streams.specs.Ahead.{ahead_of};
 ghost use Rattle.program_streams.specs.Walk.{before, told, silent, done_at, Kept, Follow};
-ghost use Rattle.ccread.specs.Walk.{mark, tell, to_tell, still_to_tell, Steps, Ran, fresh_capture, fresh_state};
+ghost use Rattle.ccread.specs.Walk.{mark, tell, to_tell, still_to_tell, Steps, Ran, Broke, fresh_capture, fresh_state};
 ghost use Rattle.ccread_report.specs.Report.{record_lines, recorded};
 
 use ccread_report::{Capture, Recorded};
 use distribution::DistributionReader;
-use libc::{STDIN_FILENO, STDOUT_FILENO};
 use parser::CCDataParser;
 use program_records::part;
 use program_streams::{Ahead, Held, Place};
+use std::io;
+use std::io::Read;
 
 // The lines of a record have at most 32768 bytes, and the last line has fewer.
 const ROOM: usize = 32768;
 
 // Where the program stands in a buffer: what is ahead there, and what it reads with.
-#[derive(Drop)]
+#[derive(Clone, Copy)]
 struct Stand {
     ahead: Ahead,
     capture: Capture,
 }
 
 // What is held from one read to the next, and what the program reads with.
-#[derive(Drop)]
+#[derive(Clone, Copy)]
 struct State {
     held: Held,
     capture: Capture,
@@ -85,16 +88,29 @@ fn drain(buf: &[u8], ended: bool, out: &mut [u8], from: Stand) -> Stand
 }
 
 // Hands a text to standard output: what the records from one place of the buffer to another tell.
-fn send(text: &[u8], buf: &[u8], ended: bool, from: Stand, to: Stand)
+fn send(
+    rt: &HostRuntime,
+    text: &[u8],
+    buf: &[u8],
+    ended: bool,
+    from: Stand,
+    to: Stand,
+) -> io::Result<()>
     requires { to_tell ended buf.now from ≡ before text.now (still_to_tell ended buf.now to) }
 {
-    io::write_all(STDOUT_FILENO, text);
+    rt.write_all(text)
 }
 
 // Every record that is whole in the buffer, in as many pieces as the room makes of what they tell.
-fn tell_all(buf: &[u8], ended: bool, out: &mut [u8], s: State) -> Stand
+fn tell_all(
+    rt: &HostRuntime,
+    buf: &[u8],
+    ended: bool,
+    out: &mut [u8],
+    s: State,
+) -> io::Result<Stand>
     requires { 32768 ≤ length out.old }
-    ensures { silent (told mark tell ended buf.now s.held.passed s.held.records s.capture) ≡ done_at buf.now result.ahead result.capture }
+    ensures { IfOk result (λ to. silent (told mark tell ended buf.now s.held.passed s.held.records s.capture) ≡ done_at buf.now to.ahead to.capture) }
 {
     let capture = s.capture;
     let mut to = Stand {
@@ -104,42 +120,51 @@ fn tell_all(buf: &[u8], ended: bool, out: &mut [u8], s: State) -> Stand
     while to.ahead.full {
         let from = to;
         to = drain(buf, ended, out, from);
-        send(part(out, 0, to.ahead.place.laid), buf, ended, from, to);
+        send(rt, part(out, 0, to.ahead.place.laid), buf, ended, from, to)?;
     }
-    to
+    Ok(to)
 }
 
 // Takes in the first `more` bytes of the buffer, and keeps those behind the last whole record.
-fn take_in(buf: &mut [u8], more: usize, ended: bool, out: &mut [u8], s: State) -> State
+fn take_in(
+    rt: &HostRuntime,
+    buf: &mut [u8],
+    more: usize,
+    ended: bool,
+    out: &mut [u8],
+    s: State,
+) -> io::Result<State>
     requires { 32768 ≤ length out.old }
-    ensures { Kept (told mark tell ended (take more buf.old) s.held.passed s.held.records s.capture) buf.new result.held result.capture }
+    ensures ok { IfOk result (λ r. Kept (told mark tell ended (take more buf.old) s.held.passed s.held.records s.capture) buf.new r.held r.capture) }
+    ensures err { OnErr result (buf.new ≡ buf.old) }
 {
-    let to = tell_all(part(buf, 0, more), ended, out, s);
+    let to = tell_all(rt, part(buf, 0, more), ended, out, s)?;
     let capture = to.capture;
-    State {
+    Ok(State {
         held: program_streams::keep(buf, more, to.ahead),
         capture,
-    }
+    })
 }
 
 // One read of the input, behind the bytes that wait: how many bytes it gave.
-fn read_more(buf: &mut [u8], have: usize) -> usize
+fn read_more(rt: &HostRuntime, buf: &mut [u8], have: usize) -> io::Result<usize>
     requires { have ≤ length buf.old }
-    ensures { Follow buf.old have result buf.new }
+    ensures ok { IfOk result (λ n. Follow buf.old have n buf.new) }
+    ensures err { OnErr result (take have buf.new ≡ take have buf.old) }
 {
-    let got = libc::read(STDIN_FILENO, &mut buf[have..]);
-    io::count(got, &buf[have..])
+    rt.stdin().read(&mut buf[have..])
 }
 
 // One read of the input, and what it completes.
-fn step(buf: &mut [u8], out: &mut [u8], s: State) -> State
+fn step(rt: &HostRuntime, buf: &mut [u8], out: &mut [u8], s: State) -> io::Result<State>
     requires have_in_bounds { s.held.have ≤ length buf.old }
     requires in_bounds { 32768 ≤ length out.old }
-    ensures { Steps buf.old s buf.new result }
+    ensures ok { IfOk result (λ r. Steps buf.old s buf.new r) }
+    ensures err { OnErr result (take s.held.have buf.new ≡ take s.held.have buf.old) }
 {
     let have = s.held.have;
-    let n = read_more(buf, have);
-    take_in(buf, have + n, n == 0, out, s)
+    let n = read_more(rt, buf, have)?;
+    take_in(rt, buf, have + n, n == 0, out, s)
 }
 
 // A demultiplexer with 608 on, and a fresh reader.
@@ -163,25 +188,28 @@ fn fresh() -> State
     }
 }
 
-// Reads the input to its end, and answers where the program stands then.
-fn run(buf: &mut [u8], out: &mut [u8]) -> State
+// Reads the input to its end, and leaves where the program stands then. Where a read or a write fails, that is where it stood before that step:
+// of what the step completes a part may be told.
+fn run(rt: &HostRuntime, buf: &mut [u8], out: &mut [u8], s: &mut State) -> io::Result<()>
     requires { 32768 ≤ length out.old }
-    ensures { result.held.going ≡ false → Ran buf.new result }
+    ensures ok { IfOk result (λ _. s.new.held.going ≡ false → Ran buf.new s.new) }
+    ensures err { OnErr result (Broke buf.new s.new) }
 {
-    let mut s = fresh();
+    *s = fresh();
     let mut turns = u64::MAX;
     while turns > 0 {
         turns -= 1;
-        s = step(buf, out, s);
+        *s = step(rt, buf, out, *s)?;
         if !s.held.going {
-            return s;
+            return Ok(());
         }
     }
-    s
+    Ok(())
 }
 
-fn main() {
-    let mut buf = io::large_buffer();
-    let mut out = io::large_buffer();
-    run(&mut buf, &mut out);
+fn main(rt: HostRuntime) -> io::Result<()> {
+    let mut buf = [0u8; 65536];
+    let mut out = [0u8; 65536];
+    let mut s = fresh();
+    run(&rt, &mut buf, &mut out, &mut s)
 }

@@ -14,7 +14,6 @@ use Rattle.model.proofs.DemuxStates.{demux_facts}
 use Rattle.packet.specs.Packet.{packet_of, blank, laid}
 use Rattle.packet.proofs.Holds.{blank_places}
 use Rattle.packet.proofs.Keeps.{laid_over}
-use Rattle.parser.specs.Valid.{valid}
 use Rattle.parser.specs.Means.{means}
 use Rattle.parser.specs.After.{drawn}
 use Rattle.parser.specs.Items.{Draws, said_item}

@@ -222,7 +222,7 @@ module _ (r : ℕ) (s : List ℕ) (c : Capture) (few : r < 2 ^ 64) (shaped : Sha
   cdp_fits : length (cdp_lines r s c) ≤ 32768
   unfolding cdp_lines cdp_read
   cdp_fits =
-      lines_fit (cdp_read s c.reader) (received_as (last_of c.reader.new) s lent) (received_refused (last_of c.reader.new) s lent (omega arith))
+      lines_fit (cdp_read s c.reader) (received_as (last_of c.reader.last) s lent) (received_refused (last_of c.reader.last) s lent (omega arith))
 
   pub record_fits : (kind : ℕ) → length (record_lines r kind s c) ≤ 32768
   unfolding record_lines

@@ -32,7 +32,7 @@ module _ (r : ℕ) (s : List ℕ) (c : Capture) (why : Said) (e : cdp_read s c.r
   -- is so by one of 16 to 20, never by 9,
   pub why_refused : OfPacket why
   unfolding cdp_read
-  why_refused = subst (Refuses OfPacket) e (received_refused (last_of c.reader.new) s lent (omega arith))
+  why_refused = subst (Refuses OfPacket) e (received_refused (last_of c.reader.last) s lent (omega arith))
 
   -- is one line,
   own_line : cdp_line r why ≡ word "cdp " ++ decimal r ++ word " refused " ++ decimal why.number ++ word "\n"

@@ -1,5 +1,7 @@
 // What `ccread` prints for the records of a capture: the line of a frame and the lines of every item drawn after it, or the line of a distribution
 // packet and the lines of its frame. Lines are laid into a lent buffer from a place on and as far as there is room.
+#![tactic(auto)]
+
 ghost use Rattle.std.specs.Prelude.{◌≡◌, ◌≤◌, length, true};
 ghost use Rattle.packet.specs.Packet.{packet_of, valid_dtvcc};
 ghost use Rattle.program_text.specs.Laid.{Laid};
@@ -20,21 +22,21 @@ const MOST_ITEMS: usize = 63;
 const PACKET: u8 = 0xCD;
 
 // The place behind the lines, and the demultiplexer afterwards.
-#[derive(Drop)]
+#[derive(Clone, Copy)]
 pub struct Told {
     pub laid: usize,
     pub parser: CCDataParser,
 }
 
 // What the program has: the demultiplexer, and the reader of distribution packets.
-#[derive(Drop)]
+#[derive(Clone, Copy)]
 pub struct Capture {
     pub parser: CCDataParser,
     pub reader: DistributionReader,
 }
 
 // The place behind the lines of a record, and what the program has then.
-#[derive(Drop)]
+#[derive(Clone, Copy)]
 pub struct Recorded {
     pub laid: usize,
     pub capture: Capture,

@@ -1,6 +1,6 @@
 -- What `ccscript` tells of its input: records of mark CC 5C, one length byte, and as many bytes, which are an operation and its arguments.
 -- Assumes nothing.
-use Rattle.std.specs.Prelude.{Bool, true, cond, List, [], ◌∷◌, ℕ, ltb, length}
+use Rattle.std.specs.Prelude.{◌≡◌, Bool, true, false, cond, List, [], ◌∷◌, ℕ, ltb, length}
 use Rattle.script_operations.specs.Ran.{ran, fresh_machine}
 use Rattle.script_operations.specs.declared.Machine.{Machine}
 use Rattle.program_streams.specs.Ahead.{nothing_read}
@@ -37,3 +37,8 @@ Steps buf s after r = Stepped mark tell buf s.held s.machine after r.held r.mach
 -- all of some input is told
 abbrev pub Ran : List ℕ → State → Type 0
 Ran buf r = ToldSoFar mark tell true fresh_state.machine buf r.held r.machine
+
+-- where a read or a write failed: more is to be read, all that some input completes is told, and the bytes of it that wait are at the front of the
+-- buffer still; of what the step that failed has read nothing is said
+abbrev pub Broke : List ℕ → State → Type 0
+Broke buf r = (r.held.going ≡ true) × ToldSoFar mark tell false fresh_state.machine buf r.held r.machine

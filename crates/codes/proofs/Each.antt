@@ -23,7 +23,7 @@ use Rattle.packet.specs.declared.ServiceAt.{ServiceAt}
 use Rattle.packet.specs.Packet.{packet_of, valid_dtvcc}
 use Rattle.packet.proofs.DTVCCPacket.service.Reads as service
 use Rattle.packet.proofs.Holds.{within_facts, held_valid}
-use Rattle.codes.proofs.Kept.{CheckService, CheckPacket, accepts, block_exactly, packet_exactly}
+use Rattle.codes.proofs.Exactly.{CheckService, CheckPacket, accepts, block_exactly, packet_exactly}
 
 -- `packet.service(place)`
 abbrev pub ServiceIn : DTVCCPacket → ℕ → ServiceAt → Type 0

@@ -1,29 +1,23 @@
--- What the profile tells of blocks and packets, and what it keeps, whatever results the contracts allow. Assumes nothing.
+-- What the profile keeps, whatever results the contracts allow. Assumes nothing.
 use mathlib.Core.Path.{◌≡◌, refl, sym, ap, ◌∙◌}
-use mathlib.Core.Bool.{Bool, true, false, ◌&&◌}
-use mathlib.Core.List.{List, ◌∷◌, ◌++◌}
+use mathlib.Core.Bool.{Bool, true, false}
+use mathlib.Core.List.{List}
 use Prim.Native.Nat.{ℕ}
 use native.Mathlib.Omega.{arith}
 use borrow.Author.Tests.{ltb-false}
 use lib.Dec.{leb, ltb}
-use contract.Lifetimes.{Lfts}
 use Rattle.model.specs.Lists.{every}
-use Rattle.model.specs.Said.{Outcome, gave, refused, says, is_given, checked}
-use Rattle.model.specs.Block.{Block, valid_block}
+use Rattle.model.specs.Said.{Outcome, gave, refused, checked}
+use Rattle.model.specs.Block.{valid_block}
 use Rattle.model.specs.Packet.{Packet, new_packet, push_block}
-use Rattle.model.specs.Codes.{codes_of, codes_of_blocks, push_codes_by}
-use Rattle.model.proofs.Cases.{both, by_cond, Gives, NotAccepted, Refuses}
+use Rattle.model.specs.Codes.{push_codes_by}
+use Rattle.model.proofs.Cases.{both, by_cond, Gives}
 use Rattle.model.proofs.Packets.{Valid}
 use Rattle.model.proofs.Pushing.{block_valid}
-use Rattle.model.proofs.Codes.{codes_numbered}
-use Rattle.model.proofs.CodedPackets.{is_cut, all_cut, blocks_exactly, blocks_first, codes_kept, codes_valid, each_numbered}
+use Rattle.model.proofs.CodedPackets.{is_cut, all_cut, codes_kept, codes_valid}
 use Rattle.model.proofs.CodedPackets as coded
 use Rattle.caption.specs.declared.Answer.{Answer}
 use Rattle.caption.specs.declared.Answer.TheVariants.{Accepted, Refused}
-use Rattle.caption.specs.declared.Refusal.{Refusal}
-use Rattle.caption.specs.declared.Refusal.TheVariants.{BadValue}
-use Rattle.caption.specs.Answers.{said_refusal, said_answer}
-use Rattle.caption.proofs.Answers.{said_answer_injective}
 use Rattle.service.specs.declared.Service.{Service}
 use Rattle.service.specs.Service.{block_of, valid_service}
 use Rattle.packet.specs.declared.DTVCCPacket.{DTVCCPacket}
@@ -35,27 +29,8 @@ use Rattle.packet_entries.specs.Fields.{blocks_held}
 use Rattle.packet.proofs.Holds.{Places, blank_places, within_facts, held_valid}
 use Rattle.packet.proofs.Measures.{new_valid}
 use Rattle.packet.proofs.Keeps.{laid_over, blank_valid}
-use Rattle.codes.proofs.check_service.Reads as CheckServiceReads
-use Rattle.codes.proofs.check_packet.Reads as CheckPacketReads
-use Rattle.codes.proofs.push_codes.Reads as PushCodesReads
-use Rattle.codes.proofs.push_codes_into_single_service.Reads as PushCodesIntoSingleServiceReads
-use Rattle.codes.proofs.Profile.{Lent}
-
--- `check_service(service)`
-abbrev pub CheckService : Service → Answer → Type 0
-CheckService s r = CheckServiceReads.Post (tt {0}) (s, tt) r (s, tt)
-
--- `check_packet(packet)`
-abbrev pub CheckPacket : DTVCCPacket → Answer → Type 0
-CheckPacket p r = CheckPacketReads.Post (tt {0}) (p, tt) r (p, tt)
-
--- `push_codes(packet, service_no, run)`
-abbrev pub PushCodes : Lfts 1 → DTVCCPacket → ℕ → Lent → PacketAnswer → Type 0
-PushCodes κs p n run r = PushCodesReads.Post κs (p, (n, (run, tt))) r (p, (n, (run, tt)))
-
--- `push_codes_into_single_service(packet, service_no, run)`
-abbrev pub PushCodesSingle : Lfts 1 → DTVCCPacket → ℕ → Lent → PacketAnswer → Type 0
-PushCodesSingle κs p n run r = PushCodesIntoSingleServiceReads.Post κs (p, (n, (run, tt))) r (p, (n, (run, tt)))
+use Rattle.codes.proofs.Exactly.{CheckService, CheckPacket, accepts, block_exactly, packet_exactly}
+use Rattle.codes.proofs.Pushes.{PushesRun, by_codes, into_single}
 
 -- `DTVCCPacket::new(seq_no)`
 abbrev pub NewPacket : ℕ → PacketAnswer → Type 0
@@ -64,34 +39,6 @@ NewPacket q r = new.Post (tt {0}) (q, tt) r (q, tt)
 -- `packet.push_service(service)`
 abbrev pub PushService : DTVCCPacket → Service → PacketAnswer → Type 0
 PushService p s r = PushServiceReads.Post (tt {0}) (p, (s, tt)) r (p, (s, tt))
-
--- whether an answer accepts
-abbrev pub accepts : Answer → Bool
-accepts Accepted = true
-accepts (Refused why) = false
-
--- an answer about a value accepts exactly if the value breaks no limit and the outcome gives something
-accepts_as : {A : Type 0} (r : Answer) (v : Bool) (o : Outcome A) → Refuses NotAccepted o → said_answer r ≡ says (checked v o) → accepts r ≡ v && is_given o
-accepts_as r true (gave x) n told = ap accepts (said_answer_injective r Accepted told)
-accepts_as Accepted true (refused why) n told = absurd (n (sym (ap (λ s. s.number) told)))
-accepts_as (Refused y) true (refused why) n told = refl
-accepts_as r false o n told = ap accepts (said_answer_injective r (Refused BadValue) told)
-
--- A block is accepted exactly if it breaks no limit and its payload is cut without remainder.
-pub block_exactly : (s : Service) (r : Answer) → CheckService s r → accepts r ≡ valid_service s && is_cut (block_of s)
-block_exactly s r told = accepts_as r (valid_service s) (codes_of (block_of s).payload) (codes_numbered (block_of s).payload) told
-
--- A packet is accepted exactly if it breaks no limit and each of its blocks is [K6].
-pub packet_exactly : (p : DTVCCPacket) (r : Answer) → CheckPacket p r → accepts r ≡ valid_dtvcc p && all_cut (packet_of p)
-packet_exactly p r told =
-    accepts_as r (valid_dtvcc p) (codes_of_blocks (packet_of p).blocks) (each_numbered _) told ∙ ap (λ t. valid_dtvcc p && t) (blocks_exactly (packet_of p).blocks)
-
--- The first block that is refused tells the refusal, in a packet that breaks no limit [K6].
-pub first_refused : (p : DTVCCPacket) (r : Answer) → CheckPacket p r → valid_dtvcc p ≡ true
-    → (front behind : List Block) (b : Block) → (packet_of p).blocks ≡ front ++ (b ∷ behind) → every is_cut front ≡ true
-    → (why : Refusal) → codes_of b.payload ≡ refused (said_refusal why) → r ≡ Refused why
-first_refused p r told v front behind b is cut why e =
-    said_answer_injective r (Refused why) (told ∙ rw (v, is, blocks_first front b behind (said_refusal why) cut e))
 
 -- a packet within the limits, in its places, each of whose blocks is cut
 pub record Profiled (p : DTVCCPacket) : Type 0 where
@@ -119,11 +66,6 @@ left_profiled p w (gave q) v c r a =
     let l = laid_over p w.places q v in
     rw a.places (record { places = l.places; valid = l.valid; cut = ap all_cut l.holds ∙ c })
 left_profiled p w (refused why) v c r a = rw a.places w
-
--- a run pushed under the profile, in either form
-pub data PushesRun (p : DTVCCPacket) (r : PacketAnswer) : Type 0 where
-  by_codes : (κs : Lfts 1) (n : ℕ) (run : Lent) → PushCodes κs p n run r → PushesRun p r
-  into_single : (κs : Lfts 1) (n : ℕ) (run : Lent) → PushCodesSingle κs p n run r → PushesRun p r
 
 module _ (p : DTVCCPacket) (w : Profiled p) where
   held : Valid (packet_of p)

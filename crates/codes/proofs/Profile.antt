@@ -6,7 +6,8 @@ use contract.Lifetimes.{Lfts}
 use denote.Ref.{Bor}
 use lib.ListN.{length, get_or}
 use Rattle.model.specs.Said.{Outcome, after}
-use Rattle.model.proofs.Codes.{CutInto, Stuck, Leftmost, only_cut, cut_given, refused_leftmost, stuck_refused, refused_uncut}
+use Rattle.model.proofs.Cuts.{CutInto}
+use Rattle.model.proofs.Codes.{Stuck, Leftmost, only_cut, cut_given, refused_leftmost, stuck_refused, refused_uncut}
 use Rattle.caption.specs.declared.Counted.{Counted}
 use Rattle.caption.specs.declared.Counted.TheVariants.{Count}
 use Rattle.caption.specs.declared.Answer.{Answer}

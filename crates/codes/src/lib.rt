@@ -1,5 +1,7 @@
 // The profile that knows how long codes are: a payload, a run, a block and a packet cut into codes, and runs pushed so that blocks are cut only
 // between codes. Below it a payload is bytes and no more.
+#![tactic(auto)]
+
 ghost use Rattle.std.specs.Prelude.{◌≡◌, [], ◌≤◌, get_or, drop};
 ghost use Rattle.caption.specs.Answers.{said_refusal, said_answer, said_counted};
 ghost use Rattle.model.specs.Said.{says, says_with, checked};
@@ -106,6 +108,7 @@ fn refused(packet: DTVCCPacket, service_no: u8, why: Refusal) -> PacketAnswer
 }
 
 // Why such a run is refused.
+#[tactic(auto, unfolding(crate::specs::Payloads::stopped))]
 fn reason(valid: bool, service_no: u8, why: Refusal) -> Refusal
     ensures { said_refusal result ≡ says (checked valid (stopped service_no (said_refusal why))) }
 {

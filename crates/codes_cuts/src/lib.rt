@@ -1,4 +1,6 @@
 // A payload cut into codes: the length of the code that begins at a byte, how many codes there are, and the code at a place as a part of the payload.
+#![tactic(auto)]
+
 ghost use Rattle.std.specs.Prelude.{◌≡◌, [], ◌<◌, length, get_or, drop};
 ghost use Rattle.caption.specs.Answers.{said_counted};
 ghost use Rattle.model.specs.Said.{says_with};
@@ -26,6 +28,7 @@ fn whole(length: usize, left: usize) -> Counted
 }
 
 // How many bytes the code has that begins at `at`; at the payload's end and behind it none begins, and it is 22 [K3].
+#[tactic(auto, using(crate::proofs::Cuts::none_left, crate::proofs::Cuts::told_first, crate::proofs::Cuts::told_second, crate::proofs::Cuts::not_told))]
 pub fn code_length_at(payload: &[u8], at: usize) -> Counted
     ensures { said_counted result ≡ says_with the_length (code_in (drop at payload.now)) }
 {

@@ -1,4 +1,6 @@
 // How long codes are: a table of 2 times 256 lengths, of which the rule by ranges holds at every entry.
+#![tactic(auto)]
+
 ghost use Rattle.std.specs.Prelude.{◌≡◌};
 ghost use Rattle.model.specs.Codes.{length_by, length_table};
 

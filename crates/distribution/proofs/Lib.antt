@@ -4,4 +4,5 @@ pub mod Writing
 pub mod Told
 pub mod Trips
 pub mod Given
+pub mod Tests
 pub mod Refused

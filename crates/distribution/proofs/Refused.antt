@@ -1,7 +1,7 @@
 -- A read is refused exactly where a test fails, with the number of the first that does, and a write likewise, whatever results the contracts of `read` and
 -- `write` allow. Assumes nothing.
 use mathlib.Core.Path.{◌≡◌, refl, sym, ap, ◌∙◌}
-use mathlib.Core.Bool.{Bool, true, false, cond, not, ◌&&◌}
+use mathlib.Core.Bool.{true, false, cond, ◌&&◌}
 use mathlib.Core.List.{List, [], ◌∷◌, ◌++◌}
 use mathlib.Core.Option.{Option}
 use Prim.Native.Nat.{ℕ}
@@ -25,16 +25,8 @@ use Rattle.distribution.specs.declared.DistributionReader.{DistributionReader}
 use Rattle.distribution.specs.declared.DistributionRead.{DistributionRead}
 use Rattle.distribution.specs.declared.DistributionWriter.{DistributionWriter}
 use Rattle.distribution.specs.declared.DistributionWritten.{DistributionWritten}
-use Rattle.distribution.proofs.Trips.{Lent, Read, Write}
-
--- a test, and the number of the refusal where it fails
-pub record Test : Type 0 where
-  pub passes : Bool
-  pub number : ℕ
-
--- a test of a number
-abbrev test : Bool → ℕ → Test
-test b n = record { passes = b; number = n }
+use Rattle.distribution.proofs.Trips.{Lent, Output, Read, Write}
+use Rattle.distribution.proofs.Tests.{Test, read_tests, write_tests}
 
 -- the number of the first that fails; 0 if none does
 unfoldable pub first_failing : List Test → ℕ
@@ -63,24 +55,6 @@ fails_so (t ∷ ts) n e z =
     (t ∷ r.0, r.1, r.2, ap (λ (l : List Test). t ∷ l) r.3, and_both t.passes (every (λ (x : Test). x.passes) r.0) p r.4, r.5, r.6))
     (λ p. ([], t, ts, refl, refl, p, rw p at e))
 
--- the tests of a packet, in the order in which they are made [L4] [L5] [L6]
-abbrev pub read_tests : Option ℕ → List ℕ → List ℕ → List Test
-read_tests last s out =
-    test (has_mark s) 16
-    ∷ test (sections_in_order s) 17
-    ∷ test (sums_up s) 18
-    ∷ test (counters_agree s) 19
-    ∷ test (takes last (held_in s).counter) 20
-    ∷ test (not (ltb (length out) (length (frame_of (held_in s))))) 9
-    ∷ []
-
--- and those of a frame that is to become one [L3]
-abbrev pub write_tests : ℕ → ℕ → List ℕ → List ℕ → List Test
-write_tests counter code f out =
-    test (is_whole f && is_coded code) 17
-    ∷ test (not (ltb (length out) (length (distribution_bytes (distribution_of counter code f))))) 9
-    ∷ []
-
 received_number : (last : Option ℕ) (s out : List ℕ) → (says_with tells_of (receive last s out)).number ≡ first_failing (read_tests last s out)
 unfolding first_failing receive opened received_into put_into
 received_number last s out =
@@ -107,7 +81,7 @@ sent_number counter code f out =
 first_is : (ts : List Test) (n : ℕ) → FirstIs ts n → first_failing ts ≡ n
 first_is ts n f = ap first_failing f.3 ∙ fails_here f.0 f.1 f.2 f.4 f.5 ∙ f.6
 
-module _ (κs : Lfts 2) (reader : DistributionReader) (packet out end : Lent) (r : DistributionRead) (told : Read κs reader packet out end r) where
+module _ (κs : Lfts 2) (reader : DistributionReader) (packet : Lent) (out end : Output) (r : DistributionRead) (told : Read κs reader packet out end r) where
   -- the tests of this read
   abbrev tests_read : List Test
   tests_read = read_tests (last_of reader.last) packet.now out.now
@@ -123,7 +97,7 @@ module _ (κs : Lfts 2) (reader : DistributionReader) (packet out end : Lent) (r
   pub read_told : (n : ℕ) → FirstIs tests_read n → (said_received r.received).number ≡ n
   read_told n f = read_number ∙ first_is tests_read n f
 
-module _ (κs : Lfts 2) (w : DistributionWriter) (code : ℕ) (frame out end : Lent) (r : DistributionWritten) (told : Write κs w code frame out end r) where
+module _ (κs : Lfts 2) (w : DistributionWriter) (code : ℕ) (frame : Lent) (out end : Output) (r : DistributionWritten) (told : Write κs w code frame out end r) where
   -- the tests of this write
   abbrev tests_write : List Test
   tests_write = write_tests w.next code frame.now out.now

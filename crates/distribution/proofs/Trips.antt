@@ -7,7 +7,7 @@ use mathlib.Core.Option.{Option, some}
 use Prim.Native.Nat.{ℕ, ◌+◌, ◌*◌, ◌/◌, ◌%◌, ◌^◌, ◌≤◌, ◌<◌}
 use native.Mathlib.Omega.{arith}
 use contract.Lifetimes.{Lfts}
-use denote.Ref.{Bor}
+use denote.Ref.{Bor, MutBor}
 use lib.Dec.{leb, ltb}
 use lib.ListN.{length, get_or, take, drop}
 use lib.Seq.{take_at, drop_at, drop-cons}
@@ -42,12 +42,16 @@ use Rattle.distribution.proofs.Told.{said_received_injective}
 abbrev pub Lent : Type 0
 Lent = Bor (List ℕ)
 
+-- bytes that a caller lends to be written
+abbrev pub Output : Type 0
+Output = MutBor (List ℕ)
+
 -- `writer.write(code, frame, &mut out)`, where `out` is as it was lent and `end` as it is at exit
-abbrev pub Write : Lfts 2 → DistributionWriter → ℕ → Lent → Lent → Lent → DistributionWritten → Type 0
+abbrev pub Write : Lfts 2 → DistributionWriter → ℕ → Lent → Output → Output → DistributionWritten → Type 0
 Write κs w code frame out end r = write.Post κs (w, (code, (frame, (out, tt)))) r (w, (code, (frame, (end, tt))))
 
 -- `reader.read(packet, &mut out)`
-abbrev pub Read : Lfts 2 → DistributionReader → Lent → Lent → Lent → DistributionRead → Type 0
+abbrev pub Read : Lfts 2 → DistributionReader → Lent → Output → Output → DistributionRead → Type 0
 Read κs d packet out end r = read.Post κs (d, (packet, (out, tt))) r (d, (packet, (end, tt)))
 
 -- A frame was written as a packet: it is whole, the rate has a code, the packet has the layout and is in the output, and the counter moves on.
@@ -59,7 +63,7 @@ pub record Sends (w : DistributionWriter) (code : ℕ) (f out end : List ℕ) (r
   pub behind : drop n end ≡ drop n out
   pub next : r.writer ≡ writer_at (counter_after w.next)
 
-module _ (κs : Lfts 2) (w : DistributionWriter) (code : ℕ) (frame out end : Lent) (r : DistributionWritten) (told : Write κs w code frame out end r) where
+module _ (κs : Lfts 2) (w : DistributionWriter) (code : ℕ) (frame : Lent) (out end : Output) (r : DistributionWritten) (told : Write κs w code frame out end r) where
   pub written_laid : (n : ℕ) → r.answer ≡ Count n → Sends w code frame.now out.now end.now r n
   written_laid n e =
       let f = frame.now in
@@ -126,7 +130,7 @@ module _ (last : Option ℕ) (s out : List ℕ) where
       (λ _. refuses_mapped NotAccepted _ (put_into out (frame_of d)) (by_cond (Refuses NotAccepted) (ltb (length out) (length (frame_of d))) (λ _ e. omega (arith, e)) (λ _. tt)))
       (λ _ e. omega (arith, e)))
 
-module _ (κs : Lfts 2) (reader : DistributionReader) (packet out end : Lent) (r : DistributionRead) (told : Read κs reader packet out end r) where
+module _ (κs : Lfts 2) (reader : DistributionReader) (packet : Lent) (out end : Output) (r : DistributionRead) (told : Read κs reader packet out end r) where
   -- what is read as the model says
   abbrev said : Outcome packets.Received
   said = receive (last_of reader.last) packet.now out.now
@@ -173,9 +177,9 @@ module _ (κs : Lfts 2) (reader : DistributionReader) (packet out end : Lent) (r
       (g.0.packet, l.0, l.1, t.newer, (given_so g.0 g.1).0)
 
 -- What was written is read back, by a reader to which its counter is newer: the code, the counter, and the frame's own triples behind C0 and their count, and FF.
-pub written_read : (κs κs' : Lfts 2) (w : DistributionWriter) (code n : ℕ) (frame out end : Lent) (r : DistributionWritten) → Write κs w code frame out end r → r.answer ≡ Count n
+pub written_read : (κs κs' : Lfts 2) (w : DistributionWriter) (code n : ℕ) (frame : Lent) (out end : Output) (r : DistributionWritten) → Write κs w code frame out end r → r.answer ≡ Count n
     → w.next < 2 ^ 16
-    → (reader : DistributionReader) (packet lent after : Lent) (q : DistributionRead) → Read κs' reader packet lent after q → packet.now ≡ take n end.now
+    → (reader : DistributionReader) (packet : Lent) (lent after : Output) (q : DistributionRead) → Read κs' reader packet lent after q → packet.now ≡ take n end.now
     → takes (last_of reader.last) w.next ≡ true → length frame.now ≤ length lent.now
     → (q ≡ record { received = Packet code w.next (length frame.now); reader = reader_at w.next })
     × (after.now ≡ ((0xC0 + count_in (get_or frame.now 0 0)) ∷ 0xFF ∷ drop 2 frame.now) ++ drop (length frame.now) lent.now)

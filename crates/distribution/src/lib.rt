@@ -1,4 +1,6 @@
 // Caption distribution packets, SMPTE ST 334-2: frames written as packets, packets read back as frames, and the rates by their codes.
+#![tactic(auto)]
+
 ghost use Rattle.std.specs.Prelude.{◌≡◌, ◌+◌, ◌*◌, ◌≤◌, ◌<◌, length};
 ghost use Rattle.std.proofs.Math.Option.{none};
 ghost use Rattle.model.specs.Distribution.{rate_of, takes};
@@ -14,7 +16,7 @@ use distribution_numbers::is_coded;
 use distribution_reading::Opened;
 
 // The counter of the packet that a reader accepted last.
-#[derive(Drop)]
+#[derive(Clone, Copy)]
 pub enum Last {
     // None was accepted yet.
     Nothing,
@@ -22,13 +24,13 @@ pub enum Last {
 }
 
 // A reader of packets.
-#[derive(Drop)]
+#[derive(Clone, Copy)]
 pub struct DistributionReader {
     pub last: Last,
 }
 
 // What a reader tells of a packet.
-#[derive(Drop)]
+#[derive(Clone, Copy)]
 pub enum Received {
     // Its rate by its code, its counter, and how many bytes of the lent output are its frame.
     Packet { code: u8, counter: u16, len: usize },
@@ -36,27 +38,27 @@ pub enum Received {
 }
 
 // What is told of a packet, and the reader afterwards.
-#[derive(Drop)]
+#[derive(Clone, Copy)]
 pub struct DistributionRead {
     pub received: Received,
     pub reader: DistributionReader,
 }
 
 // A writer of packets: the next one has this counter.
-#[derive(Drop)]
+#[derive(Clone, Copy)]
 pub struct DistributionWriter {
     pub next: u16,
 }
 
 // How many bytes were written, and the writer afterwards.
-#[derive(Drop)]
+#[derive(Clone, Copy)]
 pub struct DistributionWritten {
     pub answer: Counted,
     pub writer: DistributionWriter,
 }
 
 // A rate, or a refusal where a code has none.
-#[derive(Drop)]
+#[derive(Clone, Copy)]
 pub enum CodedRate {
     Is(Framerate),
     Refused(Refusal),

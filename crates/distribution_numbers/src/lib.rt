@@ -1,4 +1,6 @@
 // The numbers of a distribution packet: which of two counters is newer and which comes next, the sum of its bytes, and the codes of rates.
+#![tactic(auto)]
+
 ghost use Rattle.std.specs.Prelude.{◌≡◌, ◌%◌};
 ghost use Rattle.model.specs.Distribution.{newer, counter_after, sum_of, closing, is_coded};
 
@@ -9,18 +11,20 @@ pub const MOST_CODE: u8 = 8;
 const MOST_AHEAD: u16 = 32767;
 
 // Whether a counter is newer than the last one: its age, by a subtraction that wraps, is 1 to 32,767 [L5].
+#[tactic(auto, unfolding(model::specs::Distribution::newer, model::specs::Distribution::ahead))]
 pub fn newer(last: u16, counter: u16) -> bool
     ensures { result ≡ newer last counter }
 {
-    let age = std::num::wrapping_sub_u16(counter, last);
+    let age = counter.wrapping_sub(last);
     1 <= age && age <= MOST_AHEAD
 }
 
 // The counter behind a counter; 0 behind 65,535 [L5].
+#[tactic(auto, unfolding(model::specs::Distribution::counter_after))]
 pub fn counter_after(counter: u16) -> u16
     ensures { result ≡ counter_after counter }
 {
-    std::num::wrapping_add_u16(counter, 1)
+    counter.wrapping_add(1)
 }
 
 // The sum of bytes modulo 256.
@@ -30,20 +34,22 @@ pub fn sum_of(bytes: &[u8]) -> u8
     let mut sum: u8 = 0;
     let mut i: usize = 0;
     while i < bytes.len() {
-        sum = std::num::wrapping_add_u8(sum, bytes[i]);
+        sum = sum.wrapping_add(bytes[i]);
         i += 1;
     }
     sum
 }
 
 // The byte that makes a sum 0 modulo 256 [L1].
+#[tactic(auto, unfolding(model::specs::Distribution::closing))]
 pub fn closing_byte(sum: u8) -> u8
     ensures { result ≡ closing sum }
 {
-    std::num::wrapping_sub_u8(0, sum)
+    0u8.wrapping_sub(sum)
 }
 
 // Whether a rate has this code [L2].
+#[tactic(auto, unfolding(model::specs::Distribution::is_coded))]
 pub fn is_coded(code: u8) -> bool
     ensures { result ≡ is_coded code }
 {

@@ -1,4 +1,6 @@
 // The packet in some bytes, whatever came before it: its mark, its sections, its sum and its two counters are looked at in this order.
+#![tactic(auto)]
+
 ghost use Rattle.std.specs.Prelude.{◌≡◌, ◌+◌, ◌*◌, ◌≤◌, length};
 ghost use Rattle.model.specs.Said.{says_with};
 ghost use Rattle.model.specs.Distribution.{has_mark, announces_more, sections_in_order, counter_at, opened};
@@ -12,7 +14,7 @@ use distribution_numbers::{is_coded, sum_of};
 const LEAST: usize = 13;
 
 // What a packet holds: the code of its rate, its counter, and how many triples; or why there is none.
-#[derive(Drop)]
+#[derive(Clone, Copy)]
 pub enum Opened {
     Packet {
         code: u8,
@@ -23,6 +25,7 @@ pub enum Opened {
 }
 
 // Whether the mark of a packet stands first.
+#[tactic(auto, using(crate::proofs::Order::short_unmarked), unfolding(model::specs::Distribution::has_mark))]
 fn has_mark(packet: &[u8]) -> bool
     ensures { result ≡ has_mark packet.now }
 {
@@ -33,6 +36,7 @@ fn has_mark(packet: &[u8]) -> bool
 }
 
 // Whether flags announce a section that is not taken up: time code, or service information.
+#[tactic(auto, unfolding(model::specs::Distribution::announces_more))]
 fn announces_more(flags: u8) -> bool
     ensures { result ≡ announces_more flags }
 {
@@ -43,6 +47,7 @@ fn announces_more(flags: u8) -> bool
 }
 
 // Whether length, rate, flags, sections and count are in order.
+#[tactic(auto, unfolding(model::specs::Distribution::sections_in_order))]
 fn in_order(packet: &[u8]) -> bool
     ensures { result ≡ sections_in_order packet.now }
 {
@@ -84,6 +89,7 @@ fn counter_at(packet: &[u8], at: usize) -> u16
 }
 
 // The packet in some bytes [L4].
+#[tactic(auto, using(crate::proofs::Order::enough), unfolding(model::specs::Distribution::opened, model::specs::Distribution::sums_up, model::specs::Distribution::counters_agree))]
 pub fn open(packet: &[u8]) -> Opened
     ensures { said_opened result ≡ says_with fields_of (opened packet.now) }
 {

@@ -1,4 +1,6 @@
 // A frame laid out as a distribution packet in a lent output: its head, the frame's triples, its footer, and the byte that closes the sum.
+#![tactic(auto)]
+
 ghost use Rattle.std.specs.Prelude.{◌≡◌, true, [], ◌∷◌, ◌+◌, ◌≤◌, ◌<◌, length};
 ghost use Rattle.std.proofs.lemmas.List.Edits.{sets};
 ghost use Rattle.model.specs.Said.{says_with, mapped, after};

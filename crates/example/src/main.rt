@@ -1,12 +1,14 @@
 // One block's way through both machines: pushed into a packet, the packet into a multiplexer, a frame written, the frame read and the packet
 // drawn again. Then the same where a turn sends nothing, without and with the true count; runs of caption codes, whole and
 // cut; the first frame once more, by way of a distribution packet; and a proposal for three runs, as the packer makes it and spoilt.
+#![tactic(auto)]
+
 use caption::{Answer, Cea608, Counted, Framerate};
 use distribution::{DistributionReader, DistributionWriter, Received};
-use libc::STDOUT_FILENO;
 use packet::DTVCCPacket;
 use packing::Proposal;
 use parser::{CCDataParser, Item};
+use std::io;
 use writer::CCDataWriter;
 
 // A packet in which service 1 says "A".
@@ -103,67 +105,52 @@ fn spoil(pieces: &mut [u8; 15]) -> Answer {
 }
 
 // Says what came back.
-fn tell(item: Item) {
+fn tell(rt: &HostRuntime, item: Item) -> io::Result<()> {
     match item {
-        Item::Packet => {
-            io::write_all(STDOUT_FILENO, b"the packet came back\n");
-        }
-        _ => {
-            io::write_all(STDOUT_FILENO, b"the packet is lost\n");
-        }
+        Item::Packet => rt.write_all(b"the packet came back\n"),
+        _ => rt.write_all(b"the packet is lost\n"),
     }
 }
 
 // Says what a run is.
-fn tell_run(answer: Answer) {
+fn tell_run(rt: &HostRuntime, answer: Answer) -> io::Result<()> {
     match answer {
-        Answer::Accepted => {
-            io::write_all(STDOUT_FILENO, b"whole codes\n");
-        }
-        Answer::Refused(_) => {
-            io::write_all(STDOUT_FILENO, b"not whole codes\n");
-        }
+        Answer::Accepted => rt.write_all(b"whole codes\n"),
+        Answer::Refused(_) => rt.write_all(b"not whole codes\n"),
     }
 }
 
 // Says what is thought of a proposal.
-fn tell_proposal(answer: Answer) {
+fn tell_proposal(rt: &HostRuntime, answer: Answer) -> io::Result<()> {
     match answer {
-        Answer::Accepted => {
-            io::write_all(STDOUT_FILENO, b"accepted\n");
-        }
-        Answer::Refused(_) => {
-            io::write_all(STDOUT_FILENO, b"refused\n");
-        }
+        Answer::Accepted => rt.write_all(b"accepted\n"),
+        Answer::Refused(_) => rt.write_all(b"refused\n"),
     }
 }
 
-fn main() {
+fn main(rt: HostRuntime) -> io::Result<()> {
     let mut frame = [0u8; 95];
     let n = bytes_of(write_one(&mut frame));
-    tell(read_one(&frame, n));
-    io::write_all(STDOUT_FILENO, b"behind two pairs: ");
+    tell(&rt, read_one(&frame, n))?;
+    rt.write_all(b"behind two pairs: ")?;
     let first = bytes_of(write_pairs(&mut frame, false));
-    tell(read_one(&frame, first));
-    io::write_all(STDOUT_FILENO, b"behind two pairs, with the true count: ");
+    tell(&rt, read_one(&frame, first))?;
+    rt.write_all(b"behind two pairs, with the true count: ")?;
     let second = bytes_of(write_pairs(&mut frame, true));
-    tell(read_one(&frame, second));
-    io::write_all(STDOUT_FILENO, b"a code of three bytes: ");
-    tell_run(codes::check_run(b"\x92\x01\x02"));
-    io::write_all(STDOUT_FILENO, b"its first two: ");
-    tell_run(codes::check_run(b"\x92\x01"));
-    io::write_all(STDOUT_FILENO, b"in a distribution packet: ");
+    tell(&rt, read_one(&frame, second))?;
+    rt.write_all(b"a code of three bytes: ")?;
+    tell_run(&rt, codes::check_run(b"\x92\x01\x02"))?;
+    rt.write_all(b"its first two: ")?;
+    tell_run(&rt, codes::check_run(b"\x92\x01"))?;
+    rt.write_all(b"in a distribution packet: ")?;
     let mut packet = [0u8; 106];
     let third = bytes_of(write_one(&mut frame));
     let sent = bytes_of(send_one(&frame, third, &mut packet));
     let received = receive_one(&packet, sent, &mut frame);
-    tell(read_one(&frame, received));
-    io::write_all(STDOUT_FILENO, b"a proposal: ");
+    tell(&rt, read_one(&frame, received))?;
+    rt.write_all(b"a proposal: ")?;
     let mut pieces = [0u8; 15];
-    tell_proposal(propose_three(&mut pieces));
-    io::write_all(
-        STDOUT_FILENO,
-        b"its last piece in a block of another service: ",
-    );
-    tell_proposal(spoil(&mut pieces));
+    tell_proposal(&rt, propose_three(&mut pieces))?;
+    rt.write_all(b"its last piece in a block of another service: ")?;
+    tell_proposal(&rt, spoil(&mut pieces))
 }

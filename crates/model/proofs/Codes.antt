@@ -12,6 +12,7 @@ use borrow.Author.Tests.{eq-eqb, ne_eqb, eqb-true, eqb-false, lt-leb, leb-true, 
 use Rattle.model.specs.Lists.{every}
 use Rattle.model.specs.Said.{Said, Outcome, gave, refused, mapped, unknown_length, code_cut_short}
 use Rattle.model.specs.Codes.{Range, first_ranges, ext1_ranges, in_range, tabled, told_in, length_by, is_ext1, telling_place, told_length, is_untold, code_in, codes_from, codes_of, is_code}
+use Rattle.model.proofs.Cuts.{CutInto}
 use Rattle.model.proofs.Cases.{by_test, by_cond, both, and_both, Gives, gives_at, NotAccepted, Refuses, refuses_weaker, mapped_mapped, mapped_same}
 
 -- how many of the ranges a byte is in
@@ -201,11 +202,6 @@ codes_then (c ∷ cs) rest h =
     let one = codes_next (c ++ behind) (length c) (coded_given _ _ (code_coded c t.0 behind)) in
     rw append_assoc
     (one ∙ rw (take_at c behind (length c) refl, drop_at c behind (length c) refl, codes_then cs rest t.1) (mapped_mapped _ _ (codes_of rest)))
-
--- whole codes whose bytes, one behind the other, are the payload [K5]
-pub record CutInto (d : List ℕ) (cs : List (List ℕ)) : Type 0 where
-  pub bytes : flatten cs ≡ d
-  pub codes : every is_code cs ≡ true
 
 -- The cut is the only one: any such codes are it.
 pub only_cut : (d : List ℕ) (cs : List (List ℕ)) → CutInto d cs → codes_of d ≡ gave cs

@@ -164,12 +164,16 @@ module _ (u : Unread) (d : Distribution) (fits : Fits u d) where
   unfolding has_mark
   laid_mark = and_both _ _ (eq-eqb _ _ (byte_at 0)) (eq-eqb _ _ (byte_at 1))
 
+  laid_agree : counters_agree (laid_out u d) ≡ true
+  unfolding counters_agree
+  laid_agree = simp (laid_counter, laid_footer) (eq-eqb d.counter d.counter refl)
+
   -- it is read as the packet that it is
   pub laid_opened : opened (laid_out u d) ≡ gave d
-  unfolding opened sums_up counters_agree
+  unfolding opened sums_up
   laid_opened =
       simp
-      (laid_mark, ordered_passes (laid_out u d) laid_ordered, eq-eqb _ _ (laid_sum u d), eq-eqb _ _ (laid_counter ∙ sym laid_footer))
+      (laid_mark, ordered_passes (laid_out u d) laid_ordered, eq-eqb _ _ (laid_sum u d), laid_agree)
       (ap gave laid_held)
 
 -- some bytes by their places

@@ -13,6 +13,7 @@ use Rattle.model.specs.Said.{gave, refused, mapped, packet_length_wrong}
 use Rattle.model.specs.Block.{Block, top_number, block_size, header_length, number_in, is_short, block_in, short_at, read_block_at, written_block}
 use Rattle.model.specs.Packet.{Packet, sequence_in, packet_size, tidy_move, is_null_header, tidily, kept, blocks_from, read_by, read_packet, read_tidy, written_blocks, packet_header, packet_length, written_packet, fill}
 use Rattle.model.proofs.Cases.{by_test, by_cond, mapped_mapped}
+use Rattle.model.proofs.Fills.{Fills}
 use Rattle.model.proofs.Blocks.{header_one, header_two, header_bytes, read_whole, not_short, null_header, null_facts, header_named}
 use Rattle.model.proofs.BlockTrip.{Begins, begins}
 use Rattle.model.proofs.Walk.{blocks_none, blocks_stop, blocks_next, Takes, Row, nothing, more, row_each, row_then, Written, written_row}
@@ -92,10 +93,6 @@ tidy_takes d b x rest =
       read = λ offset. read_whole offset (d ++ rest) (all_same d rest long) ∙ ap gave (block_same d rest long ∙ x.is);
       moves = rw (first_same d rest long) (sym long);
     }
-
--- bytes that are fill: none, or a null header and whatever is behind it
-abbrev pub Fills : List ℕ → Type 0
-Fills d = (length d ≡ 0 → ⊥) → is_null_header d ≡ true
 
 -- a packet of whole blocks and some bytes behind them
 module _ (h : ℕ) {front : List ℕ} {bs : List Block} (w : WholeBlocks front bs) (rest : List ℕ) where

@@ -4,9 +4,11 @@ pub mod Blocks
 pub mod BlockTrip
 pub mod Walk
 pub mod Lengths
+pub mod Fills
 pub mod Fill
 pub mod Packets
 pub mod Services
+pub mod Cuts
 pub mod Codes
 pub mod Limits
 pub mod Rates

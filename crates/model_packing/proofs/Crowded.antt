@@ -55,6 +55,7 @@ bytes_once ps (x ∷ xs) e =
 -- a byte that is in a piece counts
 held_some : (q : Piece) (x : Byte) (xs : List Byte) → In x xs → holds x q ≡ true → 1 ≤ held q xs
 unfolding held
+held_some q x [] x3 e = elim x3 [ ]
 held_some q x (y ∷ xs) (here p) e = let z : holds y q ≡ true = ap (λ (w : Byte). holds w q) (sym p) ∙ e in rw z (omega arith)
 held_some q x (y ∷ xs) (there i) e = let z = held_some q x xs i e in omega arith
 

@@ -30,6 +30,7 @@ use Rattle.model_packing.proofs.Filling.{run_some}
 pub block_made : (services : List ℕ) (fill : Piece → List ℕ) (qs : List Piece) {q : Piece} → In q qs
     → (b : Block) × In b (block_for services fill qs) × ((r : Piece) × In r qs × (b.number ≡ service_of services r.run)) × (b.payload ≡ flat_map fill qs)
 unfolding block_for
+block_made services fill [] {q = q} i = elim i [ ]
 block_made services fill (r ∷ qs) i =
     (record { number = service_of services r.run; payload = flat_map fill (r ∷ qs) }, here refl, (r, here refl, refl), refl)
 

@@ -14,10 +14,12 @@ use Rattle.model_packing.specs.Pieces.{Byte, byte, count_from, run_bytes, bytes_
 module _ {A : Type 0} where
   -- there is none in an empty list
   pub nothing_in : {x : A} (l : List A) → length l ≡ 0 → In x l → ⊥
+  nothing_in [] e i = elim i [ ]
   nothing_in (y ∷ l) e i = omega arith
 
   -- an element of two lists, one behind the other
   pub in_left : {x : A} (l m : List A) → In x l → In x (l ++ m)
+  in_left [] m x'' = elim x'' [ ]
   in_left (y ∷ l) m (here e) = here e
   in_left (y ∷ l) m (there i) = there (in_left l m i)
 
@@ -34,6 +36,7 @@ module _ {A : Type 0} where
   -- every element passes the test
   pub every_in : (test : A → Bool) {x : A} (l : List A) → every test l ≡ true → In x l → test x ≡ true
   unfolding every
+  every_in test [] e x3 = elim x3 [ ]
   every_in test (y ∷ l) e (here p) = ap test p ∙ (both (test y) (every test l) e).0
   every_in test (y ∷ l) e (there i) = every_in test l (both (test y) (every test l) e).1 i
 
@@ -52,11 +55,13 @@ module _ {A : Type 0} where
   -- those that pass a test
   pub in_those : (test : A → Bool) {x : A} (l : List A) → In x l → test x ≡ true → In x (those test l)
   unfolding those
+  in_those test {x = x} [] x3 e = elim x3 [ ]
   in_those test {x} (y ∷ l) (here p) e = let q : test y ≡ true = ap test (sym p) ∙ e in rw q (here p)
   in_those test {x} (y ∷ l) (there i) e = by_test (test y) (λ q. rw q (there (in_those test l i e))) (λ q. rw q (in_those test l i e))
 
   pub those_in : (test : A → Bool) {x : A} (l : List A) → In x (those test l) → In x l × (test x ≡ true)
   unfolding those
+  those_in test {x = x} [] i = elim i [ ]
   those_in test {x} (y ∷ l) i =
       by_test (test y)
       (λ q. passed q (λ j. those_in test l j) (rw q at i))
@@ -69,20 +74,24 @@ module _ {A : Type 0} where
 -- what is made of elements
 module _ {A B : Type 0} where
   pub in_map : (f : A → B) {x : A} (l : List A) → In x l → In (f x) (map f l)
+  in_map f [] x'' = elim x'' [ ]
   in_map f (y ∷ l) (here p) = here (ap f p)
   in_map f (y ∷ l) (there i) = there (in_map f l i)
 
   pub map_in : (f : A → B) {z : B} (l : List A) → In z (map f l) → (x : A) × In x l × (z ≡ f x)
+  map_in f {z = z} [] x' = elim x' [ ]
   map_in f (y ∷ l) (here p) = (y, here refl, p)
   map_in f (y ∷ l) (there i) = let t = map_in f l i in (t.0, there t.1, t.2)
 
   pub in_flat_map : (f : A → List B) {x : A} {z : B} (l : List A) → In x l → In z (f x) → In z (flat_map f l)
   unfolding flat_map
+  in_flat_map f {x = x} {z = z} [] x3 j = elim x3 [ ]
   in_flat_map f {x} {z} (y ∷ l) (here p) j = in_left (f y) (flat_map f l) (subst (λ (w : A). In z (f w)) p j)
   in_flat_map f (y ∷ l) (there i) j = in_right (f y) (flat_map f l) (in_flat_map f l i j)
 
   pub flat_map_in : (f : A → List B) {z : B} (l : List A) → In z (flat_map f l) → (x : A) × In x l × In z (f x)
   unfolding flat_map
+  flat_map_in f {z = z} [] i = elim i [ ]
   flat_map_in f (y ∷ l) i =
       in_either (f y) (flat_map f l) i (λ j. (y, here refl, j)) (λ j. let t = flat_map_in f l j in (t.0, there t.1, t.2))
 
@@ -95,6 +104,7 @@ in_count k a (suc n) h g =
 
 pub count_in : (k a n : ℕ) → In k (count_from a n) → (a ≤ k) × (k < a + n)
 unfolding count_from
+count_in k a zero x' = elim x' [ ]
 count_in k a (suc n) (here p) = (omega arith, omega arith)
 count_in k a (suc n) (there i) = let t = count_in k (suc a) n i in (omega (arith, t.0), omega (arith, t.1))
 

@@ -36,6 +36,7 @@ listed_pieces i (q ∷ qs) = rw (listed_pieces (suc i) qs)
 -- each of them is one of the list
 pub listed_in : (i : ℕ) (ps : List Piece) {t : Listed} → In t (listed_from i ps) → (i ≤ t.place) × In t.piece ps
 unfolding listed_from
+listed_in i [] {t = t} x' = elim x' [ ]
 listed_in i (q ∷ qs) (here e) = (omega (arith, ap (λ (t : Listed). t.place) e), here (ap its_piece e))
 listed_in i (q ∷ qs) (there j) = let k = listed_in (suc i) qs j in (omega (arith, k.0), there k.1)
 
@@ -173,12 +174,14 @@ same_held x i q e h = ap (λ (u : Listed). holds x u.piece) (sym e) ∙ h
 -- a byte that is in a piece is in one at least
 held_some : (i : ℕ) (ps : List Piece) (x : Byte) {t : Listed} → In t (listed_from i ps) → holds x t.piece ≡ true → 1 ≤ holders x ps
 unfolding listed_from holders
+held_some i [] x {t = t} x4 h = elim x4 [ ]
 held_some i (q ∷ qs) x (here e) h = rw (same_held x i q e h) (omega arith)
 held_some i (q ∷ qs) x (there j) h = omega (arith, held_some (suc i) qs x j h)
 
 -- a byte that is in one piece is sent when that is
 pub sent_with : (i : ℕ) (ps : List Piece) (x : Byte) {t : Listed} → In t (listed_from i ps) → holds x t.piece ≡ true → holders x ps ≡ 1 → sent_from i ps x ≡ sent_at t
 unfolding listed_from holders sent_from
+sent_with i [] x {t = t} x5 h once = elim x5 [ ]
 sent_with i (q ∷ qs) x (here e) h once = rw (same_held x i q e h) (ap sent_at (sym e))
 sent_with i (q ∷ qs) x (there j) h once =
     by_test (holds x q)

@@ -94,6 +94,7 @@ module _ {A : Type 0} (Before : A → A → Type 0) (one_way : (x y : A) → Bef
   -- of two elements of a sorted list, the earlier one first, a test of every two holds
   pub every_two_before : (test : A → A → Bool) {x y : A} (l : List A) → Sorted Before l → every_two test l ≡ true → In x l → In y l → Before x y → test x y ≡ true
   unfolding every_two
+  every_two_before test {x = x} {y = y} [] s e x6 _ b = elim x6 [ ]
   every_two_before test {x} {y} (z ∷ l) s e (here p) (here q) b = absurd (not_itself x y (p ∙ sym q) b)
   every_two_before test {x} {y} (z ∷ l) s e (here p) (there j) b =
       ap (λ (w : A). test w y) p ∙ every_in (test z) l (both _ _ e).0 j

@@ -17,7 +17,8 @@ use Rattle.model.specs.Packet.{Packet, sequence_in, packet_size, is_null_header,
 use Rattle.model.proofs.Cases.{by_test}
 use Rattle.model.proofs.Walk.{nothing, more}
 use Rattle.model.proofs.Packets.{Valid, plain_back}
-use Rattle.model.proofs.Fill.{in_one, in_two, bytes_null, Exactly, WholeBlocks, Fills, behind_null, filled_tidily, tidy_appended, readers_agree, tidy_bare}
+use Rattle.model.proofs.Fills.{Fills}
+use Rattle.model.proofs.Fill.{in_one, in_two, bytes_null, Exactly, WholeBlocks, behind_null, filled_tidily, tidy_appended, readers_agree, tidy_bare}
 use Rattle.service.specs.Service.{Writes}
 use Rattle.packet.specs.Packet.{Answers, packet_of, blank, valid_dtvcc}
 use Rattle.packet.specs.declared.DTVCCPacket.{DTVCCPacket}

@@ -1,4 +1,6 @@
 // A DTVCC packet: its sequence number and its blocks, how it is read, written and pushed to.
+#![tactic(auto)]
+
 ghost use Rattle.std.specs.Prelude.{◌≡◌, cond, ◌&&◌, length, take, drop, eqb};
 ghost use Rattle.caption.specs.Answers.{said_counted, said_truth};
 ghost use Rattle.model.specs.Said.{gave, checked, measured};
@@ -18,7 +20,7 @@ use packet_entries::Extent;
 use service::Service;
 
 // A packet: block i has number `numbers[i]` and the next `sizes[i]` bytes of `payload`. Bit k of `services` is 1 where a block has number k.
-#[derive(Drop)]
+#[derive(Clone, Copy)]
 pub struct DTVCCPacket {
     pub seq_no: u8,
     pub count: usize,
@@ -29,21 +31,21 @@ pub struct DTVCCPacket {
 }
 
 // An answer, and the packet beside it.
-#[derive(Drop)]
+#[derive(Clone, Copy)]
 pub struct PacketAnswer {
     pub answer: Answer,
     pub packet: DTVCCPacket,
 }
 
 // The set of a packet's services.
-#[derive(Drop)]
+#[derive(Clone, Copy)]
 pub enum ServiceSet {
     Of(u64),
     Refused(Refusal),
 }
 
 // Whether there is a block at a place.
-#[derive(Drop)]
+#[derive(Clone, Copy)]
 pub enum Place {
     Here,
     Nothing,
@@ -51,7 +53,7 @@ pub enum Place {
 }
 
 // Whether there is a block at a place, and the block.
-#[derive(Drop)]
+#[derive(Clone, Copy)]
 pub struct ServiceAt {
     pub place: Place,
     pub service: Service,
@@ -59,6 +61,7 @@ pub struct ServiceAt {
 
 impl DTVCCPacket {
     // A packet without blocks [P14].
+    #[tactic(auto, using(crate::proofs::Replies::refuses, crate::proofs::Measures::new_bad))]
     pub fn new(seq_no: u8) -> PacketAnswer
         ensures { Answers (new_packet seq_no) blank result }
     {

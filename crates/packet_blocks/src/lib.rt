@@ -1,9 +1,11 @@
 // The blocks of a packet read from bytes into its places.
+#![tactic(auto)]
+
 ghost use Rattle.std.specs.Prelude.{◌≡◌, ◌+◌, ◌≤◌, length, take, drop};
 ghost use Rattle.std.proofs.lemmas.List.Edits.{sets};
 ghost use Rattle.caption.specs.Answers.{said_refusal};
 ghost use Rattle.model.specs.Said.{refused, mapped};
-ghost use Rattle.packet_entries.specs.Fields.{arrays_before, arrays_after};
+ghost use Rattle.packet_entries.specs.Fields.{arrays};
 ghost use Rattle.packet_moves.specs.Moves.{kept_for, packet_with, blocks_in};
 ghost use Rattle.packet_blocks.specs.Reading.{so_far, Keeps, Stored, ReadsInto, Room, KeepRoom};
 
@@ -12,7 +14,7 @@ use caption::{Answer, Counted, Refusal};
 use service_headers::Head;
 
 // An answer to reading, and the places of the packet beside it: zeros where it refuses.
-#[derive(Drop)]
+#[derive(Clone, Copy)]
 pub struct Filled {
     pub answer: Answer,
     pub seq_no: u8,
@@ -23,7 +25,7 @@ pub struct Filled {
 }
 
 // How many blocks are stored, and how many bytes of payload they have.
-#[derive(Drop)]
+#[derive(Clone, Copy)]
 pub struct Kept {
     pub count: usize,
     pub used: usize,
@@ -118,7 +120,7 @@ fn keep_block(
     payload: &mut [u8; 127],
 ) -> Kept
     requires { KeepRoom at from size (length bytes.now) }
-    ensures { Keeps (kept_for number (take size (drop from bytes.now))) at result (arrays_before numbers sizes payload) (arrays_after numbers sizes payload) }
+    ensures { Keeps (kept_for number (take size (drop from bytes.now))) at result (arrays numbers.old sizes.old payload.old) (arrays numbers.new sizes.new payload.new) }
 {
     let count = at.count;
     let used = at.used;
@@ -152,7 +154,7 @@ fn read_blocks(
     payload: &mut [u8; 127],
 ) -> Counted
     requires { Room (so_far count used) at end × (end ≤ length bytes.now) }
-    ensures { Stored (blocks_in bytes.now end tidy at) (so_far count used) result (arrays_before numbers sizes payload) (arrays_after numbers sizes payload) }
+    ensures { Stored (blocks_in bytes.now end tidy at) (so_far count used) result (arrays numbers.old sizes.old payload.old) (arrays numbers.new sizes.new payload.new) }
 {
     if packet_moves::through(tidy, bytes, at, end) {
         return Counted::Count(count);

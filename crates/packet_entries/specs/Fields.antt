@@ -3,8 +3,6 @@
 use Rattle.std.specs.Prelude.{◌≡◌, Bool, ◌&&◌, ℕ, zero, suc, ◌+◌, leb, length, get_or, take, drop, replicate}
 use mathlib.Core.List.{List, [], ◌∷◌, map, flat_map, foldr}
 use Rattle.std.proofs.lemmas.List.Edits.{sets}
-use Rattle.std.specs.Borrow.{Bor}
-use denote.Triple.Both.{Both}
 use Rattle.model.specs.Block.{Block}
 use Rattle.model.specs.Packet.{Packet, valid_packet}
 use Rattle.model.specs.Services.{numbers_of}
@@ -26,31 +24,15 @@ pub record Fields : Type 0 where
 abbrev pub fields : ℕ → ℕ → List ℕ → List ℕ → List ℕ → Fields
 fields q k ns ss d = record { seq_no = q; count = k; numbers = ns; sizes = ss; payload = d }
 
--- an array that is lent to a function, as it was and as it is left
-abbrev pub Lent : Type 0
-Lent = Both (Bor (List ℕ)) (Bor (List ℕ))
-
--- the places that three such arrays were
-abbrev pub places_before : ℕ → ℕ → Lent → Lent → Lent → Fields
-places_before q k ns ss d = fields q k ns.entry.now ss.entry.now d.entry.now
-
--- and what they are left as
-abbrev pub places_after : ℕ → ℕ → Lent → Lent → Lent → Fields
-places_after q k ns ss d = fields q k ns.exit.now ss.exit.now d.exit.now
-
 -- the three arrays alone
 pub record Arrays : Type 0 where
   pub numbers : List ℕ
   pub sizes : List ℕ
   pub payload : List ℕ
 
--- as they were
-abbrev pub arrays_before : Lent → Lent → Lent → Arrays
-arrays_before ns ss d = record { numbers = ns.entry.now; sizes = ss.entry.now; payload = d.entry.now }
-
--- and as they are left
-abbrev pub arrays_after : Lent → Lent → Lent → Arrays
-arrays_after ns ss d = record { numbers = ns.exit.now; sizes = ss.exit.now; payload = d.exit.now }
+-- arrays of these numbers, sizes and payloads
+abbrev pub arrays : List ℕ → List ℕ → List ℕ → Arrays
+arrays ns ss d = record { numbers = ns; sizes = ss; payload = d }
 
 -- those of places
 abbrev pub arrays_of : Fields → Arrays

@@ -1,4 +1,6 @@
 // The blocks of a packet in three arrays, of their numbers, sizes and payloads: measured, searched and handed out.
+#![tactic(auto)]
+
 ghost use Rattle.std.specs.Prelude.{◌≡◌, ◌≤◌};
 ghost use Rattle.packet_entries.specs.Entries.{entries, good_entry};
 ghost use Rattle.packet_entries.specs.Extent.{length_with, walked, extent_as, latest_of, sum_to, placed_service};
@@ -9,20 +11,21 @@ use service::Service;
 const MOST_BYTES: usize = 127;
 
 // How long a packet is, 0 without blocks, and how many bytes of payload its blocks have; or that a limit is broken.
-#[derive(Drop)]
+#[derive(Clone, Copy)]
 pub enum Extent {
     Of { length: usize, used: usize },
     Bad,
 }
 
 // A place among the blocks.
-#[derive(Drop)]
+#[derive(Clone, Copy)]
 pub enum Found {
     At(usize),
     Nothing,
 }
 
 // Whether a block of this number and size may stand in a packet.
+#[tactic(auto, using(crate::proofs::Walks::entry_null, crate::proofs::Walks::entry_over, crate::proofs::Walks::entry_empty, crate::proofs::Walks::entry_long, crate::proofs::Walks::entry_good))]
 fn good_entry(number: u8, size: u8) -> bool
     ensures { result ≡ good_entry number size }
 {
@@ -77,6 +80,7 @@ fn length_of(count: usize, lengths: usize) -> usize
 }
 
 // The extent of a packet that breaks no limit.
+#[tactic(auto, using(crate::proofs::Walks::extent_sequence, crate::proofs::Walks::extent_count, crate::proofs::Walks::extent_bad, crate::proofs::Walks::extent_long, crate::proofs::Walks::extent_good))]
 pub fn extent_of(seq_no: u8, count: usize, numbers: &[u8; 63], sizes: &[u8; 63]) -> Extent
     ensures { result ≡ extent_as seq_no count (entries count numbers.now sizes.now) }
 {

@@ -1,5 +1,7 @@
 // How the readers go over the bytes of a packet: the size that its header says, how far they move on, where they are through, and the test whether bytes
 // read.
+#![tactic(auto)]
+
 ghost use Rattle.std.specs.Prelude.{◌≡◌, false, ◌≤◌, length, take};
 ghost use Rattle.model.specs.Said.{is_given};
 ghost use Rattle.model.specs.Packet.{packet_size};

@@ -1,6 +1,8 @@
 // Blocks and runs pushed to the three arrays of a packet.
+#![tactic(auto)]
+
 ghost use Rattle.std.specs.Prelude.{◌≡◌, ◌&&◌, [], ◌∷◌, ◌-◌, ◌≤◌, ◌<◌, length, ltb};
-ghost use Rattle.packet_entries.specs.Fields.{fields, places_before, arrays_before, arrays_after, block_from};
+ghost use Rattle.packet_entries.specs.Fields.{fields, arrays, block_from};
 ghost use Rattle.packet_entries.specs.Extent.{Sized};
 ghost use Rattle.packet_blocks.specs.Reading.{LaidIn};
 ghost use Rattle.packet_pushes.specs.Pushing.{Pushes, Extends, RoomAt, pushed_new, pushed_at, pushed_block, pushed_run};
@@ -20,7 +22,7 @@ pub fn push_block(
     sizes: &mut [u8; 63],
     payload: &mut [u8; 127],
 ) -> Counted
-    ensures { Pushes (pushed_block service) (places_before seq_no count numbers sizes payload) result (arrays_after numbers sizes payload) }
+    ensures { Pushes (pushed_block service) (fields seq_no count numbers.old sizes.old payload.old) result (arrays numbers.new sizes.new payload.new) }
 {
     let number = service.number;
     let size = service.len;
@@ -64,7 +66,7 @@ pub fn push_run(
     sizes: &mut [u8; 63],
     payload: &mut [u8; 127],
 ) -> Counted
-    ensures { Pushes (pushed_run needs_room service_no code.now) (places_before seq_no count numbers sizes payload) result (arrays_after numbers sizes payload) }
+    ensures { Pushes (pushed_run needs_room service_no code.now) (fields seq_no count numbers.old sizes.old payload.old) result (arrays numbers.new sizes.new payload.new) }
 {
     let extent = packet_entries::extent_of(seq_no, count, numbers, sizes);
     let Extent::Of {
@@ -104,7 +106,7 @@ fn push_new(
     payload: &mut [u8; 127],
 ) -> Counted
     requires { Sized (fields seq_no at.count numbers.old sizes.old payload.old) total at.used × (1 ≤ length code.now) × (service_no ≤ 63) }
-    ensures { Pushes (pushed_new service_no code.now) (places_before seq_no at.count numbers sizes payload) result (arrays_after numbers sizes payload) }
+    ensures { Pushes (pushed_new service_no code.now) (fields seq_no at.count numbers.old sizes.old payload.old) result (arrays numbers.new sizes.new payload.new) }
 {
     let n = code.len();
     let count = at.count;
@@ -135,7 +137,7 @@ fn push_at(
     payload: &mut [u8; 127],
 ) -> Counted
     requires { Sized (fields seq_no at.count numbers.now sizes.old payload.old) total at.used × (place < at.count) }
-    ensures { Pushes (pushed_at place code.now) (places_before seq_no at.count numbers sizes payload) result (arrays_after numbers sizes payload) }
+    ensures { Pushes (pushed_at place code.now) (fields seq_no at.count numbers.now sizes.old payload.old) result (arrays numbers.now sizes.new payload.new) }
 {
     let n = code.len();
     let count = at.count;
@@ -196,7 +198,7 @@ fn put_entry(
     payload: &mut [u8; 127],
 )
     requires { (at.count ≤ 62) × (length run.now ≤ 31) }
-    ensures { LaidIn (block_from number run.now ∷ []) at (arrays_before numbers sizes payload) (arrays_after numbers sizes payload) }
+    ensures { LaidIn (block_from number run.now ∷ []) at (arrays numbers.old sizes.old payload.old) (arrays numbers.new sizes.new payload.new) }
 {
     let count = at.count;
     let used = at.used;

@@ -1,4 +1,6 @@
 // A packet read from bytes into its places: the tests of its length come first, and its blocks tell the rest.
+#![tactic(auto)]
+
 ghost use Rattle.std.specs.Prelude.{◌≡◌, cond, ◌||◌, eqb, take};
 ghost use Rattle.caption.specs.Answers.{said_refusal};
 ghost use Rattle.model.specs.Said.{packet_length_wrong};

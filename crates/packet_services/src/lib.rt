@@ -1,4 +1,6 @@
 // The services of a packet as a set of 64 bits, bit k for service k: worked out from the numbers of its blocks, and counted.
+#![tactic(auto)]
+
 ghost use Rattle.std.specs.Prelude.{◌≡◌};
 ghost use Rattle.std.specs.Int.Count.{ones};
 ghost use Rattle.packet_services.specs.Services.{with_number, services_to};
@@ -16,6 +18,7 @@ fn with_number(set: u64, number: u8) -> u64
 }
 
 // The set of the first `count` numbers.
+#[tactic(auto, using(crate::proofs::Services::set_many))]
 pub fn services_to(numbers: &[u8; 63], count: usize) -> u64
     ensures { result ≡ services_to count numbers.now }
 {

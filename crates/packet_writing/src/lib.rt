@@ -1,9 +1,11 @@
 // A packet written from its three arrays, of the numbers, sizes and payloads of its blocks.
+#![tactic(auto)]
+
 ghost use Rattle.std.specs.Prelude.{◌≡◌, cond, ◌+◌, ◌*◌, ◌/◌, ◌%◌, ◌≤◌, length, eqb};
 ghost use Rattle.std.proofs.lemmas.List.Edits.{sets};
 ghost use Rattle.model.specs.Packet.{written_blocks, fill};
 ghost use Rattle.model.specs.Block.{written_block};
-ghost use Rattle.packet_entries.specs.Fields.{places_before, block_from};
+ghost use Rattle.packet_entries.specs.Fields.{fields, block_from};
 ghost use Rattle.packet_entries.specs.Entries.{entries, cut};
 ghost use Rattle.packet_writing.specs.Writing.{Writable, WritesPlaces};
 
@@ -20,7 +22,7 @@ pub fn write(
     payload: &[u8; 127],
     out: &mut [u8],
 ) -> Counted
-    ensures { WritesPlaces (places_before seq_no count numbers sizes payload) out.old result out.new }
+    ensures { WritesPlaces (fields seq_no count numbers.now sizes.now payload.now) out.old result out.new }
 {
     let bytes = &payload[..];
     let extent = packet_entries::extent_of(seq_no, count, numbers, sizes);

@@ -5,7 +5,7 @@ use mathlib.Core.List.{List, [], ◌∷◌, ◌++◌, map}
 use Prim.Native.Nat.{ℕ, ◌≤◌, ◌<◌, ◌*◌}
 use native.Mathlib.Omega.{arith}
 use contract.Lifetimes.{Lfts}
-use denote.Ref.{Bor}
+use denote.Ref.{Bor, MutBor}
 use lib.Dec.{ltb}
 use lib.ListN.{length, get_or, take, drop}
 use lib.Seq.{take_at}
@@ -43,12 +43,16 @@ use Rattle.packing.proofs.Told.{said_proposal_injective}
 abbrev pub Lent : Type 0
 Lent = Bor (List ℕ)
 
+-- bytes that a caller lends to be written
+abbrev pub Output : Type 0
+Output = MutBor (List ℕ)
+
 -- `check(services, lengths, pieces)`
 abbrev pub Check : Lfts 3 → Lent → Lent → Lent → Answer → Type 0
 Check κs services lengths pieces r = check.Post κs (services, (lengths, (pieces, tt))) r (services, (lengths, (pieces, tt)))
 
 -- `propose(services, lengths, &mut out)`, where `out` is as it was lent and `end` as it is at exit
-abbrev pub Propose : Lfts 3 → Lent → Lent → Lent → Lent → Proposal → Type 0
+abbrev pub Propose : Lfts 3 → Lent → Lent → Output → Output → Proposal → Type 0
 Propose κs services lengths out end r = propose.Post κs (services, (lengths, (out, tt))) r (services, (lengths, (end, tt)))
 
 module _ (κs : Lfts 3) (services lengths pieces : Lent) (r : Answer) (told : Check κs services lengths pieces r) where
@@ -101,7 +105,7 @@ made_of services lengths out packets len end p =
     record { packs = ok; filled = t.0; pieces = rw (o, t.1) (ap pieces_of (take_at numbers (drop (length numbers) out) (length numbers) refl) ∙ pieces_back (first_come services lengths)) }))
     (λ no. not_told packets len over_limit (λ z. omega arith) (rw no at p.answer))
 
-module _ (κs : Lfts 3) (services lengths out end : Lent) (packets len : ℕ) (made : Propose κs services lengths out end (proposal.Made packets len)) where
+module _ (κs : Lfts 3) (services lengths : Lent) (out end : Output) (packets len : ℕ) (made : Propose κs services lengths out end (proposal.Made packets len)) where
   -- What the packer makes is accepted.
   pub made_accepted : (κt : Lfts 3) (pieces : Lent) (r : Answer) → pieces.now ≡ take len end.now → Check κt services lengths pieces r → r ≡ Accepted
   made_accepted κt pieces r is told =
@@ -130,7 +134,7 @@ unpackable services lengths out end p =
     other said n e = n (sym (ap (λ (s : Said). s.number) e))
 
 -- Where the packer refuses the runs, no proposal for them is accepted.
-pub refused_none : (κs : Lfts 3) (services lengths out end : Lent) → Propose κs services lengths out end (proposal.Refused OverLimit)
+pub refused_none : (κs : Lfts 3) (services lengths : Lent) (out end : Output) → Propose κs services lengths out end (proposal.Refused OverLimit)
     → (κt : Lfts 3) (pieces : Lent) (r : Answer) → Check κt services lengths pieces r → r ≡ Accepted → ⊥
 refused_none κs services lengths out end p κt pieces r told e =
     let no = unpackable services.now lengths.now out.now end.now p in
@@ -138,7 +142,7 @@ refused_none κs services lengths out end p κt pieces r told e =
     false≢true (sym no ∙ ok)
 
 -- For at most 256 runs, each with a service from 1 to 63 and 1 to 31 bytes, a proposal is made where the output has five bytes for each.
-pub made_whenever : (κs : Lfts 3) (services lengths out end : Lent) (r : Proposal) → Propose κs services lengths out end r → length services.now ≤ most_runs
+pub made_whenever : (κs : Lfts 3) (services lengths : Lent) (out end : Output) (r : Proposal) → Propose κs services lengths out end r → length services.now ≤ most_runs
     → ((i : ℕ) → i < length services.now → (1 ≤ get_or services.now i 0) × (get_or services.now i 0 ≤ 63) × (1 ≤ get_or lengths.now i 0) × (get_or lengths.now i 0 ≤ 31))
     → 5 * length services.now ≤ length out.now → r ≡ proposal.Made (packets_filled services.now lengths.now) (5 * length services.now)
 unfolding model.propose put_into packable runs_fit
@@ -153,7 +157,7 @@ made_whenever κs services lengths out end r p few each room =
     said_proposal_injective r (proposal.Made (packets_filled services.now lengths.now) (5 * length services.now)) (p.answer ∙ rw (le-leb (length services.now) most_runs few, fit, s, long))
 
 -- The pieces of a proposal that is made name the packets below the number that it tells, each of them.
-pub made_counted : (κs : Lfts 3) (services lengths out end : Lent) (packets len : ℕ) → Propose κs services lengths out end (proposal.Made packets len)
+pub made_counted : (κs : Lfts 3) (services lengths : Lent) (out end : Output) (packets len : ℕ) → Propose κs services lengths out end (proposal.Made packets len)
     → NamesBelow (pieces_of (take len end.now)) packets
 made_counted κs services lengths out end packets len made =
     let m = made_of services.now lengths.now out.now packets len end.now made in

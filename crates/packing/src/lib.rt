@@ -1,5 +1,7 @@
 // Proposals of packers: one that any packer made, checked, and the first-come packer, which makes one. It makes a piece of each run, pushed to the packet
 // that is being filled, or to the next one where that refuses it.
+#![tactic(auto)]
+
 ghost use Rattle.std.specs.Prelude.{◌≡◌, true, [], ◌∷◌, ◌≤◌, ◌<◌};
 ghost use Rattle.std.proofs.lemmas.List.Edits.{sets};
 ghost use Rattle.model.specs.Packet.{latest};
@@ -20,7 +22,7 @@ use packing_limits::within_limits;
 use packing_runs::{MOST_RUNS, PIECE, number_at, runs_fit};
 
 // A proposal: how many packets it fills, and how many bytes of the lent output are its pieces; or why there is none.
-#[derive(Drop)]
+#[derive(Clone, Copy)]
 pub enum Proposal {
     Made { packets: usize, len: usize },
     Refused(Refusal),
@@ -63,7 +65,7 @@ pub fn propose(services: &[u8], lengths: &[u8], out: &mut [u8]) -> Proposal
 }
 
 // The packet that is being filled, and how many there are before it.
-#[derive(Drop)]
+#[derive(Clone, Copy)]
 struct Filling {
     before: usize,
     packet: DTVCCPacket,

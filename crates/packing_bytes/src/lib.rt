@@ -1,5 +1,7 @@
 // What is asked of the bytes of a proposal: that each is in one piece, that those of a service keep their order, and that no run is split. The time is
 // linear in the input: a table tells of each byte which piece holds it.
+#![tactic(auto)]
+
 ghost use Rattle.std.specs.Prelude.{◌≡◌, true, ◌+◌, ◌-◌, ◌*◌, ◌≤◌, ◌<◌, length, replicate};
 ghost use Rattle.model.specs.Lists.{every};
 ghost use Rattle.caption.specs.Answers.{said_answer};
@@ -54,6 +56,7 @@ fn count_pieces(pieces: &[u8], most: usize) -> usize
 }
 
 // Whether a piece has a byte or more, and its bytes are its run's.
+#[tactic(auto, using(crate::proofs::Tests::inside_empty, crate::proofs::Tests::inside_nowhere))]
 fn is_inside(services: &[u8], lengths: &[u8], pieces: &[u8], place: usize) -> bool
     requires { place < 65280 }
     ensures { (result ≡ inside services.now lengths.now (nth_piece pieces.now place)) × (result ≡ true → LowPiece (nth_piece pieces.now place)) }
@@ -71,6 +74,7 @@ fn is_inside(services: &[u8], lengths: &[u8], pieces: &[u8], place: usize) -> bo
 }
 
 // Fills so many cells from a cell on, as long as they have 0.
+#[tactic(auto, using(crate::proofs::Cells::free_stops))]
 fn fill_cells(table: &mut Table, from: usize, size: usize, value: u16) -> bool
     requires { from + size ≤ 65536 }
     ensures { Fills size from value table.old table.new result }
@@ -124,6 +128,7 @@ fn fill_table(
 }
 
 // Whether every byte has a holder.
+#[tactic(auto, using(crate::proofs::Walks::held_stops, crate::proofs::Walks::held_more))]
 fn all_held(services: &[u8], lengths: &[u8], table: &Table) -> bool
     requires { length services.now ≤ 256 }
     ensures { result ≡ every (has_holder table.now) (bytes_of services.now lengths.now) }
@@ -248,6 +253,7 @@ fn answer_told(services: &[u8], lengths: &[u8], pieces: &[u8], table: &Table) ->
 }
 
 // Whether the bytes of a proposal are covered, keep their order and are not split [Q2] [Q3] [Q4].
+#[tactic(auto, using(crate::proofs::Told::said_many, crate::proofs::Told::said_crowded))]
 pub fn check_bytes(services: &[u8], lengths: &[u8], pieces: &[u8]) -> Answer
     ensures { said_answer result ≡ bytes_said services.now lengths.now (pieces_of pieces.now) }
 {

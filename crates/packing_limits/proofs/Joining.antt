@@ -44,6 +44,7 @@ module _ (services : List ℕ) where
   pub joined_first : (ps : List Piece) → all_join services ps ≡ true → (r : Piece) → In r ps
       → (1 ≤ service_of services r.run) × (first_service services (pieces_in r.packet r.block ps) ≡ service_of services r.run)
   unfolding all_join first_service those
+  joined_first [] e r x'' = elim x'' [ ]
   joined_first (q ∷ qs) e r (here p) =
       let f = joined_facts q qs (both (joins services q qs) (all_join services qs) e).0 in
       rw p (f.named, rw (lies_own q))

@@ -39,6 +39,7 @@ block_of services q qs = rw (flat_blank (q ∷ qs))
 
 -- and it is there where one of them is
 block_in : (services : List ℕ) (q : Piece) (qs : List Piece) → In q qs → In (blank_block services qs) (block_for services (λ r. zeros r.size) qs)
+block_in services q [] i = elim i [ ]
 block_in services q (r ∷ qs) i = rw (block_of services r qs) (here refl)
 
 module _ (services lengths : List ℕ) (ps : List Piece) where
@@ -81,6 +82,7 @@ module _ (services lengths : List ℕ) (ps : List Piece) where
   -- the first of pieces of one service has this service
   first_same : (s : ℕ) (q : Piece) (qs : List Piece) → In q qs → ((r : Piece) → In r qs → service_of services r.run ≡ s) → first_service services qs ≡ s
   unfolding first_service
+  first_same s q [] i f = elim i [ ]
   first_same s q (r ∷ qs) i f = f r (here refl)
 
   -- so the pieces are within the limits of blocks

@@ -1,5 +1,7 @@
 // Whether the pieces of a proposal keep the limits of blocks and packets: the service and the bytes of each block go into two tables of 256 places
 // for each packet, and each packet is summed up from there.
+#![tactic(auto)]
+
 ghost use Rattle.std.specs.Prelude.{◌≡◌, true, [], ◌+◌, ◌%◌, ◌<◌, ◌≤◌, length};
 ghost use Rattle.model.specs.Lists.{every};
 ghost use Rattle.model.specs.Packet.{valid_packet};
@@ -32,6 +34,7 @@ fn place_of(pieces: &[u8], at: usize) -> usize
 }
 
 // Whether a block of this number takes a piece of that service; 0 is the number of a block without pieces.
+#[tactic(auto, using(crate::proofs::Entries::admits_any, crate::proofs::Entries::admits_same))]
 fn admits(number: u8, service: u8) -> bool
     ensures { result ≡ agrees number service }
 {
@@ -42,6 +45,7 @@ fn admits(number: u8, service: u8) -> bool
 }
 
 // Enters a piece of this service and size into the tables, at the place of its block; not one that may not stand there.
+#[tactic(auto, using(crate::proofs::Entries::enter_unnamed, crate::proofs::Entries::enter_other, crate::proofs::Entries::enter_over, crate::proofs::Entries::enter_fits))]
 fn enter(
     service: u8,
     size: u8,
@@ -103,6 +107,7 @@ fn enter_pieces(
 }
 
 // What the block at a place takes of its packet: all of it where the block may not stand in one.
+#[tactic(auto, using(crate::proofs::Sums::takes_none, crate::proofs::Sums::takes_unknown, crate::proofs::Sums::takes_empty, crate::proofs::Sums::takes_over, crate::proofs::Sums::takes_length, crate::proofs::Sums::length_most))]
 fn length_at(numbers: &[u8; 65536], sizes: &[u8; 65536], place: usize) -> usize
     requires { place < 65536 }
     ensures { (result ≡ taken (block_at numbers.now sizes.now place)) × (result ≤ 128) }

@@ -1,4 +1,6 @@
 // Runs as they are handed over, a service and a length for each, and whether each of them fits into a block.
+#![tactic(auto)]
+
 ghost use Rattle.std.specs.Prelude.{◌≡◌, ◌<◌, get_or};
 ghost use Rattle.model_packing.specs.Proposals.{run_fits, runs_fit};
 
@@ -27,6 +29,7 @@ pub fn number_at(numbers: &[u8], at: usize) -> usize
 }
 
 // Whether a run may stand in a packet as a block [Q6].
+#[tactic(auto, using(crate::proofs::Runs::fits_unnamed, crate::proofs::Runs::fits_unknown, crate::proofs::Runs::fits_empty, crate::proofs::Runs::fits_some))]
 fn run_fits(services: &[u8], lengths: &[u8], run: usize) -> bool
     ensures { result ≡ run_fits services.now lengths.now run }
 {

@@ -1,4 +1,6 @@
 // The demultiplexer: frames of `cc_data` in, caption pairs and packets out.
+#![tactic(auto)]
+
 ghost use Rattle.std.specs.Prelude.{◌≡◌, ◌&&◌, length};
 ghost use Rattle.caption.specs.Answers.{said_counted};
 ghost use Rattle.model.specs.Said.{measured};
@@ -22,7 +24,7 @@ use slots::Slot;
 // A demultiplexer. The first `pair_count` pairs of the last frame not yet drawn stand in `pairs`, three places each: the field (0 or 1) and
 // two bytes. The first `pending_len` bytes of `pending` are of a packet that is not complete. `waiting_count` slots from `waiting_first` on,
 // going round, hold the packets not yet drawn.
-#[derive(Drop)]
+#[derive(Clone, Copy)]
 pub struct CCDataParser {
     pub cea608_on: bool,
     pub pair_count: usize,
@@ -35,14 +37,14 @@ pub struct CCDataParser {
 }
 
 // An answer, and the demultiplexer afterwards.
-#[derive(Drop)]
+#[derive(Clone, Copy)]
 pub struct ParserAnswer {
     pub answer: Answer,
     pub parser: CCDataParser,
 }
 
 // What is drawn out of a demultiplexer.
-#[derive(Drop)]
+#[derive(Clone, Copy)]
 pub enum Item {
     // A 608 pair.
     Pair(Cea608),
@@ -55,7 +57,7 @@ pub enum Item {
 }
 
 // An item, the packet beside it, and the demultiplexer afterwards.
-#[derive(Drop)]
+#[derive(Clone, Copy)]
 pub struct Drawn {
     pub item: Item,
     pub packet: DTVCCPacket,
@@ -245,7 +247,7 @@ impl CCDataParser {
 }
 
 // The numbers of a state.
-#[derive(Drop)]
+#[derive(Clone, Copy)]
 struct Counts {
     on: bool,
     pairs: usize,

@@ -1,4 +1,6 @@
 // Items taken out of what waits: the first pair of the list, or the packet at the head of the ring.
+#![tactic(auto)]
+
 ghost use Rattle.std.specs.Prelude.{◌≡◌, ◌&&◌, List, ℕ, ◌≤◌};
 ghost use Rattle.model.specs.Packet.{no_packet};
 ghost use Rattle.packet.specs.Packet.{laid};
@@ -11,7 +13,7 @@ use packet::DTVCCPacket;
 use slots::Slot;
 
 // The numbers of what waits: the pairs, the place of the ring's head, and the packets.
-#[derive(Drop)]
+#[derive(Clone, Copy)]
 pub struct Waits {
     pub pairs: usize,
     pub first: usize,
@@ -19,7 +21,7 @@ pub struct Waits {
 }
 
 // What is taken.
-#[derive(Drop)]
+#[derive(Clone, Copy)]
 pub enum Next {
     // A 608 pair.
     Pair(Cea608),
@@ -32,7 +34,7 @@ pub enum Next {
 }
 
 // What is taken, the packet beside it, and the numbers of what waits afterwards.
-#[derive(Drop)]
+#[derive(Clone, Copy)]
 pub struct Took {
     pub next: Next,
     pub packet: DTVCCPacket,
@@ -40,7 +42,7 @@ pub struct Took {
 }
 
 // The packet of a slot, and whether the slot reads as one.
-#[derive(Drop)]
+#[derive(Clone, Copy)]
 struct Read {
     good: bool,
     packet: DTVCCPacket,

@@ -1,4 +1,6 @@
 // Packets gathered from the triples of a frame: the bytes of one that is not complete, and the ring of slots that wait.
+#![tactic(auto)]
+
 ghost use Rattle.std.specs.Prelude.{◌≡◌, true, cond, ◌&&◌, List, ℕ, ◌+◌, ◌*◌, ◌≤◌, ◌<◌, length, take, replicate, eqb};
 ghost use Rattle.std.proofs.lemmas.List.Edits.{sets};
 ghost use Rattle.model.specs.Frame.{seen, tri};
@@ -10,14 +12,14 @@ use basics::{MOST_WAITING, put_bytes};
 use slots::Slot;
 
 // The bytes that a packet still wants, and those gathered of it.
-#[derive(Drop)]
+#[derive(Clone, Copy)]
 pub struct Run {
     pub need: usize,
     pub len: usize,
 }
 
 // A triple of a frame.
-#[derive(Drop)]
+#[derive(Clone, Copy)]
 struct Triple {
     kind: u8,
     x: u8,
@@ -25,7 +27,7 @@ struct Triple {
 }
 
 // What a frame leaves: how many bytes are pending, how many slots wait, and the slots.
-#[derive(Drop)]
+#[derive(Clone, Copy)]
 pub struct Remains {
     pub pending: usize,
     pub waiting: usize,

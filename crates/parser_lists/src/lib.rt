@@ -1,4 +1,6 @@
 // The list of the pairs of a frame: pairs listed, and a list tested.
+#![tactic(auto)]
+
 ghost use Rattle.std.specs.Prelude.{◌≡◌, ◌&&◌, List, ◌∷◌, ◌+◌, ◌%◌, ◌≤◌, ◌<◌, length};
 ghost use Rattle.model.specs.Frame.{Seen, seen, tri};
 ghost use Rattle.parser_triples.specs.Walk.{seen_from};

@@ -1,4 +1,6 @@
 // The ring of slots that wait: the slot at its head, and whether those that follow read as packets.
+#![tactic(auto)]
+
 ghost use Rattle.std.specs.Prelude.{◌≡◌, ◌&&◌};
 ghost use Rattle.parser_rings.specs.Ring.{slot_fine};
 ghost use Rattle.parser_rings.specs.Tests.{head_fine, front_at, front_of};
@@ -7,7 +9,7 @@ use basics::{MOST_PACKET, MOST_WAITING};
 use slots::Slot;
 
 // The slot at the head of the ring, and whether the ring but for its head is within its limits.
-#[derive(Drop)]
+#[derive(Clone, Copy)]
 pub struct Front {
     pub good: bool,
     pub slot: Slot,

@@ -1,4 +1,6 @@
 // What is to be done with a frame, by its header and its triples: whether there is a late 608 triple, and whether a valid 708 triple.
+#![tactic(auto)]
+
 ghost use Rattle.std.specs.Prelude.{◌≡◌, ◌+◌, ◌*◌, ◌%◌, ◌≤◌, ◌<◌, length, false};
 ghost use Rattle.parser_triples.specs.Walk.{fold_from, seen_from};
 ghost use Rattle.parser_triples.specs.Scan.{found, scan_turn, scanned};
@@ -7,7 +9,7 @@ ghost use Rattle.parser_triples.specs.Plan.{head_of, plan_walked, plan_of};
 use caption::{Answer, Refusal};
 
 // What the first byte and the length of a frame say.
-#[derive(Drop)]
+#[derive(Clone, Copy)]
 pub enum Head {
     // There is nothing to read.
     Unread,
@@ -18,7 +20,7 @@ pub enum Head {
 }
 
 // How far the search for a late pair has come.
-#[derive(Drop)]
+#[derive(Clone, Copy)]
 pub enum Scan {
     // Every triple so far is of the 608 part.
     Only608,
@@ -31,7 +33,7 @@ pub enum Scan {
 }
 
 // What is to be done with a frame: the answer unless no place is left, whether pairs are listed, and whether bytes are gathered.
-#[derive(Drop)]
+#[derive(Clone, Copy)]
 pub struct Plan {
     pub answer: Answer,
     pub lists: bool,

@@ -1,4 +1,6 @@
 // What answers say, as numbers: the number of a refusal, 0 for what is accepted, and the values that it carries.
+#![tactic(auto)]
+
 ghost use Rattle.std.specs.Prelude.{◌≡◌, [], ◌∷◌};
 ghost use Rattle.caption.specs.Answers.{said_refusal, said_answer, said_counted};
 ghost use Rattle.program_answers.specs.Telling.{told_by};
@@ -6,7 +8,7 @@ ghost use Rattle.program_answers.specs.Telling.{told_by};
 use caption::{Answer, Counted, Refusal};
 
 // What an answer says: its number, and the first `count` of three values; the others are 0.
-#[derive(Drop)]
+#[derive(Clone, Copy)]
 pub struct Numbers {
     pub number: u64,
     pub count: usize,

@@ -1,5 +1,7 @@
 // The lines that the programs print and their pieces, laid into a lent buffer from a place on and as far as there is room; each function
 // answers the place behind what it laid.
+#![tactic(auto)]
+
 ghost use Rattle.std.specs.Prelude.{[], ◌∷◌, ◌++◌};
 ghost use Rattle.caption.specs.Answers.{said_refusal, said_answer, said_counted};
 ghost use Rattle.caption.specs.Pairs.{cea608_of};

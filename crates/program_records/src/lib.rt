@@ -1,4 +1,6 @@
 // Records found in a buffer, and parts of one.
+#![tactic(auto)]
+
 ghost use Rattle.std.specs.Prelude.{◌≡◌, [], ◌∷◌, get_or, take, drop};
 ghost use Rattle.model.specs.Services.{among};
 ghost use Rattle.program_records.specs.Reading.{can_be, found_in, missing, highest_first};
@@ -7,7 +9,7 @@ ghost use Rattle.program_records.specs.Moved.{Moved, between};
 use basics::lesser;
 
 // What stands in a buffer from a place on.
-#[derive(Drop)]
+#[derive(Clone, Copy)]
 pub enum Found {
     // A whole record: its `len` bytes begin at `start`, and the next record at `next`.
     Record {

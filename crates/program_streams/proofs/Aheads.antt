@@ -2,7 +2,6 @@
 use Rattle.std.proofs.Common.{◌≡◌, ℕ, ◌<◌, ◌≤◌, Bool, true, false, cond, leb, ◌⊎◌, List, [], ◌∷◌, length, get_or, take, drop, sym, refl, ap, ◌∙◌, inl, inr, arith, length-drop, take_all, le-leb, leb-false, leb-true}
 use mathlib.Core.Bool.{false≢true}
 use borrow.Author.Tests.{lt-leb}
-use types.Run.{hit, miss}
 use Rattle.program_records.specs.Reading.{found_in}
 use Rattle.program_records.specs.declared.Found.{Found}
 use Rattle.program_records.specs.declared.Found.TheVariants as found
@@ -19,7 +18,7 @@ module _ (p : Place) where
   -- where no whole record is found
   pub stands_there : (f : Found) → NoRecord f → by_found p f ≡ standing p f
   unfolding by_found
-  stands_there (found.Record start len next) none = absurd (miss (1 ∷ 2 ∷ 3 ∷ 4 ∷ []) 0 tt none)
+  stands_there (found.Record start len next) none = absurd (none _ _ _ refl)
   stands_there found.More none = refl
   stands_there found.WrongMark none = refl
   stands_there found.Short none = refl
@@ -29,10 +28,10 @@ module _ (p : Place) where
   pub no_whole : (f : Found) → (by_found p f).whole ≡ false → NoRecord f
   unfolding by_found
   no_whole (found.Record start len next) e = absurd (false≢true (sym e))
-  no_whole found.More e = hit (1 ∷ 2 ∷ 3 ∷ 4 ∷ []) 1 tt
-  no_whole found.WrongMark e = hit (1 ∷ 2 ∷ 3 ∷ 4 ∷ []) 2 tt
-  no_whole found.Short e = hit (1 ∷ 2 ∷ 3 ∷ 4 ∷ []) 3 tt
-  no_whole found.End e = hit (1 ∷ 2 ∷ 3 ∷ 4 ∷ []) 4 tt
+  no_whole found.More e = λ a l n (r : found.More ≡ found.Record a l n). cc
+  no_whole found.WrongMark e = λ a l n (r : found.WrongMark ≡ found.Record a l n). cc
+  no_whole found.Short e = λ a l n (r : found.Short ≡ found.Record a l n). cc
+  no_whole found.End e = λ a l n (r : found.End ≡ found.Record a l n). cc
 
   one_whole : (f : Found) → (by_found p f).whole ≡ true → (start : ℕ) × (len : ℕ) × (next : ℕ) × (f ≡ found.Record start len next)
   unfolding by_found

@@ -1,5 +1,5 @@
 -- A program that reads its input to the end, one read after another. Assumes nothing.
-use Rattle.std.proofs.Common.{◌≡◌, ℕ, zero, suc, ◌+◌, ◌<◌, ◌≤◌, Bool, true, false, cond, eqb, ltb, List, [], ◌++◌, length, get_or, take, drop, sym, refl, ◌∙◌, append-nil, arith, length-drop, length-take-le, take-add}
+use Rattle.std.proofs.Common.{◌≡◌, ℕ, zero, suc, ◌+◌, ◌<◌, ◌≤◌, Bool, true, false, cond, eqb, ltb, List, [], ◌++◌, length, get_or, take, drop, sym, refl, ap, ◌∙◌, append-nil, arith, length-drop, length-take, length-take-le, take-add}
 use mathlib.Core.Bool.{false≢true}
 use Rattle.program_records.proofs.Cuts.{whole}
 use Rattle.program_records.specs.Reading.{can_be, record_length, missing, found_in}
@@ -65,6 +65,23 @@ module _ {S : Type 0} (mark : List (List ℕ)) (tell : ℕ → S → ℕ → Lis
   pub starts : (buf : List ℕ) (x : S) → ToldSoFar mark tell false x buf nothing_read x
   unfolding told walked found_in left_at
   starts buf x = ([], record { count = refl; within = omega arith; bytes = refl; reached = refl; number = refl; state = refl; goes = refl })
+
+  -- what is told stays so while the bytes that wait stay at the front of the buffer
+  pub still_told : (ended : Bool) (x : S) {buf after : List ℕ} {h : Held} {y : S} → ToldSoFar mark tell ended x buf h y → take h.have after ≡ take h.have buf
+      → ToldSoFar mark tell ended x after h y
+  still_told ended x {buf} {after} {h} i e =
+      let k = i.1 in (
+        i.0,
+        record {
+          count = k.count;
+          within = omega (arith, k.within, length-take h.have after, length-take h.have buf, ap length e);
+          bytes = e ∙ k.bytes;
+          reached = k.reached;
+          number = k.number;
+          state = k.state;
+          goes = k.goes;
+        },
+      )
 
   -- one read after another: the program stands where the bytes read so far leave it
   module _ (short : length mark ≤ 3) (x : S) {buf after : List ℕ} {h k : Held} {y z : S}

@@ -1,8 +1,5 @@
 -- What some bytes tell, by what is found at their front. Assumes nothing.
 use Rattle.std.proofs.Common.{◌≡◌, ℕ, zero, suc, ◌≤◌, Bool, true, false, cond, eqb, ltb, List, [], ◌∷◌, length, drop, sym, refl, ap, ◌∙◌, arith, length-drop, eq-eqb}
-use types.Run.{OneOf, miss}
-use denote.Enum.Declared.{tag_of}
-use Rattle.program_records.specs.contracts.Found.{the_type}
 use Rattle.program_records.proofs.Cuts.{whole}
 use Rattle.program_records.proofs.Readings.{is_record}
 use Rattle.program_records.specs.Reading.{can_be, record_length, missing, found_in}
@@ -11,9 +8,9 @@ use Rattle.program_records.specs.declared.Found.TheVariants as found
 use Rattle.program_streams.specs.Ends.{left_at}
 use Rattle.program_streams.specs.Walk.{Told, Walked, kind, body, before, stop, and_on, if_record, walked, told}
 
--- what is found is no whole record: it is one of the four other cases of `Found`
+-- what is found is no whole record
 abbrev pub NoRecord : Found → Type 0
-NoRecord f = OneOf (1 ∷ 2 ∷ 3 ∷ 4 ∷ []) (tag_of the_type f)
+NoRecord f = (start len next : ℕ) → f ≡ found.Record start len next → ⊥
 
 -- where no whole record is found, the place does not matter
 none_shifts : (a b c e : Bool) (p q n r t m : ℕ) → NoRecord (cond a (missing e found.End) (cond b (cond c (missing e found.Short) (found.Record p q n)) found.WrongMark))
@@ -22,7 +19,7 @@ none_shifts : (a b c e : Bool) (p q n r t m : ℕ) → NoRecord (cond a (missing
 none_shifts true b c e p q n r t m h = refl
 none_shifts false false c e p q n r t m h = refl
 none_shifts false true true e p q n r t m h = refl
-none_shifts false true false e p q n r t m h = absurd (miss (1 ∷ 2 ∷ 3 ∷ 4 ∷ []) 0 tt h)
+none_shifts false true false e p q n r t m h = absurd (h _ _ _ refl)
 
 module _ {S : Type 0} where
   -- what stands behind a record matters only where one is found
@@ -36,7 +33,7 @@ module _ {S : Type 0} where
 
   no_record : (f : Found) (w none : Walked S) → NoRecord f → if_record f w none ≡ none
   unfolding if_record
-  no_record (found.Record a c d) w none h = absurd (miss (1 ∷ 2 ∷ 3 ∷ 4 ∷ []) 0 tt h)
+  no_record (found.Record a c d) w none h = absurd (h _ _ _ refl)
   no_record found.More w none h = refl
   no_record found.WrongMark w none h = refl
   no_record found.Short w none h = refl

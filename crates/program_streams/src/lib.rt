@@ -1,5 +1,7 @@
 // A program that reads records to the end of its input: what is ahead of a place, its last line, and what it keeps for its next read. What it tells
 // of the records is in `specs/Walk.antt`.
+#![tactic(auto)]
+
 ghost use Rattle.std.specs.Prelude.{◌≡◌, ◌+◌, ◌^◌, ◌<◌, [], ◌∷◌, drop};
 ghost use Rattle.program_records.specs.Moved.{Moved, between};
 ghost use Rattle.program_text.specs.Laid.{Laid};
@@ -10,7 +12,7 @@ ghost use Rattle.program_streams.specs.Walk.{kind, body};
 use program_records::{Found, byte_at, part};
 
 // Where the records of a buffer end.
-#[derive(Drop)]
+#[derive(Clone, Copy)]
 pub enum Left {
     // In a record whose end is still to be read, or in none.
     More,
@@ -22,7 +24,7 @@ pub enum Left {
 
 // Where a program stands: its place in the buffer, the bytes of input before it, the number of the next record, and how many bytes it has laid of
 // what it tells.
-#[derive(Drop)]
+#[derive(Clone, Copy)]
 pub struct Place {
     pub at: usize,
     pub passed: u64,
@@ -32,7 +34,7 @@ pub struct Place {
 
 // What is ahead of a place: whether a whole record is to be told, and the place behind it. If none is, the place itself, and whether there may be
 // more to tell once what is laid has been handed out; else where the records end.
-#[derive(Drop)]
+#[derive(Clone, Copy)]
 pub struct Ahead {
     pub whole: bool,
     pub full: bool,
@@ -42,7 +44,7 @@ pub struct Ahead {
 
 // What a program holds from one read to the next: the bytes that wait at the front of its buffer, those of input before them, the records so
 // far, and whether to go on.
-#[derive(Drop)]
+#[derive(Clone, Copy)]
 pub struct Held {
     pub have: usize,
     pub passed: u64,
@@ -104,8 +106,8 @@ fn place_behind(place: Place, len: usize, next: usize) -> Place
 {
     Place {
         at: next,
-        passed: std::num::wrapping_add_u64(place.passed, (3 + len) as u64),
-        records: std::num::wrapping_add_u64(place.records, 1),
+        passed: place.passed.wrapping_add((3 + len) as u64),
+        records: place.records.wrapping_add(1),
         laid: place.laid,
     }
 }

@@ -1,4 +1,6 @@
 // Text laid into a lent buffer from a place on, as far as there is room. Each function answers the place behind what it laid.
+#![tactic(auto)]
+
 ghost use Rattle.std.specs.Prelude.{◌≡◌, [], ◌∷◌, ◌≤◌, ◌<◌, length, drop};
 ghost use Rattle.program_text.specs.Laid.{Laid};
 ghost use Rattle.program_text.specs.Text.{word, digit, hex_byte, hex, decimal};
@@ -6,7 +8,7 @@ ghost use Rattle.program_text.specs.Text.{word, digit, hex_byte, hex, decimal};
 use basics::{lesser, put_bytes};
 
 // The digits of a number: those of `bytes` from `from` on.
-#[derive(Drop)]
+#[derive(Clone, Copy)]
 struct Digits {
     bytes: [u8; 20],
     from: usize,

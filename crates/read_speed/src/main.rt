@@ -2,12 +2,15 @@
 // (`oracle/src/bin/read_speed.rs`). Standard input is the packet or the frames; the line written is how many items were
 // read and a sum over every block and every packet's set of services, so that no reading can be left out, and both
 // programs write the same.
-ghost use Rattle.std.specs.Prelude.{◌≡◌, ◌≤◌, length};
+#![tactic(auto)]
+
+ghost use Rattle.std.specs.Prelude.{◌≡◌, ◌≤◌, length, IfOk};
 
 use basics::{MOST_PACKET, wide};
-use libc::{STDIN_FILENO, STDOUT_FILENO};
 use packet::DTVCCPacket;
 use parser::{CCDataParser, Item};
+use std::io;
+use std::io::Read;
 
 // How many readings there are.
 const READINGS: usize = 1000000;
@@ -26,7 +29,7 @@ struct Totals {
 // 31 times the sum and x, without the carry.
 fn mix(sum: u64, x: u64) -> u64 {
     let most = (sum % 576460752303423488) * 32;
-    std::num::wrapping_add_u64(std::num::wrapping_sub_u64(most, sum), x)
+    most.wrapping_sub(sum).wrapping_add(x)
 }
 
 // What a block adds: its number, its first byte and its length.
@@ -86,11 +89,11 @@ fn read_frames(frames: &[u8], before: Totals) -> Totals
         let item = drawn.item;
         match item {
             Item::Pair(_) => {
-                items = std::num::wrapping_add_u64(items, 1);
+                items = items.wrapping_add(1);
             }
             Item::Packet => {
                 let packet = drawn.packet;
-                items = std::num::wrapping_add_u64(items, 1);
+                items = items.wrapping_add(1);
                 sum = with_packet(packet, sum);
             }
             Item::Nothing => {
@@ -133,19 +136,30 @@ fn read_packets(data: &mut [u8; 95000], n: usize) -> u64
 }
 
 // Writes the two totals.
-fn tell(items: u64, sum: u64) {
-    io::print_decimal(STDOUT_FILENO, items);
-    io::write_all(STDOUT_FILENO, b" ");
-    io::print_decimal(STDOUT_FILENO, sum);
-    io::write_all(STDOUT_FILENO, b"\n");
+fn tell(rt: &HostRuntime, items: u64, sum: u64) -> io::Result<()> {
+    println!(rt; "{items} {sum}")
 }
 
-fn main() {
+// Reads until `buf` is full or the input ends: how many bytes are at its front.
+fn read_full(rt: &HostRuntime, buf: &mut [u8]) -> io::Result<usize>
+    ensures { IfOk result (λ n. n ≤ length buf.new) }
+{
+    let mut done = 0;
+    while done < buf.len() {
+        let n = rt.stdin().read(&mut buf[done..])?;
+        if n == 0 {
+            return Ok(done);
+        }
+        done += n;
+    }
+    Ok(done)
+}
+
+fn main(rt: HostRuntime) -> io::Result<()> {
     let mut bytes = [0u8; 95000];
-    let n = io::read_full(STDIN_FILENO, &mut bytes);
+    let n = read_full(&rt, &mut bytes)?;
     if n <= MOST_PACKET {
-        tell(READINGS as u64, read_packets(&mut bytes, n));
-        return;
+        return tell(&rt, READINGS as u64, read_packets(&mut bytes, n));
     }
     let on = CCDataParser::new().handle_cea608();
     let parser = on.parser;
@@ -157,5 +171,5 @@ fn main() {
             parser,
         },
     );
-    tell(t.items, t.sum);
+    tell(&rt, t.items, t.sum)
 }

@@ -1,5 +1,7 @@
 // The lines of answers to a script's operations, laid into a lent buffer from a place on and as far as there is room; each function answers the
 // place behind what it laid. What a row of the table of operations is, stands in `specs/Rows.antt`.
+#![tactic(auto)]
+
 ghost use Rattle.std.specs.Prelude.{◌≡◌, ◌&&◌, [], ◌∷◌, ◌++◌, eqb};
 ghost use Rattle.model.specs.Said.{accepted};
 ghost use Rattle.caption.specs.Answers.{said_refusal, said_answer, said_counted};

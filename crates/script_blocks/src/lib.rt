@@ -1,5 +1,7 @@
 // The operations of a script, by their letters, on its block: each makes one call, lays the line that tells of it into a lent buffer from a place
 // on, and answers the place behind the line beside what the call leaves.
+#![tactic(auto)]
+
 ghost use Rattle.std.specs.Prelude.{◌≡◌};
 ghost use Rattle.model.specs.Block.{written_block};
 ghost use Rattle.caption.specs.Answers.{said_answer, said_counted, said_truth};
@@ -17,7 +19,7 @@ use script_answers::asks;
 use service::Service;
 
 // Whether an operation was run, the place behind its line, and the block.
-#[derive(Drop)]
+#[derive(Clone, Copy)]
 pub struct OnBlock {
     pub ran: bool,
     pub laid: usize,

@@ -8,7 +8,7 @@ use native.Mathlib.Omega.{arith}
 use lib.ListN.{length, get_or, take, drop}
 use lib.Seq.{take_all}
 use Rattle.model.specs.Lists.{every}
-use Rattle.model.specs.Said.{gave, says, says_with, after, checked}
+use Rattle.model.specs.Said.{gave, says, says_with, checked}
 use Rattle.model.specs.Block.{Block}
 use Rattle.model.specs.Codes.{codes_of, codes_of_each, codes_of_blocks}
 use Rattle.model.proofs.Cases.{both, given_is}
@@ -27,7 +27,7 @@ use Rattle.packet.specs.declared.DTVCCPacket.{DTVCCPacket}
 use Rattle.packet.specs.Packet.{packet_of, valid_dtvcc}
 use Rattle.codes_cuts.specs.Cuts.{how_many, cut_of}
 use Rattle.codes_cuts.proofs.Cuts.{cut_length}
-use Rattle.codes.proofs.Kept.{packet_exactly}
+use Rattle.codes.proofs.Exactly.{packet_exactly}
 use Rattle.program_text.specs.Laid.{Laid}
 use Rattle.program_text.specs.Text.{word}
 use Rattle.program_text.proofs.Layings.{laid_within, laid_append}

@@ -1,5 +1,7 @@
 // The operations of a script, by their letters, that cut payloads into codes: some bytes, or every block of the packet. Each lays the line that tells
 // of it into a lent buffer from a place on, and answers the place behind the line beside the packet, which it leaves.
+#![tactic(auto)]
+
 ghost use Rattle.std.specs.Prelude.{◌≡◌, length};
 ghost use Rattle.service.specs.Service.{block_of};
 ghost use Rattle.codes_cuts.specs.Cuts.{cut_of};

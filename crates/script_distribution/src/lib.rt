@@ -1,5 +1,7 @@
 // The operations of a script, by their letters, on its reader and its writer of distribution packets: each makes its call or sets one of the two,
 // lays the line that tells of it into a lent buffer from a place on, and answers the place behind the line beside what is left.
+#![tactic(auto)]
+
 ghost use Rattle.std.specs.Prelude.{◌≡◌};
 ghost use Rattle.model.specs.Said.{mapped, after};
 ghost use Rattle.model.specs.Distribution.{distribute};
@@ -17,14 +19,14 @@ use program_text::{put_newline, put_word};
 use script_answers::asks;
 
 // A reader and a writer of distribution packets.
-#[derive(Drop)]
+#[derive(Clone, Copy)]
 pub struct Link {
     pub reader: DistributionReader,
     pub writer: DistributionWriter,
 }
 
 // Whether an operation was run, the place behind its line, and both.
-#[derive(Drop)]
+#[derive(Clone, Copy)]
 pub struct OnLink {
     pub ran: bool,
     pub laid: usize,

@@ -1,5 +1,7 @@
 // The operations of a script: a record names one by its letter, and its argument bytes follow. Each lays its line into a lent buffer from a place
 // on; the place behind the line stands beside what the operation leaves.
+#![tactic(auto)]
+
 ghost use Rattle.std.specs.Prelude.{◌≡◌};
 ghost use Rattle.script_answers.specs.Steps.{Did};
 ghost use Rattle.script_operations.specs.Ran.{fresh_machine, with_block, with_packet, with_parser, with_writer, with_link, on_machines, ran};
@@ -16,7 +18,7 @@ use service::Service;
 use writer::CCDataWriter;
 
 // What the operations work on: a block, a packet, a demultiplexer, a multiplexer, and a reader and a writer of distribution packets.
-#[derive(Drop)]
+#[derive(Clone, Copy)]
 pub struct Machine {
     pub s: Service,
     pub p: DTVCCPacket,
@@ -26,7 +28,7 @@ pub struct Machine {
 }
 
 // The place behind the line of an operation, and what it leaves.
-#[derive(Drop)]
+#[derive(Clone, Copy)]
 pub struct Stepped {
     pub laid: usize,
     pub machine: Machine,
@@ -112,6 +114,7 @@ fn left_link(m: Machine, done: OnLink) -> Stepped
 }
 
 // An operation on one of the machines, or one that there is not.
+#[tactic(auto, unfolding(crate::specs::Ran::on_machines))]
 fn run_on_machines(out: &mut [u8], at: usize, m: Machine, op: u8, args: &[u8]) -> Stepped
     ensures { Did (on_machines m op args.now) out.old at result.laid result.machine out.new }
 {
@@ -136,6 +139,7 @@ fn run_on_machines(out: &mut [u8], at: usize, m: Machine, op: u8, args: &[u8]) -
 }
 
 // Runs one record, an operation and its argument bytes, and lays its line.
+#[tactic(auto, using(crate::proofs::Records::ran_parts))]
 pub fn run_record(out: &mut [u8], at: usize, m: Machine, record: &[u8]) -> Stepped
     ensures { Did (ran m «record».now) out.old at result.laid result.machine out.new }
 {

@@ -1,5 +1,7 @@
 // The operations of a script, by their letters, on its packet: each makes its call or calls, or sets fields, lays the line that tells of it into a lent buffer from a place
 // on, and answers the place behind the line beside what the call leaves.
+#![tactic(auto)]
+
 ghost use Rattle.std.specs.Prelude.{◌≡◌, drop};
 ghost use Rattle.model.specs.Packet.{written_packet};
 ghost use Rattle.caption.specs.Answers.{said_answer};
@@ -24,7 +26,7 @@ use script_services::{put_services_line, set_in};
 use service::Service;
 
 // Whether an operation was run, the place behind its line, and the packet.
-#[derive(Drop)]
+#[derive(Clone, Copy)]
 pub struct OnPacket {
     pub ran: bool,
     pub laid: usize,

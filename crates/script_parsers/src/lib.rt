@@ -1,5 +1,7 @@
 // The operations of a script, by their letters, on its demultiplexer: each makes one call, lays the line that tells of it into a lent buffer from
 // a place on, and answers the place behind the line beside what the call leaves.
+#![tactic(auto)]
+
 ghost use Rattle.std.specs.Prelude.{◌++◌};
 ghost use Rattle.caption.specs.Answers.{said_answer};
 ghost use Rattle.caption.specs.Pairs.{cea608_of};
@@ -21,7 +23,7 @@ use program_text::{put_newline, put_word};
 use script_answers::asks;
 
 // Whether an operation was run, the place behind its line, and the demultiplexer.
-#[derive(Drop)]
+#[derive(Clone, Copy)]
 pub struct OnParser {
     pub ran: bool,
     pub laid: usize,

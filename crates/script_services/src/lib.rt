@@ -1,4 +1,6 @@
 // The services of a packet in a script: their set as sixteen hex figures of a line, with how many they are, and a set out of eight argument bytes.
+#![tactic(auto)]
+
 ghost use Rattle.std.specs.Prelude.{◌≡◌};
 ghost use Rattle.program_text.specs.Laid.{Laid};
 ghost use Rattle.script_services.specs.Sets.{highest_bytes, set_in, set_line, told_line, services_line};

@@ -1,5 +1,7 @@
 // The operations of a script, by their letters, on its multiplexer: each makes its call (that of the switches one for each of the four), lays the
 // line that tells of it into a lent buffer from a place on, and answers the place behind the line beside what is left.
+#![tactic(auto)]
+
 ghost use Rattle.std.specs.Prelude.{◌≡◌};
 ghost use Rattle.model.specs.Said.{mapped, after};
 ghost use Rattle.caption.specs.declared.Cea608.TheVariants.{Field1, Field2};
@@ -18,7 +20,7 @@ use writer::{CCDataWriter, Micros, WriterAnswer};
 use writer_shares::Carry;
 
 // Whether an operation was run, the place behind its line, and the multiplexer.
-#[derive(Drop)]
+#[derive(Clone, Copy)]
 pub struct OnWriter {
     pub ran: bool,
     pub laid: usize,

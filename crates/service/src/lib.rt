@@ -1,4 +1,6 @@
 // A service block: its number, its payload, how it is read, written and pushed to.
+#![tactic(auto)]
+
 ghost use Rattle.std.specs.Prelude.{◌≡◌, length, cond, eqb};
 ghost use Rattle.caption.specs.Answers.{said_refusal, said_answer, said_counted, said_truth};
 ghost use Rattle.model.specs.Said.{checked, measured};
@@ -10,7 +12,7 @@ use caption::{Answer, Counted, Refusal, Truth};
 use service_headers::Head;
 
 // A block: the first `len` bytes of `payload` are its payload.
-#[derive(Drop)]
+#[derive(Clone, Copy)]
 pub struct Service {
     pub number: u8,
     pub len: usize,
@@ -18,7 +20,7 @@ pub struct Service {
 }
 
 // An answer, and the block beside it.
-#[derive(Drop)]
+#[derive(Clone, Copy)]
 pub struct ServiceAnswer {
     pub answer: Answer,
     pub service: Service,
@@ -185,6 +187,7 @@ impl Service {
     }
 
     // Whether the block breaks no limit [B1].
+    #[tactic(auto, using(crate::proofs::Services::over_number, crate::proofs::Services::over_length, crate::proofs::Services::null_valid, crate::proofs::Services::named_valid))]
     pub fn is_valid(self) -> bool
         ensures { result ≡ valid_service self }
     {

@@ -9,8 +9,6 @@ use native.Mathlib.Omega.{arith}
 use lib.Dec.{eqb, ltb}
 use lib.ListN.{length, take, drop, get_or, set, replicate, length-replicate, length-take, length-drop, drop_of_length-le, length-set}
 use lib.Seq.{sets, get_or-take, get_or-drop, set_out}
-use types.Run.{OneOf, miss}
-use denote.Enum.Declared.{tag_of}
 use borrow.Author.Tests.{eq-eqb, ne_eqb, lt-ltb, le-ltb}
 use Rattle.model.specs.Said.{refused}
 use Rattle.model.specs.Block.{Block, block_size, header_length, number_in, is_header_short, needed, is_short, short_at, read_block_at, written_header, written_block, block_length}
@@ -22,7 +20,6 @@ use Rattle.service_headers.specs.declared.Head.{Head}
 use Rattle.service_headers.specs.declared.Head.TheVariants.{Whole, HeaderShort, BodyShort}
 use Rattle.service_headers.specs.Head.{block_head, ByFirstTwo, length_for, said_short}
 use Rattle.basics.proofs.Runs.{sets_append}
-use Rattle.service_headers.specs.contracts.Head.{the_type}
 
 -- the header's own length
 pub two_bytes : (h : ℕ) → h / 32 % 8 ≡ 7 → (h % 32 ≡ 0 → ⊥) → 2 ≡ header_length h
@@ -173,9 +170,9 @@ pub record Headed (d : List ℕ) (n st sz : ℕ) : Type 0 where
   pub some : 1 ≤ st
   pub small : sz ≤ 31
 
--- what is said of a header is not that it is whole: it is one of the two other cases of `Head`
+-- what is said of a header is not that it is whole
 abbrev pub NotWhole : Head → Type 0
-NotWhole h = OneOf (1 ∷ 2 ∷ []) (tag_of the_type h)
+NotWhole h = (n st sz : ℕ) → h ≡ Whole n st sz → ⊥
 
 -- an answer that is whole came by the last way, with these values
 whole_parts : (b c : Bool) (k n st sz n' st' sz' : ℕ) → cond b (cond c (HeaderShort k) (BodyShort k)) (Whole n st sz) ≡ Whole n' st' sz'
@@ -201,7 +198,7 @@ module _ (d : List ℕ) where
     head_short =
         by_test (is_short d) (λ e. e)
         (λ e. let w : head ≡ Whole (number_in d) (header_length (get_or d 0 0)) (block_size (get_or d 0 0)) = is ∙ simp e in
-        absurd (miss (1 ∷ 2 ∷ []) 0 tt (rw w at none)))
+        absurd (none _ _ _ w))
 
     -- and says which they are, so that the reader says the same
     pub read_short : (offset : ℕ) → read_block_at offset d ≡ refused (said_short head (length d) offset)

@@ -1,4 +1,6 @@
 // The header of a block, read and written.
+#![tactic(auto)]
+
 ghost use Rattle.std.specs.Prelude.{◌≡◌, ◌%◌, length, take, drop, cond, ltb};
 ghost use Rattle.std.proofs.lemmas.List.Edits.{sets};
 ghost use Rattle.caption.specs.Answers.{said_refusal};
@@ -11,7 +13,7 @@ use caption::Refusal;
 
 // What the header of a block says: its number, where its payload starts and how long it is; or what is cut short, the header itself or the body,
 // and how many bytes are needed.
-#[derive(Drop)]
+#[derive(Clone, Copy)]
 pub enum Head {
     Whole {
         number: u8,
@@ -27,6 +29,7 @@ pub enum Head {
 }
 
 // How many bytes the header that begins with `h` has.
+#[tactic(auto, using(crate::proofs::Heads::two_bytes, crate::proofs::Heads::one_byte, crate::proofs::Heads::bare_byte))]
 fn header_length(h: u8) -> usize
     ensures { result ≡ header_length h }
 {

@@ -1,5 +1,7 @@
 // A slot: the bytes that a packet is written in, and the test whether they are that; and the same test of the slots of a multiplexer, the one
 // being sent and those that wait.
+#![tactic(auto)]
+
 ghost use Rattle.std.specs.Prelude.{◌≡◌, ◌&&◌, ◌+◌, ◌≤◌, ltb, length, get_or, take, drop};
 ghost use Rattle.model.specs.Lists.{every};
 ghost use Rattle.slots.specs.Slot.{written_slot};
@@ -14,7 +16,7 @@ const LEAST_PACKET: usize = 3;
 
 // An encoded packet in a queue: its length, and from place 0 the bytes that it is written in. In the multiplexer's queue
 // 0x00 follows them if the length is odd.
-#[derive(Drop)]
+#[derive(Clone, Copy)]
 pub struct Slot {
     pub len: usize,
     pub bytes: [u8; 128],
@@ -114,6 +116,7 @@ pub fn slots_written(sending: Slot, sent: usize, packets: [Slot; 16], count: usi
 }
 
 // Whether `sent` bytes can have left of a packet of `len`: an even number, and no more than there are.
+#[tactic(auto, unfolding(crate::specs::Steps::sends_whole))]
 fn sends_whole(len: usize, sent: usize) -> bool
     ensures { result ≡ sends_whole len sent }
 {

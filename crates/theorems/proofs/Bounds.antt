@@ -24,7 +24,6 @@ use Rattle.model_journey.proofs.Drains as drains
 use Rattle.caption.proofs.Answers.{said_counted_injective}
 use Rattle.caption.specs.declared.Counted.TheVariants as counted
 use Rattle.caption.specs.declared.Framerate.{Framerate}
-use Rattle.writer_queues.specs.Queue.{queue_of}
 use Rattle.writer_queues.proofs.Queues.{queue_length}
 use Rattle.slots.specs.Slot.{read_slot}
 use Rattle.writer.specs.Writer.{means}
@@ -34,7 +33,7 @@ use Rattle.writer.proofs.Laws.{write_given}
 use Rattle.writer.specs.declared.CCDataWriter.{CCDataWriter}
 use Rattle.writer.specs.declared.WriterCount.{WriterCount}
 use Rattle.theorems.specs.Items.{Items, no_items}
-use Rattle.theorems.specs.Allowed.{Lent, Write}
+use Rattle.theorems.specs.Allowed.{Output, Write}
 use Rattle.theorems.specs.Writing.{Calls, Reached, Stays, Drained}
 use Rattle.theorems.specs.Bounds.{queue_at, pairs_at, SendsFour, AcceptsWrite, LeavesInTime, DrainsInTime}
 use Rattle.theorems.proofs.Following.{Tests, Staying, Follows}
@@ -104,7 +103,7 @@ module _ {w : CCDataWriter} (d : Reached w) where
   places_free mode speed c set stay two i there writes = omega (arith, leaves.left_fewer (pair_leaves mode speed c set stay two i there writes))
 
   -- each accepted write sends at least four packet triples, or all that are left [J4]
-  pub sends_four : (κs : Lfts 1) (rate : Framerate) (out end : Lent) (r : WriterCount) → Write κs w rate out end r
+  pub sends_four : (κs : Lfts 1) (rate : Framerate) (out end : Output) (r : WriterCount) → Write κs w rate out end r
       → (n : ℕ) → r.answer ≡ counted.Count n → SendsFour w (take n end.now) r.writer
   sends_four κs rate out end r a n e =
       let k = wrote κs w rate out end r (holds d).sound a n e in
@@ -113,7 +112,7 @@ module _ {w : CCDataWriter} (d : Reached w) where
       rw k.bytes (record { four = rw (frame_triples f) (omega (arith, m.four)); no_other = rw (frame_triples f, k.meant) m.no_other })
 
   -- a write at an accepted rate, with room for the longest frame, is accepted
-  pub write_accepted : (κs : Lfts 1) (rate : Framerate) (out end : Lent) (r : WriterCount) → Write κs w rate out end r → AcceptsWrite w rate out.now r.answer
+  pub write_accepted : (κs : Lfts 1) (rate : Framerate) (out end : Output) (r : WriterCount) → Write κs w rate out end r → AcceptsWrite w rate out.now r.answer
   write_accepted κs rate out end r a =
       record {
         accepts = λ b given within room.

@@ -12,7 +12,7 @@ use Rattle.model.specs.Frame as model
 use Rattle.model.specs.Frame.{count_in, frame_bytes}
 use Rattle.model.specs.Demux.{take_frame}
 use Rattle.model.specs.Mux.{count_due, framed, write_frame, write_share}
-use Rattle.model.specs.Run.{Accepted, exact_count}
+use Rattle.model.specs.Run.{exact_count}
 use Rattle.model.proofs.Frames.{frame_length, frame_triples}
 use Rattle.model.proofs.MuxStates.{count_most}
 use Rattle.model_journey.specs.Trip.{OnlyFull}
@@ -36,7 +36,7 @@ use Rattle.parser.specs.Calls.{laid_after, Answers}
 use Rattle.parser.proofs.Valids.{waiting_count, valid_fine}
 use Rattle.parser.specs.declared.CCDataParser.{CCDataParser}
 use Rattle.parser.specs.declared.ParserAnswer.{ParserAnswer}
-use Rattle.theorems.specs.Allowed.{Lent, Write, Push}
+use Rattle.theorems.specs.Allowed.{Lent, Output, Write, Push}
 use Rattle.theorems.specs.Writing.{Reached}
 use Rattle.theorems.specs.Count.{TrueCount, Takes}
 use Rattle.theorems.proofs.Frames.{Wrote, wrote}
@@ -67,7 +67,7 @@ only_by p frame a within c most e o =
     said_full why y = let k = said_answer_injective (answer.Refused why) (answer.Refused Full) y in (cc)
 
 -- a write that is accepted, of a state that calls have reached, flushes among them
-module _ {w : CCDataWriter} (d : Reached w) (κs : Lfts 1) (rate : Framerate) (out end : Lent) (r : WriterCount) (a : Write κs w rate out end r) (n : ℕ) (e : r.answer ≡ counted.Count n) where
+module _ {w : CCDataWriter} (d : Reached w) (κs : Lfts 1) (rate : Framerate) (out end : Output) (r : WriterCount) (a : Write κs w rate out end r) (n : ℕ) (e : r.answer ≡ counted.Count n) where
   -- what it gives
   gives : Wrote w rate (take n end.now) r.writer
   gives = wrote κs w rate out end r (holds d).sound a n e

@@ -28,21 +28,24 @@ use Rattle.writer.specs.declared.CCDataWriter.{CCDataWriter}
 use Rattle.writer.specs.declared.WriterAnswer.{WriterAnswer}
 use Rattle.writer.specs.declared.WriterCount.{WriterCount}
 use Rattle.theorems.specs.Items.{Items, no_items, and_then, if_nonempty, one_pair}
-use Rattle.theorems.specs.Allowed.{Lent, NewWriter, Write}
+use Rattle.theorems.specs.Allowed.{Output, NewWriter, Write}
 use Rattle.theorems.specs.Writing.{if_accepted, Calls, no_call, push_packet, push_cea608, set_cea608_padding, set_padding, set_carrying, set_true_count, write, frame_in, Exact, Stays, Drained, Drains}
 use Rattle.theorems.specs.Writing as writing
 use Rattle.theorems.specs.Bounds.{unsent_of}
 use Rattle.theorems.proofs.Following.{items_same}
 use Rattle.theorems.proofs.Sequences.{from_fresh}
 use Rattle.theorems.proofs.Bounds.{given_by, writes_drain}
-use Rattle.theorems.proofs.Feedable.{lent}
 
 -- 25 frames a second
 abbrev rate : Framerate
 rate = record { numer = 25; denom = 1 }
 
+-- bytes that are lent to be written
+abbrev lent : List ℕ → Output
+lent bytes = record { ref_ptr = (0, 0); ghost_name = 0; now = bytes }
+
 -- room for the longest frame
-abbrev out : Lent
+abbrev out : Output
 out = lent (replicate most_frame 0)
 
 -- the rate is accepted in either mode
@@ -52,7 +55,7 @@ rate_given s = by_test s.carrying (λ e. rw e refl) (λ e. rw e refl)
 
 -- a write that the contract allows and that is accepted
 record Writable (κs : Lfts 1) (w : CCDataWriter) : Type 0 where
-  end : Lent
+  end : Output
   result : WriterCount
   allowed : Write κs w rate out end result
   number : ℕ

@@ -141,18 +141,18 @@ module _ (on : Bool) (pending : List ℕ) where
   empties_by : {p p' : CCDataParser} {told : List Item} {is : Items} (pairs : List Cea608) (waiting : List Packet) → Empties p told is p' → Sound p → every valid_packet waiting ≡ true
       → means p ≡ holds pairs waiting → Emptied (holds pairs waiting) (holds [] []) told is p'
   unfolding model.draw every of_field1 of_field2 others
-  empties_by {p} [] [] (nothing_left r a z) s v e =
+  empties_by {p = p} [] [] (nothing_left r a z) s v e =
       let k = drew p r (holds [] []) s e a in record { tells = ap (λ (i : Item). i ∷ []) k.item; items = rw k.item; sound = k.sound; means = k.means }
-  empties_by {p} [] [] (draw r a n c) s v e = let k = drew p r (holds [] []) s e a in absurd (n k.item)
-  empties_by {p} [] (q ∷ waiting) (nothing_left r a z) s v e = let k = drew p r (holds [] (q ∷ waiting)) s e a in absurd (packet_some (sym k.item ∙ z))
-  empties_by {p} [] (q ∷ waiting) (draw r a n c) s v e =
+  empties_by {p = p} [] [] (draw r a n c) s v e = let k = drew p r (holds [] []) s e a in absurd (n k.item)
+  empties_by {p = p} [] (q ∷ waiting) (nothing_left r a z) s v e = let k = drew p r (holds [] (q ∷ waiting)) s e a in absurd (packet_some (sym k.item ∙ z))
+  empties_by {p = p} [] (q ∷ waiting) (draw r a n c) s v e =
       let k = drew p r (holds [] (q ∷ waiting)) s e a in
       let u = both (valid_packet q) (every valid_packet waiting) v in
-      rw (k.item, k.packet) (before item.Packet (laid q) refl (rw (laid_holds q u.0)) (empties_by [] waiting c k.sound u.1 k.means))
-  empties_by {p} (x ∷ pairs) waiting (nothing_left r a z) s v e = let k = drew p r (holds (x ∷ pairs) waiting) s e a in absurd (pair_some (drawn_pair x) (sym k.item ∙ z))
-  empties_by {p} (x ∷ pairs) waiting (draw r a n c) s v e =
+      rw (k.item, k.packet) (before item.Packet (laid q) refl (rw (laid_holds q u.0)) (empties_by {p = r.parser} [] waiting c k.sound u.1 k.means))
+  empties_by {p = p} (x ∷ pairs) waiting (nothing_left r a z) s v e = let k = drew p r (holds (x ∷ pairs) waiting) s e a in absurd (pair_some (drawn_pair x) (sym k.item ∙ z))
+  empties_by {p = p} (x ∷ pairs) waiting (draw r a n c) s v e =
       let k = drew p r (holds (x ∷ pairs) waiting) s e a in
-      rw k.item (before (item.Pair (drawn_pair x)) r.packet refl (rw (pair_drawn x) (pair_first x pairs waiting)) (empties_by pairs waiting c k.sound v k.means))
+      rw k.item (before (item.Pair (drawn_pair x)) r.packet refl (rw (pair_drawn x) (pair_first x pairs waiting)) (empties_by {p = r.parser} pairs waiting c k.sound v k.means))
 
 -- from a state within the limits, by what it is in the model
 pub empties_from : {p p' : CCDataParser} {told : List Item} {is : Items} → Empties p told is p' → Sound p → (d : Demux) → means p ≡ d → every valid_packet d.waiting ≡ true

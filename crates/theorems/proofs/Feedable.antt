@@ -26,7 +26,7 @@ use Rattle.theorems.proofs.Trip.{given_fed}
 use Rattle.theorems.proofs.Emptying.{drawn_pair, item_for, item_says, drew, packet_some, pair_some}
 
 -- bytes that are lent
-abbrev pub lent : List ℕ → Lent
+abbrev lent : List ℕ → Lent
 lent bytes = record { ref_ptr = (0, 0); now = bytes }
 
 -- a draw that the contract allows: what the model draws

@@ -20,7 +20,7 @@ use Rattle.writer.proofs.Kept.{sound_ok, sound_mux}
 use Rattle.writer.specs.declared.CCDataWriter.{CCDataWriter}
 use Rattle.writer.specs.declared.WriterCount.{WriterCount}
 use Rattle.theorems.specs.Items.{Items, no_items}
-use Rattle.theorems.specs.Allowed.{Lent, Write}
+use Rattle.theorems.specs.Allowed.{Output, Write}
 use Rattle.theorems.specs.Writing.{Calls, no_call, push_packet, push_cea608, set_cea608_padding, set_padding, set_carrying, set_true_count, write, Reached, Stays, Drained}
 use Rattle.theorems.specs.Bounds.{queue_at, unsent_of, packet_triples_of, pairs_at, BeginsWith, GivenInTime}
 use Rattle.theorems.proofs.Reached.{holds}
@@ -66,12 +66,12 @@ module _ {w : CCDataWriter} (d : Reached w) where
       writes_drain d mode speed c set stay few₁ few₂ (omega (arith, unsent_few (means w) (limits d)))
 
   -- room for 95 bytes is enough, at a rate that has budgets [G2] and, in the carrying mode, is within its own limit [G6]
-  pub room_enough : (κs : Lfts 1) (rate : Framerate) (out end : Lent) (r : WriterCount) → Write κs w rate out end r → {b : Budgets} → budgets rate.numer rate.denom ≡ gave b
+  pub room_enough : (κs : Lfts 1) (rate : Framerate) (out end : Output) (r : WriterCount) → Write κs w rate out end r → {b : Budgets} → budgets rate.numer rate.denom ≡ gave b
       → (w.carrying ≡ true → 600 * rate.denom ≤ 31 * rate.numer) → 95 ≤ length out.now → (n : ℕ) × (r.answer ≡ counted.Count n)
   room_enough κs rate out end r a {b} given within room = let k = (write_accepted d κs rate out end r a).accepts b given within (omega arith) in (_, k.2)
 
   -- where four packet triples or more are left, an accepted write sends four [J4]
-  pub four_sent : (κs : Lfts 1) (rate : Framerate) (out end : Lent) (r : WriterCount) → Write κs w rate out end r → (n : ℕ) → r.answer ≡ counted.Count n
+  pub four_sent : (κs : Lfts 1) (rate : Framerate) (out end : Output) (r : WriterCount) → Write κs w rate out end r → (n : ℕ) → r.answer ≡ counted.Count n
       → 4 ≤ unsent_of w → 4 ≤ packet_triples_of (take n end.now)
   four_sent κs rate out end r a n e many = omega (arith, (sends_four d κs rate out end r a n e).four)
 

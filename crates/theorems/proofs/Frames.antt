@@ -30,7 +30,7 @@ use Rattle.writer.proofs.Kept.{Sound, moved_sound}
 use Rattle.writer.specs.declared.CCDataWriter.{CCDataWriter}
 use Rattle.writer.specs.declared.WriterCount.{WriterCount}
 use Rattle.theorems.specs.Items.{no_items}
-use Rattle.theorems.specs.Allowed.{Lent, Write}
+use Rattle.theorems.specs.Allowed.{Output, Write}
 use Rattle.theorems.specs.Writing.{frame_in, TestedAt}
 use Rattle.theorems.proofs.Passing.{passed_after}
 use Rattle.theorems.proofs.Following.{Moved, unmoved, moves}
@@ -84,7 +84,7 @@ module _ (w : CCDataWriter) (rate : Framerate) (out end : List ℕ) (r : WriterC
       (λ h e. by_test (ltb (length out) (length (frame_bytes (write_share h (means w)).frame))) (refuses_short h e) (writes_frame h e))
 
 -- by its contract
-pub write_does : (κs : Lfts 1) (w : CCDataWriter) (rate : Framerate) (out end : Lent) (r : WriterCount) → Sound w → Write κs w rate out end r → Writes w rate end.now r
+pub write_does : (κs : Lfts 1) (w : CCDataWriter) (rate : Framerate) (out end : Output) (r : WriterCount) → Sound w → Write κs w rate out end r → Writes w rate end.now r
 write_does κs w rate out end r s a = writes_by w rate out.now end.now r s a
 
 -- what a write has given that counts the bytes of a frame: its share of the rate, the frame of the model, and what that leaves
@@ -96,7 +96,7 @@ pub record Wrote (w : CCDataWriter) (rate : Framerate) (frame : List ℕ) (w' : 
   pub meant : means w' ≡ (write_share share (means w)).next
 
 -- by its contract
-pub wrote : (κs : Lfts 1) (w : CCDataWriter) (rate : Framerate) (out end : Lent) (r : WriterCount) → Sound w → Write κs w rate out end r → (n : ℕ) → r.answer ≡ counted.Count n
+pub wrote : (κs : Lfts 1) (w : CCDataWriter) (rate : Framerate) (out end : Output) (r : WriterCount) → Sound w → Write κs w rate out end r → (n : ℕ) → r.answer ≡ counted.Count n
     → Wrote w rate (take n end.now) r.writer
 wrote κs w rate out end r s a n e = by (write_does κs w rate out end r s a)
   where

@@ -8,7 +8,7 @@ use lib.ListN.{length}
 use Rattle.model.specs.Said.{Outcome, gave, checked}
 use Rattle.model.specs.Packet.{Packet}
 use Rattle.model.specs.Mux.{Mux, with_packets, push_packet, queued, most_packets}
-use Rattle.model.specs.Run.{pushes, writes, call, others}
+use Rattle.model.specs.Run.{pushes, call, others}
 use Rattle.model.proofs.Cases.{by_test, gives_at}
 use Rattle.model.proofs.Packets.{Valid, facts_valid}
 use Rattle.model_journey.proofs.Calls.{quiet_push}

@@ -7,7 +7,7 @@ use lib.ListN.{length}
 use Rattle.model.specs.Said.{gave, refused, after, checked, full}
 use Rattle.model.specs.Frame.{Cea608, field1, field2}
 use Rattle.model.specs.Mux.{Mux, is_null, with_queues, push_pair, push_cea608, queued, most_queued}
-use Rattle.model.specs.Run.{pushes608, writes, call, others}
+use Rattle.model.specs.Run.{pushes608, call, others}
 use Rattle.model.proofs.Cases.{by_test, gives_at}
 use Rattle.model_journey.proofs.Calls.{quiet_608}
 use Rattle.caption.specs.Pairs.{cea608_of}

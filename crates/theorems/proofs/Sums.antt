@@ -17,7 +17,7 @@ use Rattle.writer.specs.declared.CCDataWriter.{CCDataWriter}
 use Rattle.writer.specs.declared.WriterAnswer.{WriterAnswer}
 use Rattle.writer.specs.declared.WriterCount.{WriterCount}
 use Rattle.theorems.specs.Items.{Items}
-use Rattle.theorems.specs.Allowed.{Lent, SetCarrying, Flush, Write}
+use Rattle.theorems.specs.Allowed.{Output, SetCarrying, Flush, Write}
 use Rattle.theorems.specs.Writing.{Calls, Reached, Tested, Stays}
 use Rattle.theorems.specs.Sums.{StartsAfresh, NothingCarried, AddsUp}
 use Rattle.theorems.proofs.Frames.{Wrote, wrote}
@@ -72,6 +72,6 @@ module _ {w : CCDataWriter} (d : Reached w) where
       (ap (λ (s : Mux). s.carrying) g, ap (λ (s : Mux). s.carry) g)
 
   -- an accepted write in the mode keeps its numer and denom, so that at another rate a sum starts afresh (`other_numer`, `other_denom`)
-  pub write_keeps : (κs : Lfts 1) (speed : Framerate) (out end : Lent) (r : WriterCount) → Write κs w speed out end r → w.carrying ≡ true → (n : ℕ) → r.answer ≡ counted.Count n
+  pub write_keeps : (κs : Lfts 1) (speed : Framerate) (out end : Output) (r : WriterCount) → Write κs w speed out end r → w.carrying ≡ true → (n : ℕ) → r.answer ≡ counted.Count n
       → (r.writer.carry.numer ≡ speed.numer) × (r.writer.carry.denom ≡ speed.denom)
   write_keeps κs speed out end r a on n e = kept_by on (wrote κs w speed out end r (holds d).sound a n e)

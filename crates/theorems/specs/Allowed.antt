@@ -2,7 +2,7 @@
 -- reads it, at the arguments of one call, its result and the parameters at exit. Assumes nothing.
 use Rattle.std.specs.Prelude.{Bool, List, ℕ}
 use contract.Lifetimes.{Lfts}
-use Rattle.std.specs.Borrow.{Bor}
+use Rattle.std.specs.Borrow.{Bor, MutBor}
 use Rattle.caption.specs.declared.Cea608.{Cea608}
 use Rattle.caption.specs.declared.Framerate.{Framerate}
 use Rattle.packet.specs.declared.DTVCCPacket.{DTVCCPacket}
@@ -29,6 +29,10 @@ use Rattle.parser.proofs.CCDataParser.draw.Reads as draw
 -- bytes that a caller lends: those that stand there are `now` of it
 abbrev pub Lent : Type 0
 Lent = Bor (List ℕ)
+
+-- bytes that a caller lends to be written
+abbrev pub Output : Type 0
+Output = MutBor (List ℕ)
 
 -- `CCDataWriter::new()`
 abbrev pub NewWriter : CCDataWriter → Type 0
@@ -63,7 +67,7 @@ abbrev pub Flush : CCDataWriter → WriterAnswer → Type 0
 Flush w r = flush.Post (tt {0}) (w, tt) r (w, tt)
 
 -- `w.write(rate, &mut out)`, where `out` is as it was lent and `end` as it is at exit
-abbrev pub Write : Lfts 1 → CCDataWriter → Framerate → Lent → Lent → WriterCount → Type 0
+abbrev pub Write : Lfts 1 → CCDataWriter → Framerate → Output → Output → WriterCount → Type 0
 Write κs w rate out end r = write.Post κs (w, (rate, (out, tt))) r (w, (rate, (end, tt)))
 
 -- `CCDataParser::new()`

@@ -18,7 +18,7 @@ use Rattle.writer.specs.declared.CCDataWriter.{CCDataWriter}
 use Rattle.writer.specs.declared.WriterAnswer.{WriterAnswer}
 use Rattle.writer.specs.declared.WriterCount.{WriterCount}
 use Rattle.theorems.specs.Items.{Items, no_items, and_then, if_nonempty, one_pair}
-use Rattle.theorems.specs.Allowed.{Lent, NewWriter, PushPacket, PushCea608, SetCea608Padding, SetPadding, SetCarrying, SetTrueCount, Flush, Write}
+use Rattle.theorems.specs.Allowed.{Output, NewWriter, PushPacket, PushCea608, SetCea608Padding, SetPadding, SetCarrying, SetTrueCount, Flush, Write}
 
 -- the arrays of a packet have the places that their types give them
 pub record Typed (d : DTVCCPacket) : Type 0 where
@@ -53,7 +53,7 @@ pub data Calls : CCDataWriter → List (List ℕ) → Items → CCDataWriter →
       → Calls r.writer fs is w' → Calls w fs is w'
   set_true_count : {w w' : CCDataWriter} {fs : List (List ℕ)} {is : Items} (on : Bool) (r : WriterAnswer) → SetTrueCount w on r
       → Calls r.writer fs is w' → Calls w fs is w'
-  write : {w w' : CCDataWriter} {fs : List (List ℕ)} {is : Items} (κs : Lfts 1) (rate : Framerate) (out end : Lent) (r : WriterCount) → Write κs w rate out end r
+  write : {w w' : CCDataWriter} {fs : List (List ℕ)} {is : Items} (κs : Lfts 1) (rate : Framerate) (out end : Output) (r : WriterCount) → Write κs w rate out end r
       → Calls r.writer fs is w' → Calls w (frame_in r.answer end.now ++ fs) is w'
 
 -- a state that any calls have reached, flushes among them

@@ -3,11 +3,16 @@
 // have to be worked out in each write. A pair of each field goes in before each frame, and a packet of 40 bytes before nine frames of ten: as much as
 // the frames carry away. The line written is how many bytes the frames have and a sum over each of them, so that no writing can be left out, and both
 // programs write the same.
+#![tactic(auto)]
+
+ghost use Rattle.std.specs.Prelude.{◌≤◌, length, IfOk};
+
 use basics::MOST_FRAME;
 use caption::{Cea608, Counted, Framerate};
-use libc::{STDIN_FILENO, STDOUT_FILENO};
 use packet::DTVCCPacket;
 use service::Service;
+use std::io;
+use std::io::Read;
 use writer::CCDataWriter;
 
 // The pairs of a thousand frames.
@@ -28,7 +33,7 @@ fn wide(b: u8) -> u64 {
 // 31 times the sum and x, without the carry.
 fn mix(sum: u64, x: u64) -> u64 {
     let most = (sum % 576460752303423488) * 32;
-    std::num::wrapping_add_u64(std::num::wrapping_sub_u64(most, sum), x)
+    most.wrapping_sub(sum).wrapping_add(x)
 }
 
 // The totals with a frame of n bytes.
@@ -38,7 +43,7 @@ fn with_bytes(t: Totals, frame: &[u8; 95], n: usize) -> Totals {
     while i < MOST_FRAME {
         if n <= i {
             return Totals {
-                bytes: std::num::wrapping_add_u64(t.bytes, n as u64),
+                bytes: t.bytes.wrapping_add(n as u64),
                 sum,
             };
         }
@@ -46,7 +51,7 @@ fn with_bytes(t: Totals, frame: &[u8; 95], n: usize) -> Totals {
         i += 1;
     }
     Totals {
-        bytes: std::num::wrapping_add_u64(t.bytes, n as u64),
+        bytes: t.bytes.wrapping_add(n as u64),
         sum,
     }
 }
@@ -141,9 +146,24 @@ fn write_frames(
     t
 }
 
-fn main() {
-    let mut input = io::buffer();
-    let asked = io::read_full(STDIN_FILENO, &mut input);
+// Reads until `buf` is full or the input ends: how many bytes are at its front.
+fn read_full(rt: &HostRuntime, buf: &mut [u8]) -> io::Result<usize>
+    ensures { IfOk result (λ n. n ≤ length buf.new) }
+{
+    let mut done = 0;
+    while done < buf.len() {
+        let n = rt.stdin().read(&mut buf[done..])?;
+        if n == 0 {
+            return Ok(done);
+        }
+        done += n;
+    }
+    Ok(done)
+}
+
+fn main(rt: HostRuntime) -> io::Result<()> {
+    let mut input = [0u8; 4096];
+    let asked = read_full(&rt, &mut input)?;
     let block1 = block(1);
     let block2 = block(2);
     let block3 = block(3);
@@ -158,8 +178,5 @@ fn main() {
         PAIRS * asked,
         &mut frame,
     );
-    io::print_decimal(STDOUT_FILENO, t.bytes);
-    io::write_all(STDOUT_FILENO, b" ");
-    io::print_decimal(STDOUT_FILENO, t.sum);
-    io::write_all(STDOUT_FILENO, b"\n");
+    println!(rt; "{} {}", t.bytes, t.sum)
 }

@@ -32,7 +32,6 @@ use Rattle.writer.specs.Writer.{means, valid_writer, stored, emptied}
 use Rattle.writer.specs.Calls.{Answers, written, Writes}
 use Rattle.writer.specs.Making.{joined, source_of, built_from, switched, with_fields, pair_outcome, Makes}
 use Rattle.writer_queues.proofs.Queues.{Sized, queue_length}
-use Rattle.writer_frames.specs.declared.Frame.{Frame}
 use Rattle.writer_queues.specs.declared.PairQueue.{PairQueue}
 use Rattle.caption.specs.declared.Counted.TheVariants as counted
 use Rattle.writer_shares.specs.Share.{carry_of, carry_in, outcome_of}

@@ -1,4 +1,6 @@
 // The multiplexer: packets and CEA-608 pairs in, frames of `cc_data` out.
+#![tactic(auto)]
+
 ghost use Rattle.std.specs.Prelude.{◌≡◌, cond, ◌&&◌};
 ghost use Rattle.model.specs.Said.{gave, measured, checked};
 ghost use Rattle.model.specs.Mux.{fresh_mux, with_pads, with_mode, with_true_count, flush_mux, push_packet, push_cea608};
@@ -22,7 +24,7 @@ use writer_storing::place;
 
 // The multiplexer: the two paddings, the queue of packets, the packet being sent and how many of its bytes have left, each field's queue, whether
 // field 2 has the next turn, the true count, and the carrying mode with the carried parts.
-#[derive(Drop)]
+#[derive(Clone, Copy)]
 pub struct CCDataWriter {
     pub output_cea608_padding: bool,
     pub output_padding: bool,
@@ -39,28 +41,28 @@ pub struct CCDataWriter {
 }
 
 // What a call answers, and the state after it.
-#[derive(Drop)]
+#[derive(Clone, Copy)]
 pub struct WriterAnswer {
     pub answer: Answer,
     pub writer: CCDataWriter,
 }
 
 // What writing a frame answers, with the length of the frame, and the state after it.
-#[derive(Drop)]
+#[derive(Clone, Copy)]
 pub struct WriterCount {
     pub answer: Counted,
     pub writer: CCDataWriter,
 }
 
 // A time in microseconds.
-#[derive(Drop)]
+#[derive(Clone, Copy)]
 pub enum Micros {
     Of(u64),
     Refused(Refusal),
 }
 
 // What pushing a pair answers, and the queues after it.
-#[derive(Drop)]
+#[derive(Clone, Copy)]
 struct Pushed {
     answer: Answer,
     field1: PairQueue,

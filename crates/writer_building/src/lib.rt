@@ -1,4 +1,6 @@
 // A frame put together: the turns of the two fields, packet triples and padding; and what they leave.
+#![tactic(auto)]
+
 ghost use Rattle.std.specs.Prelude.{◌≡◌, cond, false, max};
 ghost use Rattle.caption.specs.declared.Refusal.TheVariants.{BadValue};
 ghost use Rattle.writer_building.specs.Building.{turns_of, sent_of, counted_of, made_of, built_by, unmade_of, made_at};
@@ -14,7 +16,7 @@ use writer_turns::Turns;
 
 // What a frame is made of beside the slots: the two paddings, the true count, the carried parts, the queues of pairs and whose turn is next, how many
 // packets wait, and the packet being sent with how many of its bytes have left.
-#[derive(Drop)]
+#[derive(Clone, Copy)]
 pub struct Source {
     pub pad: bool,
     pub padding: bool,
@@ -30,7 +32,7 @@ pub struct Source {
 
 // What writing a frame answers, the frame, and what it leaves of the state: the carried parts, each field's queue, whose turn is next, the packet
 // being sent and how many of its bytes have left; `next` packets of the queue were begun.
-#[derive(Drop)]
+#[derive(Clone, Copy)]
 pub struct Made {
     pub answer: Counted,
     pub frame: Frame,

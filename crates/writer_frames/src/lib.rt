@@ -1,4 +1,6 @@
 // A frame under construction: its first bytes, triples of pairs and packets, padding, and the copy into a lent output.
+#![tactic(auto)]
+
 ghost use Rattle.std.specs.Prelude.{◌≡◌, cond, ◌&&◌, [], ◌∷◌, ◌+◌, ◌*◌, ◌-◌, ◌%◌, ◌≤◌, leb, get_or};
 ghost use Rattle.std.proofs.lemmas.List.Edits.{sets};
 ghost use Rattle.model.specs.Frame.{flat, most_frame};
@@ -7,7 +9,7 @@ ghost use Rattle.writer_frames.specs.Frame.{headed, appended, mark, triples_at, 
 use basics::{MOST_FRAME, MOST_PACKET, MOST_TRIPLES};
 
 // A frame: its first `len` bytes are there.
-#[derive(Drop)]
+#[derive(Clone, Copy)]
 pub struct Frame {
     pub bytes: [u8; 95],
     pub len: usize,

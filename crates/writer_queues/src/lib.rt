@@ -1,4 +1,6 @@
 // The queue of a field's pairs: pushed to, counted down as pairs leave, measured.
+#![tactic(auto)]
+
 ghost use Rattle.std.specs.Prelude.{◌≡◌, min};
 ghost use Rattle.model.specs.Said.{says, after, mapped};
 ghost use Rattle.model.specs.Frame.{pair};
@@ -11,14 +13,14 @@ use basics::{MOST_QUEUED, lesser, put_bytes};
 use caption::{Answer, Refusal};
 
 // A field's queue: 64 places of two bytes, of which `count` are taken. The first leaves next.
-#[derive(Drop)]
+#[derive(Clone, Copy)]
 pub struct PairQueue {
     pub bytes: [u8; 128],
     pub count: usize,
 }
 
 // What a push answers, and the queue after it.
-#[derive(Drop)]
+#[derive(Clone, Copy)]
 pub struct QueuePush {
     pub answer: Answer,
     pub queue: PairQueue,

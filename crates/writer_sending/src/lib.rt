@@ -1,4 +1,6 @@
 // The packet triples of a frame, slot by slot: how many are due, and those that leave. Slots are taken as they are: what they hold is not looked at.
+#![tactic(auto)]
+
 ghost use Rattle.std.specs.Prelude.{◌≡◌, ◌+◌, ◌-◌, ◌*◌, ◌≤◌, min, max, take, drop};
 ghost use Rattle.std.proofs.lemmas.List.Edits.{sets};
 ghost use Rattle.model.specs.Duration.{bytes_duration};
@@ -10,7 +12,7 @@ use slots::Slot;
 use writer_frames::Frame;
 
 // Where sending stands: the packet being sent and how many of its bytes have left, how many packets of the queue were begun, and the frame.
-#[derive(Drop)]
+#[derive(Clone, Copy)]
 pub struct Sending {
     pub slot: Slot,
     pub sent: usize,

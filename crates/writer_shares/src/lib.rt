@@ -1,4 +1,6 @@
 // What a frame gets of a rate: its budgets, rounded or carried from frame to frame, and the parts that are carried on.
+#![tactic(auto)]
+
 ghost use Rattle.std.specs.Prelude.{◌≡◌, true, ◌<◌};
 ghost use Rattle.model.specs.Said.{checked};
 ghost use Rattle.model.specs.Rate.{valid_carry, going_on, carried_at, share_by};
@@ -8,7 +10,7 @@ use basics::{MOST_TRIPLES, PAIRS_A_SECOND, TRIPLES_A_SECOND, cut};
 use caption::{Budgets, Framerate, Refusal};
 
 // The carried parts: the rate of the running sum, and what the sum has left over of the pairs and of the triples, in parts of `numer`.
-#[derive(Drop)]
+#[derive(Clone, Copy)]
 pub struct Carry {
     pub numer: u32,
     pub denom: u32,
@@ -17,7 +19,7 @@ pub struct Carry {
 }
 
 // What a frame gets of a rate: its budgets, and the parts that are kept.
-#[derive(Drop)]
+#[derive(Clone, Copy)]
 pub enum Share {
     Of {
         pairs: usize,

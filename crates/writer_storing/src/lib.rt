@@ -1,4 +1,6 @@
 // A packet pushed to a multiplexer: what is answered, and the slot that it is written into.
+#![tactic(auto)]
+
 ghost use Rattle.std.specs.Prelude.{◌≡◌};
 ghost use Rattle.writer_storing.specs.Placing.{unplaced_as, placing};
 
@@ -8,7 +10,7 @@ use packet::DTVCCPacket;
 use slots::Slot;
 
 // What pushing a packet answers, and whether it is stored, in which slot.
-#[derive(Drop)]
+#[derive(Clone, Copy)]
 pub struct Placed {
     pub answer: Answer,
     pub stored: bool,

@@ -1,4 +1,6 @@
 // The 608 part of a frame: the turns that the two fields take.
+#![tactic(auto)]
+
 ghost use Rattle.std.specs.Prelude.{◌≡◌, cond, not, ◌+◌, ◌*◌, ◌/◌, ◌≤◌, length};
 ghost use Rattle.model.specs.Frame.{most_frame};
 ghost use Rattle.model.specs.Mux.{turn1, turn2};
@@ -11,7 +13,7 @@ use writer_frames::{Frame, put};
 use writer_queues::PairQueue;
 
 // What the fields have queued, whose turn is next, and the frame that the turns go into.
-#[derive(Drop)]
+#[derive(Clone, Copy)]
 pub struct Turns {
     pub field1: PairQueue,
     pub field2: PairQueue,
@@ -63,7 +65,7 @@ impl Turns {
 }
 
 // What turns leave: how many pairs of each queue, whether field 2 has the next turn, and how many bytes the frame then has.
-#[derive(Drop)]
+#[derive(Clone, Copy)]
 struct Course {
     pub left1: usize,
     pub left2: usize,

@@ -1,0 +1,11 @@
+use Rattle.std.proofs.Common.{◌≡◌, true, false}
+use Rattle.program_streams.specs.Walk.{ToldSoFar}
+use Rattle.ccscript.specs.Walk.{mark, tell, fresh_state}
+use Rattle.ccscript.proofs.run.Given as goal
+
+-- more is to be read, and what was read so far is told
+abbrev pub invariant-loop-turns : goal.invariant-loop-turns
+invariant-loop-turns l = (l.s.held.going ≡ true) × ToldSoFar mark tell false fresh_state.machine l.buf l.s.held l.s.machine
+
+abbrev pub decreases-loop-turns : goal.decreases-loop-turns
+decreases-loop-turns l = l.turns

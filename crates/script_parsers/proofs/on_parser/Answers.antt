@@ -1,0 +1,26 @@
+-- Down the rows, to the one that is asked for or to those behind them. Assumes nothing.
+use Rattle.script_answers.proofs.Rows.{passes, finds}
+use Rattle.script_answers.proofs.Steps.{did_as}
+use Rattle.script_parsers.specs.Parsers.{parser_rows}
+use borrow.Author.Rules.{rules}
+use Rattle.script_parsers.proofs.on_parser.Goals as goal
+
+pub returns-then-asks : goal.returns-then-asks
+unfolding parser_rows
+returns-then-asks c = search (rules, passes, finds)
+
+pub returns-then-asks-2 : goal.returns-then-asks-2
+unfolding parser_rows
+returns-then-asks-2 c = search (rules, passes, finds, did_as) depth 9
+
+pub returns-then-asks-3 : goal.returns-then-asks-3
+unfolding parser_rows
+returns-then-asks-3 c = search (rules, passes, finds, did_as) depth 9
+
+pub returns-then-asks-4 : goal.returns-then-asks-4
+unfolding parser_rows
+returns-then-asks-4 c = search (rules, passes, finds)
+
+pub returns : goal.returns
+unfolding parser_rows
+returns c = search (rules, passes)

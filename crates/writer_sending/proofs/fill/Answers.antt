@@ -1,0 +1,11 @@
+-- `writer_sending::fill` meets its contract. Assumes nothing.
+use Rattle.writer_sending.specs.Slots.{filled}
+use Rattle.writer_sending.proofs.fill.Goals as goal
+
+pub returns-then-padding : goal.returns-then-padding
+unfolding filled
+returns-then-padding c = rw (c.pad-whole.ensures, c.lacking.ensures, c.rest-s.ensures, c.send.ensures, c.lacking-left.ensures, c.if-padding.true)
+
+pub returns : goal.returns
+unfolding filled
+returns c = rw (c.rest-s.ensures, c.send.ensures, c.lacking-left.ensures, c.if-padding.false)
