@@ -37,6 +37,7 @@ fn send(rt: &HostRuntime, text: &[u8], buf: &[u8], s: Reading) -> io::Result<()>
 fn tell(rt: &HostRuntime, buf: &[u8], out: &mut [u8], s: Reading) -> io::Result<()>
     requires buf_len { length buf.now ≡ most_kept }
     requires in_bounds { 8192 ≤ length out.old }
+    ensures err { OnErr result (length out.new ≡ length out.old) }
 {
     let end = ccpack_report::put_job(out, 0, part(buf, 0, s.have), s.over);
     send(rt, part(out, 0, end), buf, s)

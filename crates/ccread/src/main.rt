@@ -110,7 +110,8 @@ fn tell_all(
     s: State,
 ) -> io::Result<Stand>
     requires { 32768 ≤ length out.old }
-    ensures { IfOk result (λ to. silent (told mark tell ended buf.now s.held.passed s.held.records s.capture) ≡ done_at buf.now to.ahead to.capture) }
+    ensures ok { IfOk result (λ to. silent (told mark tell ended buf.now s.held.passed s.held.records s.capture) ≡ done_at buf.now to.ahead to.capture) }
+    ensures err { OnErr result (length out.new ≡ length out.old) }
 {
     let capture = s.capture;
     let mut to = Stand {

@@ -109,7 +109,8 @@ fn tell_all(
     s: State,
 ) -> io::Result<Stand>
     requires { 600 ≤ length out.old }
-    ensures { IfOk result (λ to. silent (told mark tell ended buf.now s.held.passed s.held.records s.machine) ≡ done_at buf.now to.ahead to.machine) }
+    ensures ok { IfOk result (λ to. silent (told mark tell ended buf.now s.held.passed s.held.records s.machine) ≡ done_at buf.now to.ahead to.machine) }
+    ensures err { OnErr result (length out.new ≡ length out.old) }
 {
     let machine = s.machine;
     let mut to = Stand {

@@ -4,7 +4,7 @@
 // programs write the same.
 #![tactic(auto)]
 
-ghost use Rattle.std.specs.Prelude.{◌≡◌, ◌≤◌, length, IfOk};
+ghost use Rattle.std.specs.Prelude.{◌≡◌, ◌≤◌, length, IfOk, OnErr};
 
 use basics::{MOST_PACKET, wide};
 use packet::DTVCCPacket;
@@ -142,7 +142,8 @@ fn tell(rt: &HostRuntime, items: u64, sum: u64) -> io::Result<()> {
 
 // Reads until `buf` is full or the input ends: how many bytes are at its front.
 fn read_full(rt: &HostRuntime, buf: &mut [u8]) -> io::Result<usize>
-    ensures { IfOk result (λ n. n ≤ length buf.new) }
+    ensures ok { IfOk result (λ n. n ≤ length buf.new) }
+    ensures err { OnErr result (length buf.new ≡ length buf.old) }
 {
     let mut done = 0;
     while done < buf.len() {

@@ -5,7 +5,7 @@
 // programs write the same.
 #![tactic(auto)]
 
-ghost use Rattle.std.specs.Prelude.{◌≤◌, length, IfOk};
+ghost use Rattle.std.specs.Prelude.{◌≡◌, ◌≤◌, length, IfOk, OnErr};
 
 use basics::MOST_FRAME;
 use caption::{Cea608, Counted, Framerate};
@@ -148,7 +148,8 @@ fn write_frames(
 
 // Reads until `buf` is full or the input ends: how many bytes are at its front.
 fn read_full(rt: &HostRuntime, buf: &mut [u8]) -> io::Result<usize>
-    ensures { IfOk result (λ n. n ≤ length buf.new) }
+    ensures ok { IfOk result (λ n. n ≤ length buf.new) }
+    ensures err { OnErr result (length buf.new ≡ length buf.old) }
 {
     let mut done = 0;
     while done < buf.len() {

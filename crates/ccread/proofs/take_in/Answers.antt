@@ -5,4 +5,4 @@ use Rattle.ccread.proofs.take_in.Goals as goal
 pub returns-clause-ok : goal.returns-clause-ok
 returns-clause-ok c =
     let k = c.keep.ensures in
-    moved_kept c.args.buf.now c.args.more c.in_ok-to.to.ahead (rw c.part.ensures at c.in_ok-to.ensures) k.moved k.value
+    moved_kept c.args.buf.now c.args.more c.in_ok-to.to.ahead (rw c.part.ensures at c.in_ok-to.ensures.ok) k.moved k.value

@@ -17,5 +17,5 @@ pub loop-to-preserved : goal.loop-to-preserved
 loop-to-preserved c =
     next_piece c.loop-to.to.ahead.full _ _ c.loop-to.invariant c.loop-to-test.true (ap silent c.drain-to.ensures.from_value)
 
-pub returns : goal.returns
-returns c = last_piece c.loop-to.to.ahead.full _ _ (rw c.front.ensures at c.loop-to.invariant) c.loop-to-test.false
+pub returns-clause-ok : goal.returns-clause-ok
+returns-clause-ok c = last_piece c.loop-to.to.ahead.full _ _ (rw c.front.ensures at c.loop-to.invariant) c.loop-to-test.false
