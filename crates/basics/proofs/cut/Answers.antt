@@ -1,3 +1,4 @@
+-- `basics::cut` meets its contract: 31 steps at the most are cut off, and with each take about half as many are still to come. Assumes nothing.
 use native.Mathlib.Omega.{arith}
 use borrow.Author.Rules.{rules}
 use Rattle.basics.proofs.Cuts.{Cutting, begun, goes, ended}

@@ -1,3 +1,5 @@
+-- `basics::put_bytes` meets its contract. The invariant: the first `i` bytes of the run are laid, and as many bytes are due as there is room for or the
+-- run has. The measure is the bytes still due. Assumes nothing.
 use mathlib.Core.Path.{◌≡◌, refl}
 use Prim.Native.Nat.{◌≤◌, ◌<◌, ◌-◌, min}
 use native.Mathlib.Omega.{arith}
