@@ -1,13 +1,13 @@
 -- Runs of bytes laid into a list, one behind another and past its end. Assumes nothing.
 use mathlib.Core.Path.{◌≡◌, refl, sym, ap, ◌∙◌}
-use mathlib.Core.List.{List, [], ◌∷◌, ◌++◌, append-nil}
+use mathlib.Core.List.{List, [], ◌∷◌, ◌++◌, append-nil, append_assoc}
 use Prim.Native.Nat.{ℕ, suc, ◌+◌, ◌-◌, ◌≤◌, ◌<◌, min}
 use native.Mathlib.Nat.{add-zero, zero-add}
 use native.Mathlib.Numerals.{add-one}
 use native.Mathlib.Omega.{arith}
 use lib.Dec.{leb}
 use lib.ListN.{length, take, drop, get_or, set, take-append-drop, drop_of_length-le}
-use lib.Seq.{sets, length-sets, sets-eq, set_out, take-suc, length-take-le}
+use lib.Seq.{sets, length-sets, sets-eq, set_out, take-suc, length-take-le, drop-drop}
 use borrow.Author.Tests.{leb-true, leb-false}
 use Rattle.model.proofs.Cases.{by_test}
 
@@ -58,3 +58,8 @@ module _ (l src : List ℕ) (at : ℕ) where
     where
       sets_whole : (k : ℕ) → drop k src ≡ [] → src ≡ take k src
       sets_whole k z = sym (take-append-drop k src) ∙ rw z (append-nil (take k src))
+
+-- a part overwritten whole, as `copy_from_slice` leaves it, is a run laid there
+pub part_laid : (l now src : List ℕ) (at k : ℕ) → now ≡ src → k ≡ length src → at + length src ≤ length l
+    → take at l ++ (now ++ drop k (drop at l)) ≡ sets l at src
+part_laid l now src at k e f h = rw (e, f, drop-drop (length src) at l) (sym (sets-eq src l at h ∙ append_assoc (take at l) src (drop (at + length src) l)))

@@ -1,8 +1,7 @@
-// What every part shares: the numbers of the rule book, the lesser of two counts, a sum cut into steps, a byte as a number, and bytes laid into a
-// buffer.
+// What every part shares: the numbers of the rule book, a sum cut into steps, and bytes laid into a buffer.
 #![tactic(auto)]
 
-ghost use Rattle.std.specs.Prelude.{◌≡◌, cond, ◌+◌, ◌*◌, ◌≤◌, min, leb};
+ghost use Rattle.std.specs.Prelude.{◌≡◌, cond, ◌+◌, ◌*◌, ◌≤◌, leb};
 ghost use Rattle.std.proofs.lemmas.List.Edits.{sets};
 ghost use Rattle.basics.specs.Cut.{cut_of};
 
@@ -38,16 +37,6 @@ pub const MOST_PACKETS: usize = 16;
 
 // The most pairs of a field that wait to be sent.
 pub const MOST_QUEUED: usize = 64;
-
-// The lesser of two counts.
-pub fn lesser(a: usize, b: usize) -> usize
-    ensures { result ≡ min a b }
-{
-    if a < b {
-        return a;
-    }
-    b
-}
 
 // A sum in steps: how many whole ones there are, and what is left over.
 #[derive(Clone, Copy)]
@@ -88,13 +77,6 @@ impl Steps {
     }
 }
 
-// A byte as a number.
-pub fn wide(b: u8) -> usize
-    ensures { (result ≡ b) × (result ≤ 255) }
-{
-    b as usize
-}
-
 // Lays `src` into `dst`, from `at` on, as far as there is room.
 pub fn put_bytes(dst: &mut [u8], at: usize, src: &[u8])
     ensures { dst.new ≡ sets dst.old at src.now }
@@ -103,10 +85,6 @@ pub fn put_bytes(dst: &mut [u8], at: usize, src: &[u8])
     if n <= at {
         return;
     }
-    let count = lesser(n - at, src.len());
-    let mut i = 0;
-    while i < count {
-        dst[at + i] = src[i];
-        i += 1;
-    }
+    let count = src.len().min(n - at);
+    dst[at..at + count].copy_from_slice(&src[..count]);
 }

@@ -6,8 +6,7 @@
 
 ghost use Rattle.std.specs.Prelude.{◌≡◌, ◌≤◌, length, IfOk, OnErr};
 
-use basics::wide;
-use caption::{Budgets, Framerate};
+use caption::{Budgets, Framerate, Refusal};
 use std::io;
 use std::io::Read;
 
@@ -15,7 +14,7 @@ use std::io::Read;
 const TIMES: usize = 100000;
 
 // What was found so far, and the budgets found last.
-#[derive(Drop)]
+#[derive(Clone, Copy, Default)]
 struct Totals {
     accepted: u64,
     pairs: u64,
@@ -23,66 +22,41 @@ struct Totals {
     last: usize,
 }
 
-// The number of four bytes.
-fn number(a: u8, b: u8, c: u8, d: u8) -> usize {
-    (wide(a) * 256 + wide(b)) * 65536 + wide(c) * 256 + wide(d)
-}
-
 // The lower 32 bits of a sum.
-fn moved(n: usize, by: usize) -> u32 {
-    (n.wrapping_add(by) % 4294967296) as u32
+fn moved(n: u32, by: usize) -> u32 {
+    n.wrapping_add((by % 4294967296) as u32)
 }
 
-// The totals with the budgets of a rate; a refused one adds nothing.
-fn with_budgets(t: Totals, found: Budgets) -> Totals {
-    match found {
-        Budgets::Of { pairs, triples } => Totals {
-            accepted: t.accepted.wrapping_add(1),
-            pairs: t.pairs.wrapping_add(pairs as u64),
-            triples: t.triples.wrapping_add(triples as u64),
-            last: pairs.wrapping_add(triples),
-        },
-        Budgets::BadRate => Totals {
-            accepted: t.accepted,
-            pairs: t.pairs,
-            triples: t.triples,
-            last: 0,
-        },
+impl Totals {
+    // Adds the budgets of a rate; a refused one adds nothing.
+    fn add(&mut self, found: Result<Budgets, Refusal>) {
+        self.last = 0;
+        if let Ok(Budgets { pairs, triples }) = found {
+            self.accepted = self.accepted.wrapping_add(1);
+            self.pairs = self.pairs.wrapping_add(pairs as u64);
+            self.triples = self.triples.wrapping_add(triples as u64);
+            self.last = pairs.wrapping_add(triples);
+        }
     }
-}
 
-// The totals with a rate, asked again and again.
-fn with_rate(start: Totals, numer: usize, denom: usize) -> Totals {
-    let mut t = start;
-    let mut i: usize = 0;
-    while i < TIMES {
-        let rate = Framerate::new(moved(numer, t.last), moved(denom, t.last));
-        t = with_budgets(t, rate.budgets());
-        i += 1;
+    // Adds a rate, asked again and again.
+    fn ask(&mut self, numer: u32, denom: u32) {
+        for _ in 0..TIMES {
+            let rate = Framerate::new(moved(numer, self.last), moved(denom, self.last));
+            self.add(rate.budgets());
+        }
     }
-    t
 }
 
 // The totals of every rate of the input.
-fn with_rates(input: &[u8; 4096], len: usize) -> Totals {
-    let mut t = Totals {
-        accepted: 0,
-        pairs: 0,
-        triples: 0,
-        last: 0,
-    };
-    let mut i: usize = 0;
-    while i < 512 {
-        let at = 8 * i;
-        if len < at + 8 {
-            return t;
-        }
-        let numer = number(input[at], input[at + 1], input[at + 2], input[at + 3]);
-        let denom = number(input[at + 4], input[at + 5], input[at + 6], input[at + 7]);
-        t = with_rate(t, numer, denom);
-        i += 1;
+fn with_rates(input: &[u8]) -> Totals {
+    let mut totals = Totals::default();
+    for rate in input.chunks_exact(8) {
+        let numer = u32::from_be_bytes([rate[0], rate[1], rate[2], rate[3]]);
+        let denom = u32::from_be_bytes([rate[4], rate[5], rate[6], rate[7]]);
+        totals.ask(numer, denom);
     }
-    t
+    totals
 }
 
 // Reads until `buf` is full or the input ends: how many bytes are at its front.
@@ -104,6 +78,6 @@ fn read_full(rt: &HostRuntime, buf: &mut [u8]) -> io::Result<usize>
 fn main(rt: HostRuntime) -> io::Result<()> {
     let mut input = [0u8; 4096];
     let len = read_full(&rt, &mut input)?;
-    let t = with_rates(&input, len);
+    let t = with_rates(&input[..len]);
     println!(rt; "{} {} {}", t.accepted, t.pairs, t.triples)
 }

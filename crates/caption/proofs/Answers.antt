@@ -8,18 +8,12 @@ use Prim.Native.Nat.{ℕ, ◌-◌}
 use lib.Dec.{eqb}
 use lib.ListN.{get_or}
 use borrow.Author.Tests.{eq-eqb}
-use Rattle.model.specs.Said.{Said, accepted, bad_value, measured}
+use Rattle.model.specs.Said.{Said, accepted}
 use Rattle.model.specs.Said as model
 use Rattle.model.proofs.Cases.{NotAccepted, Refuses}
-use Rattle.caption.specs.Answers.{said_refusal, said_answer, said_counted, said_truth}
+use Rattle.caption.specs.Answers.{said_refusal}
 use Rattle.caption.specs.declared.Refusal.{Refusal}
 use Rattle.caption.specs.declared.Refusal.TheVariants.{Cea608AfterCea708, WouldOverflow, ReadOnly, EmptyService, BadNumber, BadRun, BadRate, OutShort, Full, BadValue, FrameLengthWrong, PacketLengthWrong, BlockHeaderShort, BlockBodyShort, BadMark, BadSection, BadSum, CountersDiffer, NotNewer, UnknownLength, CodeCutShort, BadCover, OutOfOrder, RunSplit, OverLimit}
-use Rattle.caption.specs.declared.Answer.{Answer}
-use Rattle.caption.specs.declared.Answer.TheVariants as answer
-use Rattle.caption.specs.declared.Counted.{Counted}
-use Rattle.caption.specs.declared.Counted.TheVariants as counted
-use Rattle.caption.specs.declared.Truth.{Truth}
-use Rattle.caption.specs.declared.Truth.TheVariants as truth
 
 -- the table's rows from 2 on, with the values that they carry
 abbrev refusals : List ℕ → List Refusal
@@ -116,58 +110,3 @@ said_refusal_injective = LeftInverse-Injective (answer_of none id) said_refusal 
     -- what 0 would give: no refusal says it
     none : List ℕ → Refusal
     none v = BadValue
-
--- what an accepted call's values tell: nothing more
-abbrev accept : List ℕ → Answer
-accept v = answer.Accepted
-
--- the answer is taken back from what it says
-answer_again : LeftInverse (answer_of accept answer.Refused) said_answer
-answer_again answer.Accepted = refl
-answer_again (answer.Refused why) = refused_again accept answer.Refused why
-
--- no two answers say the same
-pub said_answer_injective : Injective said_answer
-said_answer_injective = LeftInverse-Injective (answer_of accept answer.Refused) said_answer answer_again
-
--- the number that was given
-abbrev count : List ℕ → Counted
-count v = counted.Count (get_or v 0 0)
-
--- the answer is taken back from what it says
-counted_again : LeftInverse (answer_of count counted.Refused) said_counted
-counted_again (counted.Count n) = refl
-counted_again (counted.Refused why) = refused_again count counted.Refused why
-
--- no two answers say the same
-pub said_counted_injective : Injective said_counted
-said_counted_injective = LeftInverse-Injective (answer_of count counted.Refused) said_counted counted_again
-
--- 1 told yes
-abbrev is : List ℕ → Truth
-is v = truth.Is (eqb (get_or v 0 0) 1)
-
--- the answer is taken back from what it says
-truth_again : LeftInverse (answer_of is truth.Refused) said_truth
-truth_again (truth.Is true) = refl
-truth_again (truth.Is false) = refl
-truth_again (truth.Refused why) = refused_again is truth.Refused why
-
--- no two answers say the same
-pub said_truth_injective : Injective said_truth
-said_truth_injective = LeftInverse-Injective (answer_of is truth.Refused) said_truth truth_again
-
--- a number asked of a value, by what the test of its limits answered
-module _ (valid v : Bool) (is : v ≡ valid) where
-  -- 11 where a limit is broken
-  pub measure_bad : (n : ℕ) → v ≡ false → bad_value ≡ measured valid n
-  measure_bad n e = rw (← is, e)
-
-  -- the number where none is
-  pub measure_good : (n k : ℕ) → v ≡ true → n ≡ k → accepted (n ∷ []) ≡ measured valid k
-  measure_good n k e q = rw (← is, e, q)
-
--- so that a count tells whether a limit is broken, and the number
-pub count_told : (v : Bool) (n : ℕ) (c : Counted) → said_counted c ≡ measured v n → c ≡ cond v (counted.Count n) (counted.Refused BadValue)
-count_told true n c e = said_counted_injective c (counted.Count n) e
-count_told false n c e = said_counted_injective c (counted.Refused BadValue) e

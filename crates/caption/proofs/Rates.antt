@@ -1,53 +1,33 @@
 -- The budgets of a rate: what a caller learns from what they say, and one law for each way in which they are found. Assumes nothing.
-use mathlib.Core.Path.{◌≡◌, refl, ap}
+use mathlib.Core.Path.{◌≡◌, refl}
 use mathlib.Core.Bool.{Bool, true, false, cond, ◌||◌}
-use mathlib.Core.List.{List, [], ◌∷◌}
-use mathlib.Mathlib.Logic.Function.Defs.{Injective, LeftInverse, LeftInverse-Injective}
+use mathlib.Mathlib.Logic.Function.Defs.{Injective}
 use Prim.Native.Nat.{ℕ, ◌+◌, ◌*◌, ◌≤◌, ◌<◌}
 use native.Mathlib.Omega.{arith}
 use borrow.Author.Tests.{eq-eqb, ne_eqb, eqb-false, lt-ltb, le-ltb}
 use lib.Dec.{eqb, ltb}
-use lib.ListN.{get_or}
-use Rattle.model.specs.Said.{Outcome, accepted, bad_rate, gave, refused, says_with}
+use Rattle.std.specs.Prelude.{Result}
+use Rattle.model.specs.Said.{bad_rate, gave, refused, mapped}
 use Rattle.model.specs.Rate as model
-use Rattle.model.specs.Rate.{budgets, pairs_then_triples, rounded, pairs_at, triples_at, most_triples}
+use Rattle.model.specs.Rate.{budgets, rounded, pairs_at, triples_at, most_triples}
 use Rattle.model.proofs.Cases.{by_test}
 use Rattle.model.proofs.Rates.{least, fewer}
 use Rattle.basics.specs.Cut.{cut_of}
 use Rattle.basics.specs.declared.Steps.{Steps}
 use Rattle.basics.proofs.Cuts.{less_left, whole}
-use Rattle.caption.specs.Rates.{said_budgets}
-use Rattle.caption.proofs.Answers.{answer_of}
+use Rattle.caption.specs.Answers.{outcome}
+use Rattle.caption.specs.Rates.{budgets_of}
 use Rattle.caption.specs.declared.Budgets.{Budgets}
-use Rattle.caption.specs.declared.Budgets.TheVariants.{Of, BadRate}
+use Rattle.caption.specs.declared.Refusal.{Refusal}
+use Rattle.caption.proofs.Outcomes.{mapped_injective}
 
--- the budgets that an accepted rate's values tell
-abbrev of : List ℕ → Budgets
-of v = Of (get_or v 0 0) (get_or v 1 0)
+-- the budgets that the model's are
+abbrev back : model.Budgets → Budgets
+back b = record { pairs = b.pairs; triples = b.triples }
 
--- the answer is taken back from what it says
-budgets_again : LeftInverse (answer_of of (λ why. BadRate)) said_budgets
-budgets_again (Of pairs triples) = refl
-budgets_again BadRate = refl
-
--- no two answers say the same
-pub said_budgets_injective : Injective said_budgets
-said_budgets_injective = LeftInverse-Injective (answer_of of (λ why. BadRate)) said_budgets budgets_again
-
--- what the answer is in the model
-abbrev pub budgets_of : Budgets → Outcome model.Budgets
-budgets_of (Of pairs triples) = gave (record { pairs = pairs; triples = triples })
-budgets_of BadRate = refused bad_rate
-
--- An answer that says what the model's budgets say is those budgets: what a caller takes from the contract.
-pub budgets_meant : (numer denom : ℕ) (r : Budgets) → said_budgets r ≡ says_with pairs_then_triples (budgets numer denom) → budgets_of r ≡ budgets numer denom
-unfolding budgets
-budgets_meant numer denom = by (eqb numer 0 || (eqb (pairs_at numer denom) 0 || ltb most_triples (triples_at numer denom))) _
-  where
-    by : (bad : Bool) (b : model.Budgets) (r : Budgets) → said_budgets r ≡ says_with pairs_then_triples (cond bad (refused bad_rate) (gave b))
-        → budgets_of r ≡ cond bad (refused bad_rate) (gave b)
-    by true b r e = ap budgets_of (said_budgets_injective r BadRate e)
-    by false b r e = ap budgets_of (said_budgets_injective r (Of b.pairs b.triples) e)
+-- no two answers are the same budgets
+pub budgets_injective : Injective (λ (r : Result Budgets Refusal). mapped budgets_of (outcome r))
+budgets_injective = mapped_injective budgets_of back (λ b. refl)
 
 -- Fewer than 32 steps of numer, cut: what a factor k of a rate comes to, to the nearest whole number.
 module _ (k n d : ℕ) (few : k * d < 32 * n) {s : Steps} (e : s ≡ cut_of (k * d) n) where
@@ -66,14 +46,14 @@ module _ (k n d : ℕ) (few : k * d < 32 * n) {s : Steps} (e : s ≡ cut_of (k *
 -- One law for each way in which the budgets are found, in the order of the tests.
 module _ (n d : ℕ) where
   -- less than half a pair [G2]
-  pub too_fast : 120 * d < n → bad_rate ≡ says_with pairs_then_triples (budgets n d)
+  pub too_fast : 120 * d < n → refused bad_rate ≡ budgets n d
   unfolding budgets
   too_fast h =
       let none : pairs_at n d < 1 = fewer 60 n d 1 (omega arith) (omega arith) in
       simp (ne_eqb n 0 (λ z. omega arith), eq-eqb (pairs_at n d) 0 (omega arith))
 
   -- 31 and a half triples and more, or a numerator of 0 [G2]
-  pub too_slow : 63 * n ≤ 1200 * d → bad_rate ≡ says_with pairs_then_triples (budgets n d)
+  pub too_slow : 63 * n ≤ 1200 * d → refused bad_rate ≡ budgets n d
   unfolding budgets
   too_slow h =
       by_test (eqb n 0) (λ t. simp t)
@@ -83,7 +63,7 @@ module _ (n d : ℕ) where
 
   -- neither
   pub rate_accepted : {p t : ℕ} → n ≤ 120 * d → 1200 * d < 63 * n → p ≡ pairs_at n d → t ≡ triples_at n d
-      → accepted (p ∷ t ∷ []) ≡ says_with pairs_then_triples (budgets n d)
+      → gave (record { pairs = p; triples = t }) ≡ budgets n d
   unfolding budgets
   rate_accepted {p} {t} fast slow e f =
       let one : 1 ≤ pairs_at n d = least 60 n d 1 (omega arith) (omega arith) in

@@ -1,14 +1,8 @@
 -- What the shared answers say [A1]: the number of a refusal in the table R, and the values that it carries. Assumes nothing.
-use Rattle.std.specs.Prelude.{cond, [], ◌∷◌}
-use Rattle.model.specs.Said.{Said, accepted, cea608_after_cea708, would_overflow, read_only, empty_service, bad_number, bad_run, bad_rate, out_short, full, bad_value, frame_length_wrong, packet_length_wrong, block_header_short, block_body_short, bad_mark, bad_section, bad_sum, counters_differ, not_newer, unknown_length, code_cut_short, bad_cover, out_of_order, run_split, over_limit}
+use Rattle.std.specs.Prelude.{Result, Ok, Err, List, ℕ, cond, [], ◌∷◌}
+use Rattle.model.specs.Said.{Said, Outcome, gave, refused, says_with, accepted, cea608_after_cea708, would_overflow, read_only, empty_service, bad_number, bad_run, bad_rate, out_short, full, bad_value, frame_length_wrong, packet_length_wrong, block_header_short, block_body_short, bad_mark, bad_section, bad_sum, counters_differ, not_newer, unknown_length, code_cut_short, bad_cover, out_of_order, run_split, over_limit}
 use Rattle.caption.specs.declared.Refusal.{Refusal}
 use Rattle.caption.specs.declared.Refusal.TheVariants.{Cea608AfterCea708, WouldOverflow, ReadOnly, EmptyService, BadNumber, BadRun, BadRate, OutShort, Full, BadValue, FrameLengthWrong, PacketLengthWrong, BlockHeaderShort, BlockBodyShort, BadMark, BadSection, BadSum, CountersDiffer, NotNewer, UnknownLength, CodeCutShort, BadCover, OutOfOrder, RunSplit, OverLimit}
-use Rattle.caption.specs.declared.Answer.{Answer}
-use Rattle.caption.specs.declared.Answer.TheVariants as answer
-use Rattle.caption.specs.declared.Counted.{Counted}
-use Rattle.caption.specs.declared.Counted.TheVariants as counted
-use Rattle.caption.specs.declared.Truth.{Truth}
-use Rattle.caption.specs.declared.Truth.TheVariants as truth
 
 -- the table, row by row
 abbrev pub said_refusal : Refusal → Said
@@ -38,17 +32,11 @@ said_refusal OutOfOrder = out_of_order
 said_refusal RunSplit = run_split
 said_refusal OverLimit = over_limit
 
--- accepted, with no value
-abbrev pub said_answer : Answer → Said
-said_answer answer.Accepted = accepted []
-said_answer (answer.Refused why) = said_refusal why
+-- What a call answers, as an outcome of the model: `Ok` gives its value, and `Err` refuses with the number and the values of its row.
+abbrev pub outcome : {A : Type 0} → Result A Refusal → Outcome A
+outcome (Ok x) = gave x
+outcome (Err why) = refused (said_refusal why)
 
--- accepted, with the number that was asked for
-abbrev pub said_counted : Counted → Said
-said_counted (counted.Count n) = accepted (n ∷ [])
-said_counted (counted.Refused why) = said_refusal why
-
--- accepted, with 1 for yes and 0 for no
-abbrev pub said_truth : Truth → Said
-said_truth (truth.Is b) = accepted (cond b 1 0 ∷ [])
-said_truth (truth.Refused why) = said_refusal why
+-- what an answer says, where the value given is told by `values`
+abbrev pub said : {A : Type 0} → (A → List ℕ) → Result A Refusal → Said
+said values r = says_with values (outcome r)

@@ -1,13 +1,14 @@
 -- What is told of a job, by what it is. Assumes nothing.
 use mathlib.Core.Path.{◌≡◌, sym, subst, ◌∙◌}
-use mathlib.Core.List.{List}
+use mathlib.Core.List.{List, []}
 use Prim.Native.Nat.{ℕ, ◌+◌, ◌*◌, ◌≤◌}
 use native.Mathlib.Omega.{arith}
 use lib.ListN.{length, take, drop, length-drop}
 use lib.Seq.{take_all}
 use Rattle.model.specs.Said.{over_limit}
-use Rattle.caption.specs.Answers.{said_answer}
-use Rattle.caption.specs.declared.Answer.{Answer}
+use Rattle.std.specs.Prelude.{Result}
+use Rattle.caption.specs.Answers.{said}
+use Rattle.caption.specs.declared.Refusal.{Refusal}
 use Rattle.model_packing.specs.Pieces.{pieces_of}
 use Rattle.model_packing.specs.Proposals.{check_proposal}
 use Rattle.program_text.specs.Laid.{Laid}
@@ -18,9 +19,9 @@ use Rattle.ccpack_report.specs.declared.Job.TheVariants.{Bad, TooMany, Check, Pr
 use Rattle.ccpack_report.proofs.Kept.{Bytes, Sized, sized, checked_kept, proposed_kept}
 
 -- the answer to the proposal of a job
-pub laid_checked : (runs : ℕ) (job : List ℕ) {services lengths numbers out after : List ℕ} {at r : ℕ} (answer : Answer) → services ≡ take runs (drop 3 job)
+pub laid_checked : (runs : ℕ) (job : List ℕ) {services lengths numbers out after : List ℕ} {at r : ℕ} (answer : Result (Unit {0}) Refusal) → services ≡ take runs (drop 3 job)
     → lengths ≡ take runs (drop (3 + runs) job) → numbers ≡ take (length job) (drop (3 + 2 * runs) job)
-    → said_answer answer ≡ check_proposal services lengths (pieces_of numbers) → Laid (answer_line (said_answer answer)) out at r after → Laid (checked_text runs job) out at r after
+    → said (λ _. []) answer ≡ check_proposal services lengths (pieces_of numbers) → Laid (answer_line (said (λ _. []) answer)) out at r after → Laid (checked_text runs job) out at r after
 unfolding checked_text
 laid_checked runs job answer s l n e w =
     let all : length (drop (head_length runs) job) ≤ length job = rw length-drop (omega arith) in

@@ -1,22 +1,21 @@
-// What `ccpack` prints for a job: the answer to a proposal, or the lines of one that it makes. Lines are laid into a lent buffer from a place on and
-// as far as there is room; each function that lays some answers the place behind them.
+//! What `ccpack` prints for a job: the answer to a proposal, or the lines of one that it makes. Lines are laid into a lent buffer from a place on and
+//! as far as there is room; each function that lays some answers the place behind them.
 #![tactic(auto)]
 
-ghost use Rattle.std.specs.Prelude.{◌≡◌, ◌<◌, ◌≤◌, length};
-ghost use Rattle.caption.specs.Answers.{said_answer};
+ghost use Rattle.std.specs.Prelude.{◌≡◌, [], ◌<◌, ◌≤◌, length};
+ghost use Rattle.caption.specs.Answers.{said};
 ghost use Rattle.model_packing.specs.Pieces.{pieces_of};
 ghost use Rattle.program_text.specs.Laid.{Laid};
 ghost use Rattle.ccpack_report.specs.Lines.{answer_line, packets_line, piece_line, piece_lines, proposal_lines, packed_text};
 ghost use Rattle.ccpack_report.specs.Jobs.{check_job, propose_job, job_of, job_in, checked_text, job_text, kept_job, kept_length};
 
-use caption::{Answer, Refusal};
-use packing::Proposal;
+use caption::Refusal;
 use packing_runs::MOST_RUNS;
 use program_lines::put_value;
 use program_records::{byte_at, part};
 use program_text::{put_newline, put_word};
 
-// So many bytes of a job are kept.
+/// So many bytes of a job are kept.
 pub const MOST_KEPT: usize = 327680;
 
 // What a job is: none, one with too many runs, or one to check or to propose, with its number of runs.
@@ -101,10 +100,10 @@ fn look(job: &[u8], over: usize) -> Job
 }
 
 // The line of an answer.
-fn put_answer_line(out: &mut [u8], at: usize, answer: Answer) -> usize
-    ensures { Laid (answer_line (said_answer answer)) out.old at result out.new }
+fn put_answer_line(out: &mut [u8], at: usize, answer: Result<(), Refusal>) -> usize
+    ensures { Laid (answer_line (said (λ _. []) answer)) out.old at result out.new }
 {
-    let p = program_lines::put_answer(out, at, answer);
+    let p = program_lines::put_done(out, at, answer);
     put_newline(out, p)
 }
 
@@ -190,20 +189,18 @@ fn put_packed(out: &mut [u8], at: usize, services: &[u8], lengths: &[u8]) -> usi
 {
     let mut lent = [0u8; 1280];
     match packing::propose(services, lengths, &mut lent) {
-        Proposal::Made { packets, len } => {
-            put_proposal(out, at, packets as u64, part(&lent, 0, len))
-        }
-        Proposal::Refused(why) => put_answer_line(out, at, Answer::Refused(why)),
+        Ok(made) => put_proposal(out, at, made.packets as u64, part(&lent, 0, made.len)),
+        Err(why) => put_answer_line(out, at, Err(why)),
     }
 }
 
-// What is told of a job, of which at most MOST_KEPT bytes are kept and `over` bytes are beyond these.
+/// What is told of a job, of which at most MOST_KEPT bytes are kept and `over` bytes are beyond these.
 pub fn put_job(out: &mut [u8], at: usize, job: &[u8], over: usize) -> usize
     ensures { Laid (job_text (kept_job job.now over)) out.old at result out.new }
 {
     match look(job, over) {
         Job::Bad => put_word(out, at, b"bad\n"),
-        Job::TooMany => put_answer_line(out, at, Answer::Refused(Refusal::OverLimit)),
+        Job::TooMany => put_answer_line(out, at, Err(Refusal::OverLimit)),
         Job::Check(runs) => put_checked(out, at, job, runs),
         Job::Propose(runs) => { put_packed(out, at, part(job, 3, runs), part(job, 3 + runs, runs)) }
     }

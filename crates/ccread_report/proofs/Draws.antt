@@ -4,8 +4,8 @@ use mathlib.Core.List.{List, [], ◌∷◌, ◌++◌, append_assoc}
 use Prim.Native.Nat.{ℕ, zero, suc, ◌+◌, ◌≤◌}
 use native.Mathlib.Omega.{arith}
 use lib.ListN.{length}
-use Rattle.caption.specs.declared.Cea608.TheVariants.{Field1, Field2}
-use Rattle.model.specs.Said.{Said, accepted}
+use mathlib.Core.Bool.{true≢false}
+use Rattle.model.specs.Said.{Said, gave, refused, is_given, after}
 use Rattle.model.specs.Packet.{Packet}
 use Rattle.model.specs.Frame.{Cea608, field1, field2, pair}
 use Rattle.model.specs.Demux as model
@@ -15,15 +15,14 @@ use Rattle.packet.specs.Packet.{packet_of, blank, laid}
 use Rattle.packet.proofs.Holds.{blank_places}
 use Rattle.packet.proofs.Keeps.{laid_over}
 use Rattle.parser.specs.Means.{means}
-use Rattle.parser.specs.After.{drawn}
-use Rattle.parser.specs.Items.{Draws, said_item}
-use Rattle.parser.specs.declared.Item.{Item}
+use Rattle.parser.specs.After.{asked, drawn}
+use Rattle.parser.specs.Items.{said_item, item_of, drawn_of}
 use Rattle.parser.specs.declared.Item.TheVariants as item
 use Rattle.parser.specs.declared.Drawn.{Drawn}
 use Rattle.parser.specs.declared.CCDataParser.{CCDataParser}
 use Rattle.parser.proofs.Laid.{Sound}
 use Rattle.parser.proofs.Kept.{sound_demux, laid_still}
-use Rattle.parser.proofs.Items.{said_item_injective}
+use Rattle.parser.proofs.Items.{item_says}
 use Rattle.parser.proofs.Beside.{Holds, first_holds}
 use Rattle.ccread_report.specs.Report.{pair_line, packet_lines, pair_lines, packets_lines, waiting_lines, item_lines, drawn_out}
 
@@ -71,21 +70,8 @@ none_lines d z = by_items d.pairs d.waiting z
     by_items [] (p ∷ ps) z = absurd (omega arith)
     by_items [] [] z = refl
 
--- the item of the port that says what the model's is
-abbrev item_as : model.Item → Item
-item_as (a_pair (field1 (pair a b))) = item.Pair (Field1 a b)
-item_as (a_pair (field2 (pair a b))) = item.Pair (Field2 a b)
-item_as (a_packet p) = item.Packet
-item_as no_item = item.Nothing
-
-item_said : (i : model.Item) → said_item (item_as i) ≡ accepted (item_values i)
-item_said (a_pair (field1 (pair a b))) = refl
-item_said (a_pair (field2 (pair a b))) = refl
-item_said (a_packet p) = refl
-item_said no_item = refl
-
 -- the lines of the item, beside which the packet stands
-item_lines_same : (i : model.Item) → Holds i → item_lines (item_as i) (packet_of (laid (item_packet i))) ≡ lines_of i
+item_lines_same : (i : model.Item) → Holds i → item_lines (item_of i) (packet_of (laid (item_packet i))) ≡ lines_of i
 unfolding item_lines
 item_lines_same (a_pair (field1 (pair a b))) h = refl
 item_lines_same (a_pair (field2 (pair a b))) h = refl
@@ -93,11 +79,14 @@ item_lines_same (a_packet p) h = ap packet_lines (laid_over blank blank_places p
 item_lines_same no_item h = refl
 
 -- a draw that tells nothing found nothing
-none_told : (i : model.Item) → length (item_values i) ≡ 0 → i ≡ no_item
-none_told (a_pair (field1 (pair a b))) z = absurd (omega arith)
-none_told (a_pair (field2 (pair a b))) z = absurd (omega arith)
-none_told (a_packet p) z = absurd (omega arith)
-none_told no_item z = refl
+none_told : (i : model.Item) → item_of i ≡ item.Nothing → i ≡ no_item
+none_told i e = by_values i (sym (item_says i) ∙ ap said_item e)
+  where
+    by_values : (i : model.Item) → item_values i ≡ [] → i ≡ no_item
+    by_values (a_pair (field1 (pair a b))) z = absurd (omega (arith, ap length z))
+    by_values (a_pair (field2 (pair a b))) z = absurd (omega (arith, ap length z))
+    by_values (a_packet p) z = absurd (omega (arith, ap length z))
+    by_values no_item z = refl
 
 none_left : (d : Demux) → (model.draw d).item ≡ no_item → items_in d ≡ 0
 unfolding model.draw
@@ -124,29 +113,29 @@ draw_none d z = by_items d.on608 d.pairs d.pending d.waiting z
     by_items on [] g [] k = refl
 
 -- a draw from a state within the limits
-module _ (p : CCDataParser) (s : Sound p) (r : Drawn) (h : Draws p r) where
+module _ (p : CCDataParser) (s : Sound p) (r : Drawn) (h : gave r ≡ asked p (λ d. drawn_of (model.draw d).item)) where
   abbrev first : model.Item
   first = (model.draw (means p)).item
 
   holds : Holds first
   holds = first_holds (means p) (demux_facts (means p) (sound_demux p s)).packets
 
-  said : said_item r.item ≡ accepted (item_values first)
-  said = rw s.valid at h.item
-
-  beside : r.packet ≡ laid (item_packet first)
-  beside = rw s.valid at h.packet
-
-  item_is : r.item ≡ item_as first
-  item_is = said_item_injective _ _ (said ∙ sym (item_said first))
+  drawn_is : r ≡ drawn_of first
+  drawn_is = let u : gave r ≡ gave (drawn_of first) = h ∙ rw s.valid in ap (after r) u
 
   -- its lines are the first of those left
   pub drawn_lines : waiting_lines (means p) ≡ item_lines r.item (packet_of r.packet) ++ waiting_lines (model.draw (means p)).next
-  drawn_lines = rw (item_is, beside, item_lines_same first holds) (drawn_first (means p))
+  drawn_lines = rw (drawn_is, item_lines_same first holds) (drawn_first (means p))
 
   -- nothing is drawn where nothing waits
   pub drawn_none : r.item ≡ item.Nothing → items_in (means p) ≡ 0
-  drawn_none e = none_left (means p) (none_told first (ap (λ (x : Said). length x.values) (sym said ∙ ap said_item e)))
+  drawn_none e = none_left (means p) (none_told first (sym (ap (λ (x : Drawn). x.item) drawn_is) ∙ e))
+
+-- it is not refused
+pub draw_gives : (p : CCDataParser) → Sound p → (why : Said) → refused why ≡ asked p (λ d. drawn_of (model.draw d).item) → ⊥
+draw_gives p s why e =
+    let q : refused why ≡ gave (drawn_of (model.draw (means p)).item) = e ∙ rw s.valid in
+    true≢false (sym (ap is_given q))
 
 -- few items wait in a state within the limits
 module _ (p : CCDataParser) (s : Sound p) where

@@ -1,6 +1,7 @@
 -- The loop that draws every item: what is left to print, printed from here on, is the whole. Assumes nothing.
 use mathlib.Core.Path.{◌≡◌, refl, sym, ap, ◌∙◌}
 use mathlib.Core.List.{List}
+use mathlib.Core.Bool.{true}
 use Prim.Native.Nat.{ℕ, suc, ◌≤◌}
 use native.Mathlib.Omega.{arith}
 use lib.ListN.{length}
@@ -9,7 +10,10 @@ use Rattle.packet.specs.Packet.{packet_of}
 use Rattle.program_text.specs.Laid.{Laid}
 use Rattle.program_text.proofs.Layings.{laid_within}
 use Rattle.parser.specs.Means.{means}
-use Rattle.parser.specs.Items.{Draws}
+use Rattle.model.specs.Said.{gave}
+use Rattle.parser.specs.Valid.{valid}
+use Rattle.parser.specs.After.{asked, drawn}
+use Rattle.parser.specs.Items.{drawn_of}
 use Rattle.parser.specs.declared.Item.TheVariants as item
 use Rattle.parser.specs.declared.Drawn.{Drawn}
 use Rattle.parser.specs.declared.CCDataParser.{CCDataParser}
@@ -48,25 +52,25 @@ module _ {before : CCDataParser} {out₀ : List ℕ} {at : ℕ} where
       }
 
   -- an item is drawn, and its lines are laid
-  module _ {out mid : List ℕ} {p : CCDataParser} {laid q m : ℕ} (n : ℕ) (e : m ≡ suc n) (g : Going before out₀ at out p laid m) (r : Drawn) (h : Draws p r)
-      (w : Laid (item_lines r.item (packet_of r.packet)) out laid q mid) where
-    pub going_next : Going before out₀ at mid r.parser q n
+  module _ {out mid : List ℕ} {p : CCDataParser} {laid q m : ℕ} (n : ℕ) (e : m ≡ suc n) (g : Going before out₀ at out p laid m) (r : Drawn) (h : gave r ≡ asked p (λ d. drawn_of (model.draw d).item))
+      (x : CCDataParser) (state : valid p ≡ true → means x ≡ (model.draw (means p)).next) (places : x ≡ drawn p) (w : Laid (item_lines r.item (packet_of r.packet)) out laid q mid) where
+    pub going_next : Going before out₀ at mid x q n
     unfolding drawn_out
     going_next =
-        let d : means r.parser ≡ (model.draw (means p)).next = h.means g.sound.valid in
+        let d : means x ≡ (model.draw (means p)).next = state g.sound.valid in
         let l : length mid ≡ length out = (laid_within w).1 in
         record {
-          sound = rw h.places (drawn_sound p g.sound);
+          sound = rw places (drawn_sound p g.sound);
           few = rw d (drawn_fewer (means p) n (omega (arith, g.few)));
           place = omega (arith, (laid_within w).0);
           same = l ∙ g.same;
           lines = rw d (completes_more (rw (drawn_lines p g.sound r h) at g.lines) w);
-          state = rw h.places (g.state ∙ ap (λ (k : ℕ). drawn_out k p) e);
+          state = rw places (g.state ∙ ap (λ (k : ℕ). drawn_out k p) e);
         }
 
     -- it was none
-    pub going_none : r.item ≡ item.Nothing → Done before out₀ at mid r.parser q
+    pub going_none : r.item ≡ item.Nothing → Done before out₀ at mid x q
     going_none told =
         let z : items_in (means p) ≡ 0 = drawn_none p g.sound r h told in
         let y : items_in (model.draw (means p)).next ≤ 0 = drawn_fewer (means p) 0 (omega arith) in
-        going_done going_next (omega (arith, y, ap items_in (h.means g.sound.valid)))
+        going_done going_next (omega (arith, y, ap items_in (state g.sound.valid)))

@@ -15,7 +15,6 @@ use Rattle.program_text.specs.Laid.{Laid}
 use Rattle.program_text.proofs.Layings.{laid_append}
 use Rattle.program_lines.specs.Lines.{block_line, pair_text, packet_text}
 use Rattle.caption.specs.declared.Cea608.{Cea608}
-use Rattle.caption.specs.declared.Refusal.{Refusal}
 use Rattle.caption.specs.Pairs.{cea608_of}
 use Rattle.model.specs.Packet.{Packet}
 use Rattle.program_text.specs.Text.{word}
@@ -95,7 +94,3 @@ module _ {i : Item} (m : Packet) {out : List ℕ} {at : ℕ} (h : at ≤ length 
   pub laid_no_item : i ≡ item.Nothing → Laid (item_lines i m) out at at out
   unfolding item_lines
   laid_no_item e = rw e (laid_nothing out at h)
-
-  pub laid_refused_item : (why : Refusal) → i ≡ item.Refused why → Laid (item_lines i m) out at at out
-  unfolding item_lines
-  laid_refused_item why e = rw e (laid_nothing out at h)

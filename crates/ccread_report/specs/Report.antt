@@ -1,8 +1,9 @@
 -- The lines of a record: those of a frame and of what is drawn after it [C2], and those of a distribution packet and its frame [C5]. Assumes nothing.
-use Rattle.std.specs.Prelude.{cond, List, [], ◌∷◌, ◌++◌, ℕ, zero, suc, eqb, replicate}
+use Rattle.std.specs.Prelude.{Result, cond, List, [], ◌∷◌, ◌++◌, ℕ, zero, suc, eqb, replicate}
 use Rattle.caption.specs.Pairs.{cea608_of}
-use Rattle.caption.specs.Answers.{said_refusal}
-use Rattle.model.specs.Said.{Said, Outcome, accepted, bad_value, says_with, mapped, after}
+use Rattle.caption.specs.declared.Refusal.{Refusal}
+use Rattle.caption.specs.Answers.{said}
+use Rattle.model.specs.Said.{Said, Outcome, bad_value, says_with, mapped, after}
 use Rattle.model.specs.Block.{Block}
 use Rattle.model.specs.Packet.{Packet}
 use Rattle.model.specs.Frame.{Cea608}
@@ -17,7 +18,6 @@ use Rattle.parser.specs.declared.Item.{Item}
 use Rattle.parser.specs.declared.Item.TheVariants as item
 use Rattle.parser.specs.declared.CCDataParser.{CCDataParser}
 use Rattle.distribution.specs.States.{last_of, reader_at}
-use Rattle.distribution.specs.declared.Received.TheVariants as received
 use Rattle.distribution.specs.declared.Received as told
 use Rattle.distribution.specs.declared.DistributionReader.{DistributionReader}
 use Rattle.ccread_report.specs.declared.Told.{Told}
@@ -72,7 +72,6 @@ unfoldable pub item_lines : Item → Packet → List ℕ
 item_lines (item.Pair x) p = pair_line (cea608_of x)
 item_lines item.Packet p = packet_lines p
 item_lines item.Nothing p = []
-item_lines (item.Refused why) p = []
 
 -- what is lent for the frame of a packet: 95 bytes, enough for every frame
 abbrev pub lent : List ℕ
@@ -115,9 +114,8 @@ unfoldable pub recorded : ℕ → List ℕ → Capture → Capture
 recorded kind s c = cond (eqb kind 0xCD) (cdp_taken s c) (record { parser = settled c.parser s; reader = c.reader })
 
 -- what the line of a packet says of what its reader tells
-unfoldable pub said_cdp : told.Received → Said
-said_cdp (received.Packet code counter len) = accepted (code ∷ counter ∷ [])
-said_cdp (received.Refused why) = said_refusal why
+abbrev pub said_cdp : Result told.Received Refusal → Said
+said_cdp r = said (λ x. x.code ∷ x.counter ∷ []) r
 
 -- a demultiplexer behind lines, and a reader beside it
 abbrev pub besides : Told → DistributionReader → Recorded

@@ -10,7 +10,7 @@ ghost use Rattle.parser.specs.Valid.{valid};
 ghost use Rattle.parser.specs.Means.{means};
 ghost use Rattle.ccread_report.specs.Report.{block_lines, item_lines, waiting_lines, drawn_out, frame_lines, settled, cdp_line, cdp_lines, cdp_taken, record_lines, recorded, said_cdp, besides};
 
-use caption::Answer;
+use caption::Refusal;
 use distribution::{DistributionReader, Received};
 use packet::DTVCCPacket;
 use parser::{CCDataParser, Item};
@@ -80,7 +80,6 @@ fn put_item(out: &mut [u8], at: usize, item: Item, packet: DTVCCPacket) -> usize
             put_blocks(out, next, packet)
         }
         Item::Nothing => at,
-        Item::Refused(_) => at,
     }
 }
 
@@ -96,8 +95,9 @@ fn put_items(out: &mut [u8], at: usize, before: CCDataParser) -> Told
     let mut n: usize = MOST_ITEMS;
     while 0 < n {
         n -= 1;
-        let drawn = parser.draw();
-        parser = drawn.parser;
+        let Ok(drawn) = parser.draw() else {
+            return Told { laid, parser };
+        };
         let item = drawn.item;
         let packet = drawn.packet;
         laid = put_item(out, laid, item, packet);
@@ -113,36 +113,36 @@ pub fn put_frame(out: &mut [u8], at: usize, number: u64, frame: &[u8], before: C
     ensures laid { Laid (frame_lines number frame.now before) out.old at result.laid out.new }
     ensures parser_value { result.parser ≡ settled before frame.now }
 {
-    let pushed = before.push(frame);
-    let answer = pushed.answer;
-    let parser = pushed.parser;
+    let mut parser = before;
+    let answer = parser.push(frame);
     let laid = program_lines::put_frame_line(out, at, number, answer);
-    if let Answer::Accepted = answer {
-        return put_items(out, laid, parser);
+    match answer {
+        Ok(()) => put_items(out, laid, parser),
+        Err(_) => Told { laid, parser },
     }
-    Told { laid, parser }
 }
 
 // What a distribution packet was answered: the code of its rate and its counter, or why it is refused.
-fn put_received(out: &mut [u8], at: usize, received: Received) -> usize
+fn put_received(out: &mut [u8], at: usize, received: Result<Received, Refusal>) -> usize
     ensures { Laid (answer_text (said_cdp received)) out.old at result out.new }
 {
     match received {
-        Received::Packet {
-            code,
-            counter,
-            len: _,
-        } => {
+        Ok(packet) => {
             let p = program_text::put_word(out, at, b"ok");
-            let q = program_lines::put_value(out, p, code as u64);
-            program_lines::put_value(out, q, counter as u64)
+            let q = program_lines::put_value(out, p, packet.code as u64);
+            program_lines::put_value(out, q, packet.counter as u64)
         }
-        Received::Refused(why) => program_lines::put_refusal(out, at, why),
+        Err(why) => program_lines::put_refusal(out, at, why),
     }
 }
 
 // The line of a distribution packet, whose record has a number.
-fn put_cdp_line(out: &mut [u8], at: usize, number: u64, received: Received) -> usize
+fn put_cdp_line(
+    out: &mut [u8],
+    at: usize,
+    number: u64,
+    received: Result<Received, Refusal>,
+) -> usize
     ensures { Laid (cdp_line number (said_cdp received)) out.old at result out.new }
 {
     let p = program_text::put_word(out, at, b"cdp ");
@@ -169,28 +169,23 @@ fn put_cdp(out: &mut [u8], at: usize, number: u64, packet: &[u8], before: Captur
     ensures capture_value { result.capture ≡ cdp_taken packet.now before }
 {
     let parser = before.parser;
-    let old = before.reader;
+    let mut reader = before.reader;
     let mut lent = [0u8; 95];
-    let read = old.read(packet, &mut lent);
-    let received = read.received;
-    let reader = read.reader;
+    let received = reader.read(packet, &mut lent);
     let laid = put_cdp_line(out, at, number, received);
-    if let Received::Packet {
-        code: _,
-        counter: _,
-        len,
-    } = received
-    {
-        let told = put_frame(
-            out,
-            laid,
-            number,
-            program_records::part(&lent, 0, len),
-            parser,
-        );
-        return beside(told, reader);
+    match received {
+        Ok(read) => {
+            let told = put_frame(
+                out,
+                laid,
+                number,
+                program_records::part(&lent, 0, read.len),
+                parser,
+            );
+            beside(told, reader)
+        }
+        Err(_) => beside(Told { laid, parser }, reader),
     }
-    beside(Told { laid, parser }, reader)
 }
 
 // The lines of a record of a kind, which has a number: 0xCD is a distribution packet, any other kind a frame.

@@ -1,6 +1,6 @@
 pub mod Runs
-pub mod Profile
 pub mod Exactly
+pub mod Each
+pub mod Profile
 pub mod Pushes
 pub mod Kept
-pub mod Each

@@ -1,21 +1,23 @@
 -- Pushes under the profile. They stand apart from what is proved of them, so that an edit of them is refused there. Assumes nothing.
+use Rattle.std.specs.Prelude.{◌≡◌}
 use Prim.Native.Nat.{ℕ}
 use contract.Lifetimes.{Lfts}
+use denote.Ref.{MutBor}
 use Rattle.packet.specs.declared.DTVCCPacket.{DTVCCPacket}
-use Rattle.packet.specs.declared.PacketAnswer.{PacketAnswer}
 use Rattle.codes.proofs.push_codes.Reads as PushCodesReads
 use Rattle.codes.proofs.push_codes_into_single_service.Reads as PushCodesIntoSingleServiceReads
+use Rattle.codes.proofs.Exactly.{Answer}
 use Rattle.codes.proofs.Profile.{Lent}
 
--- `push_codes(packet, service_no, run)`
-abbrev pub PushCodes : Lfts 1 → DTVCCPacket → ℕ → Lent → PacketAnswer → Type 0
-PushCodes κs p n run r = PushCodesReads.Post κs (p, (n, (run, tt))) r (p, (n, (run, tt)))
+-- `push_codes(&mut packet, service_no, run)`, where the packet is `b` as it was lent, and `c` as it is at exit
+abbrev pub PushCodes : Lfts 2 → MutBor DTVCCPacket → ℕ → Lent → Answer → MutBor DTVCCPacket → Type 0
+PushCodes κs b n run r c = PushCodesReads.Post κs (b, (n, (run, tt))) r (c, (n, (run, tt)))
 
--- `push_codes_into_single_service(packet, service_no, run)`
-abbrev pub PushCodesSingle : Lfts 1 → DTVCCPacket → ℕ → Lent → PacketAnswer → Type 0
-PushCodesSingle κs p n run r = PushCodesIntoSingleServiceReads.Post κs (p, (n, (run, tt))) r (p, (n, (run, tt)))
+-- `push_codes_into_single_service(&mut packet, service_no, run)`
+abbrev pub PushCodesSingle : Lfts 2 → MutBor DTVCCPacket → ℕ → Lent → Answer → MutBor DTVCCPacket → Type 0
+PushCodesSingle κs b n run r c = PushCodesIntoSingleServiceReads.Post κs (b, (n, (run, tt))) r (c, (n, (run, tt)))
 
--- a run pushed under the profile, in either form
-pub data PushesRun (p : DTVCCPacket) (r : PacketAnswer) : Type 0 where
-  by_codes : (κs : Lfts 1) (n : ℕ) (run : Lent) → PushCodes κs p n run r → PushesRun p r
-  into_single : (κs : Lfts 1) (n : ℕ) (run : Lent) → PushCodesSingle κs p n run r → PushesRun p r
+-- a run pushed to a packet under the profile, in either form, and the packet then
+pub data PushesRun (p : DTVCCPacket) (r : Answer) (q : DTVCCPacket) : Type 0 where
+  by_codes : (κs : Lfts 2) (b c : MutBor DTVCCPacket) (n : ℕ) (run : Lent) → b.now ≡ p → c.now ≡ q → PushCodes κs b n run r c → PushesRun p r q
+  into_single : (κs : Lfts 2) (b c : MutBor DTVCCPacket) (n : ℕ) (run : Lent) → b.now ≡ p → c.now ≡ q → PushCodesSingle κs b n run r c → PushesRun p r q

@@ -8,44 +8,38 @@ use borrow.Author.Tests.{lt-ltb, le-ltb, leb-true, leb-false}
 use lib.Dec.{ltb, leb}
 use lib.ListN.{length, get_or, take, drop, length-drop, drop_of_length-le}
 use lib.Seq.{get_or-drop, drop-drop, take_all}
-use Rattle.model.specs.Said.{Said, Outcome, gave, refused, mapped, says, says_with, checked, accepted, bad_value, bad_number}
+use Rattle.model.specs.Said.{Said, Outcome, gave, refused, mapped, says, checked, accepted, bad_value, bad_number}
 use Rattle.model.specs.Block.{Block}
 use Rattle.model.specs.Packet.{Packet, push_run_by}
 use Rattle.model.specs.Codes.{codes_of, codes_of_each, push_codes_by}
-use Rattle.model.proofs.Cases.{by_test, by_cond}
+use Rattle.model.proofs.Cases.{by_test, NotAccepted, Refuses}
 use Rattle.model.proofs.Codes.{codes_numbered}
 use Rattle.model.proofs.CodedPackets.{whole_pushed, refused_pushed}
-use Rattle.caption.specs.declared.Counted.{Counted}
-use Rattle.caption.specs.declared.Counted.TheVariants.{Count, Refused}
-use Rattle.caption.specs.declared.Answer.{Answer}
-use Rattle.caption.specs.declared.Answer.TheVariants as answer
 use Rattle.caption.specs.declared.Refusal.{Refusal}
-use Rattle.caption.specs.Answers.{said_refusal, said_answer, said_counted}
-use Rattle.caption.proofs.Answers.{refused_with, given_with}
+use Rattle.caption.specs.Answers.{said_refusal}
+use Rattle.caption.proofs.Answers.{refusal_numbered, refused_with, given_with}
+use Rattle.codes_cuts.proofs.Outcomes.{told_gave, told_refused}
 use Rattle.service.specs.declared.Service.{Service}
 use Rattle.service.specs.Service.{block_of}
 use Rattle.packet_entries.specs.Fields.{blocks_held}
-use Rattle.packet.specs.declared.DTVCCPacket.{DTVCCPacket}
-use Rattle.packet.specs.declared.PacketAnswer.{PacketAnswer}
-use Rattle.packet.specs.Packet.{Answers, packet_of}
 use Rattle.codes_cuts.specs.Cuts.{how_many}
-use Rattle.codes.specs.Payloads.{payloads_held, stopped}
+use Rattle.codes.specs.Payloads.{payloads_held, stopped, screened}
 
--- a run, by how many codes were counted
-module _ (d : List ℕ) (r : Counted) (told : said_counted r ≡ says_with how_many (codes_of d)) where
-  pub run_accepted : (n : ℕ) → r ≡ Count n → accepted [] ≡ says (codes_of d)
-  run_accepted n e = rw (given_with how_many (n ∷ []) (codes_of d) (codes_numbered d) (sym (ap said_counted e) ∙ told)).1
+module _ (d : List ℕ) where
+  -- a run whose codes were counted
+  pub run_accepted : (n : ℕ) → gave n ≡ mapped how_many (codes_of d) → accepted [] ≡ says (codes_of d)
+  run_accepted n e = rw (told_gave how_many (codes_of d) n e).1
 
-  pub run_refused : (why : Refusal) → r ≡ Refused why → said_refusal why ≡ says (codes_of d)
-  run_refused why e = rw (refused_with how_many why (codes_of d) (sym (ap said_counted e) ∙ told))
+  -- and one that has none
+  pub run_refused : (why : Refusal) → refused (said_refusal why) ≡ mapped how_many (codes_of d) → said_refusal why ≡ says (codes_of d)
+  run_refused why e = rw (told_refused how_many (codes_of d) (said_refusal why) e)
 
--- the same of what an answer tells
-module _ (d : List ℕ) (r : Answer) (told : said_answer r ≡ says (codes_of d)) where
-  pub is_cut : r ≡ answer.Accepted → (cs : List (List ℕ)) × (codes_of d ≡ gave cs)
-  is_cut e = let g = given_with (λ _. []) [] (codes_of d) (codes_numbered d) (sym (ap said_answer e) ∙ told) in (g.0, g.1)
+  -- the same of what is told
+  pub is_cut : accepted [] ≡ says (codes_of d) → (cs : List (List ℕ)) × (codes_of d ≡ gave cs)
+  is_cut e = let g = given_with (λ _. []) [] (codes_of d) (codes_numbered d) e in (g.0, g.1)
 
-  pub is_not : (why : Refusal) → r ≡ answer.Refused why → codes_of d ≡ refused (said_refusal why)
-  is_not why e = refused_with (λ _. []) why (codes_of d) (sym (ap said_answer e) ∙ told)
+  pub is_not : (why : Refusal) → said_refusal why ≡ says (codes_of d) → codes_of d ≡ refused (said_refusal why)
+  is_not why e = refused_with (λ _. []) why (codes_of d) e
 
 -- the payload of a block, which is a part of its places
 pub block_part : (s : Service) (said : Said) → said ≡ says (codes_of (take (s.len - 0) (drop 0 s.payload))) → said ≡ says (codes_of (block_of s).payload)
@@ -59,35 +53,59 @@ module _ {A : Type 0} (o : Outcome A) (valid v : Bool) (is : v ≡ valid) where
   pub unbroken : (s : Said) → v ≡ true → s ≡ says o → s ≡ says (checked valid o)
   unbroken s e h = rw (← is, e) h
 
--- a push that is stopped
-pub known_number : (n : ℕ) (why : Said) → n ≤ 63 → why ≡ says (stopped n why)
-unfolding stopped
-known_number n why h = rw (le-ltb 63 n h)
+-- what is told before a push
+module _ (valid : Bool) (n : ℕ) (run : List ℕ) where
+  -- of a run that has codes,
+  pub let_through : accepted [] ≡ says (codes_of run) → accepted [] ≡ screened valid n (codes_of run)
+  let_through e = rw (is_cut run e).1
 
-pub no_number : (n : ℕ) (why : Said) → 63 < n → bad_number ≡ says (stopped n why)
-unfolding stopped
-no_number n why h = rw (lt-ltb 63 n h)
+  module _ (why : Refusal) (e : said_refusal why ≡ says (codes_of run)) where
+    -- of one that has none, where the packet breaks a limit,
+    pub stopped_broken : valid ≡ false → bad_value ≡ screened valid n (codes_of run)
+    stopped_broken v = rw (is_not run why e, v)
 
--- leaves the packet as it was
-pub stopped_answers : (valid : Bool) (n : ℕ) (why : Said) (p : DTVCCPacket) (r : PacketAnswer)
-    → said_answer r.answer ≡ says (checked valid (stopped n why)) → r.packet ≡ p → Answers (checked valid (stopped n why)) p r
-unfolding stopped
-stopped_answers valid n why p r =
-    by_cond (λ o. said_answer r.answer ≡ says o → r.packet ≡ p → Answers o p r) valid
-    (λ _. by_cond (λ o. said_answer r.answer ≡ says o → r.packet ≡ p → Answers o p r) (ltb 63 n) (λ _. unchanged bad_number) (λ _. unchanged why))
-    (λ _. unchanged bad_value)
-  where
-    unchanged : (w : Said) → said_answer r.answer ≡ says {A = Packet} (refused w) → r.packet ≡ p → Answers (refused w) p r
-    unchanged w h e = record { answer = h; means = ap packet_of e; places = e }
+    -- where the number is that of no service,
+    pub stopped_number : valid ≡ true → 63 < n → bad_number ≡ screened valid n (codes_of run)
+    unfolding stopped
+    stopped_number v h = rw (is_not run why e, v, lt-ltb 63 n h)
 
--- a push under the profile, by what is told of the run
-module _ (needs_room valid : Bool) (n : ℕ) (run : List ℕ) (p : DTVCCPacket) (r : PacketAnswer) (told : Answer) (is : said_answer told ≡ says (codes_of run)) where
-  pub pushed_on : told ≡ answer.Accepted → Answers (checked valid (push_run_by needs_room n run (packet_of p))) p r → Answers (checked valid (push_codes_by needs_room n run (packet_of p))) p r
-  pushed_on e a = let g = is_cut run told is e in rw (whole_pushed needs_room n run (packet_of p) g.0 g.1) a
+    -- and else
+    pub stopped_why : valid ≡ true → n ≤ 63 → said_refusal why ≡ screened valid n (codes_of run)
+    unfolding stopped
+    stopped_why v h = rw (is_not run why e, v, le-ltb 63 n h)
 
-  pub pushed_not : (why : Refusal) → told ≡ answer.Refused why → Answers (checked valid (stopped n (said_refusal why))) p r → Answers (checked valid (push_codes_by needs_room n run (packet_of p))) p r
+-- a push under the profile, by what is told before it
+module _ (needs_room valid : Bool) (n : ℕ) (run : List ℕ) (p : Packet) where
+  -- it is the push without the profile,
+  pub pushed_on : accepted [] ≡ screened valid n (codes_of run) → checked valid (push_codes_by needs_room n run p) ≡ checked valid (push_run_by needs_room n run p)
   unfolding stopped
-  pushed_not why e a = rw (refused_pushed needs_room n run (packet_of p) (said_refusal why) (is_not run told is why e)) a
+  pushed_on e = by (codes_of run) refl (codes_numbered run) e
+    where
+      by : (o : Outcome (List (List ℕ))) → codes_of run ≡ o → Refuses NotAccepted o → accepted [] ≡ screened valid n o
+          → checked valid (push_codes_by needs_room n run p) ≡ checked valid (push_run_by needs_room n run p)
+      by (gave cs) q m h = rw (whole_pushed needs_room n run p cs q)
+      by (refused why) q m h =
+          by_test valid
+          (λ v. by_test (ltb 63 n)
+          (λ k. absurd (told_not bad_number (λ z. omega arith) (h ∙ rw (v, k))))
+          (λ k. absurd (told_not why m (h ∙ rw (v, k)))))
+          (λ v. absurd (told_not bad_value (λ z. omega arith) (h ∙ rw v)))
+        where
+          told_not : (w : Said) → NotAccepted w → accepted [] ≡ w → ⊥
+          told_not w f g = f (sym (ap (λ (x : Said). x.number) g))
+
+  -- or it is refused
+  pub pushed_not : (why : Refusal) → said_refusal why ≡ screened valid n (codes_of run) → checked valid (push_codes_by needs_room n run p) ≡ refused (said_refusal why)
+  unfolding stopped
+  pushed_not why e = by (codes_of run) refl e
+    where
+      by : (o : Outcome (List (List ℕ))) → codes_of run ≡ o → said_refusal why ≡ screened valid n o → checked valid (push_codes_by needs_room n run p) ≡ refused (said_refusal why)
+      by (gave cs) q h = absurd (refusal_numbered why (ap (λ (x : Said). x.number) h))
+      by (refused w) q h =
+          let r = refused_pushed needs_room n run p w q in
+          by_test valid
+          (λ v. by_test (ltb 63 n) (λ k. rw (r, v, k) (ap (λ (x : Said). refused x) (sym (h ∙ rw (v, k))))) (λ k. rw (r, v, k) (ap (λ (x : Said). refused x) (sym (h ∙ rw (v, k))))))
+          (λ v. rw v (ap (λ (x : Said). refused x) (sym (h ∙ rw v))))
 
 -- the payloads of blocks that are held in places
 pub held_payloads : (k : ℕ) (ns ss d : List ℕ) → map (λ (b : Block). b.payload) (blocks_held k ns ss d) ≡ payloads_held k ss d
@@ -139,8 +157,7 @@ module _ (count : ℕ) (ss d : List ℕ) (i at : ℕ) (so : checked_from count s
   unfolding payloads_held blocks_held codes_of_each
   all_checked h = let z : count - i ≡ 0 = omega arith in sym (so ∙ rw z)
 
-  module _ (more : i < count) (size end : ℕ) (sized : size ≡ get_or ss i 0) (is : end ≡ min (at + size) (length d)) (within : at ≤ length d)
-      (r : Answer) (told : said_answer r ≡ says (codes_of (take (end - at) (drop at d)))) where
+  module _ (more : i < count) (size end : ℕ) (sized : size ≡ get_or ss i 0) (is : end ≡ min (at + size) (length d)) (within : at ≤ length d) where
     here : get_or (drop i ss) 0 0 ≡ size
     here = let e : i + 0 ≡ i = omega arith in get_or-drop i ss 0 0 ∙ rw (e, sized)
 
@@ -148,14 +165,14 @@ module _ (count : ℕ) (ss d : List ℕ) (i at : ℕ) (so : checked_from count s
     part = rw here (part_as d at size end is within)
 
     -- the next is cut
-    pub one_cut : r ≡ answer.Accepted → checked_from count ss d ≡ checked_from (count - (i + 1)) (drop (i + 1) ss) (drop end d)
+    pub one_cut : accepted [] ≡ says (codes_of (take (end - at) (drop at d))) → checked_from count ss d ≡ checked_from (count - (i + 1)) (drop (i + 1) ss) (drop end d)
     one_cut e =
-        let g = is_cut (take (end - at) (drop at d)) r told e in
+        let g = is_cut (take (end - at) (drop at d)) e in
         let n : count - i - 1 ≡ count - (i + 1) = omega arith in
         so ∙ each_next (count - i) (drop i ss) (drop at d) (omega arith) g.0 (rw (← part) g.1) ∙ rw (n, drop-drop 1 i ss, here, ← rest_as d at size end is within)
 
     -- or refused
-    pub one_not : (why : Refusal) → r ≡ answer.Refused why → said_answer r ≡ checked_from count ss d
+    pub one_not : (why : Refusal) → said_refusal why ≡ says (codes_of (take (end - at) (drop at d))) → said_refusal why ≡ checked_from count ss d
     one_not why e =
-        let g = is_not (take (end - at) (drop at d)) r told why e in
-        ap said_answer e ∙ sym (so ∙ each_refused (count - i) (drop i ss) (drop at d) (omega arith) (said_refusal why) (rw (← part) g))
+        let g = is_not (take (end - at) (drop at d)) why e in
+        sym (so ∙ each_refused (count - i) (drop i ss) (drop at d) (omega arith) (said_refusal why) (rw (← part) g))

@@ -8,28 +8,24 @@ use borrow.Author.Tests.{eq-eqb, ne_eqb, le-leb, lt-leb, lt-ltb, le-ltb, leb-tru
 use lib.Dec.{leb}
 use lib.ListN.{length, get_or, take, drop, length-drop, drop_of_length-le, get_or-eq_default}
 use lib.Seq.{get_or-drop, drop-drop}
-use Rattle.model.specs.Said.{Said, Outcome, gave, refused, mapped, accepted, says_with, after, unknown_length, code_cut_short}
+use Rattle.model.specs.Said.{Said, Outcome, gave, refused, mapped, after, unknown_length, code_cut_short}
 use Rattle.model.specs.Codes.{length_by, told_length, is_untold, code_in, codes_of}
 use Rattle.model.proofs.Cases.{by_test}
-use Rattle.model.proofs.Codes.{coded, code_numbered, codes_next, codes_refused, codes_none, codes_numbered}
-use Rattle.caption.specs.declared.Counted.{Counted}
-use Rattle.caption.specs.declared.Counted.TheVariants.{Count, Refused}
-use Rattle.caption.specs.declared.Refusal.{Refusal}
-use Rattle.caption.specs.Answers.{said_refusal, said_counted}
-use Rattle.caption.proofs.Answers.{refused_with, given_with}
-use Rattle.codes_cuts.specs.Cuts.{the_length, how_many, cut_of, whole_of, Reached}
+use Rattle.model.proofs.Codes.{coded, codes_next, codes_refused, codes_none}
+use Rattle.codes_cuts.specs.Cuts.{how_many, cut_of, whole_of, Reached}
+use Rattle.codes_cuts.proofs.Outcomes.{told_gave, told_refused}
 
 -- a code of a length where so many bytes are left
 module _ (k left : ℕ) where
-  pub no_length : k ≡ 0 → unknown_length ≡ says_with the_length (whole_of k left)
+  pub no_length : k ≡ 0 → refused unknown_length ≡ whole_of k left
   unfolding whole_of
   no_length z = rw (eq-eqb k 0 z)
 
-  pub cut_short : (k ≡ 0 → ⊥) → left < k → code_cut_short ≡ says_with the_length (whole_of k left)
+  pub cut_short : (k ≡ 0 → ⊥) → left < k → refused code_cut_short ≡ whole_of k left
   unfolding whole_of
   cut_short z l = rw (ne_eqb k 0 z, lt-ltb left k l)
 
-  pub all_there : (k ≡ 0 → ⊥) → k ≤ left → accepted (k ∷ []) ≡ says_with the_length (whole_of k left)
+  pub all_there : (k ≡ 0 → ⊥) → k ≤ left → gave k ≡ whole_of k left
   unfolding whole_of
   all_there z l = rw (ne_eqb k 0 z, le-ltb left k l)
 
@@ -52,51 +48,44 @@ module _ (d : List ℕ) (at : ℕ) where
   head_at : get_or (drop at d) 0 0 ≡ get_or d at 0
   head_at = let e : at + 0 ≡ at = omega arith in get_or-drop at d 0 0 ∙ rw e
 
-  pub none_left : length d ≤ at → code_cut_short ≡ says_with the_length (code_in (drop at d))
+  pub none_left : length d ≤ at → refused code_cut_short ≡ code_in (drop at d)
   unfolding code_in is_untold
   none_left h = rw (drop_of_length-le d h)
 
   module _ (left : ℕ) (is : left ≡ length d - at) (there : at < length d) where
-    pub told_first : (k : ℕ) (said : Said) → (get_or d at 0 ≡ 0x10 → ⊥) → k ≡ length_by false (get_or d at 0)
-        → said ≡ says_with the_length (whole_of k left) → said ≡ says_with the_length (code_in (drop at d))
+    pub told_first : (k : ℕ) (said : Outcome ℕ) → (get_or d at 0 ≡ 0x10 → ⊥) → k ≡ length_by false (get_or d at 0)
+        → said ≡ whole_of k left → said ≡ code_in (drop at d)
     told_first k said n e s =
         let l = length-drop at d in
         s ∙ rw (by_first (drop at d) (omega arith) (λ z. n (sym head_at ∙ z)), head_at, l, e, is)
 
-    pub told_second : (k : ℕ) (said : Said) → get_or d at 0 ≡ 0x10 → (left ≡ 1 → ⊥) → k ≡ length_by true (get_or d (at + 1) 0)
-        → said ≡ says_with the_length (whole_of k left) → said ≡ says_with the_length (code_in (drop at d))
+    pub told_second : (k : ℕ) (said : Outcome ℕ) → get_or d at 0 ≡ 0x10 → (left ≡ 1 → ⊥) → k ≡ length_by true (get_or d (at + 1) 0)
+        → said ≡ whole_of k left → said ≡ code_in (drop at d)
     told_second k said f n e s =
         let l = length-drop at d in
         s ∙ rw (by_second (drop at d) (omega arith) (head_at ∙ f), get_or-drop at d 1 0, l, e, is)
 
-    pub not_told : get_or d at 0 ≡ 0x10 → left ≡ 1 → code_cut_short ≡ says_with the_length (code_in (drop at d))
+    pub not_told : get_or d at 0 ≡ 0x10 → left ≡ 1 → refused code_cut_short ≡ code_in (drop at d)
     not_told f n = rw (alone (drop at d) (omega (arith, length-drop at d)) (head_at ∙ f))
 
--- the codes from a byte on, whose code an answer tells
-module _ (d : List ℕ) (at : ℕ) (r : Counted) (told : said_counted r ≡ says_with the_length (code_in (drop at d))) where
-  -- a refusal is that of all
-  pub refused_from : (why : Refusal) → r ≡ Refused why → at < length d → codes_of (drop at d) ≡ refused (said_refusal why)
-  refused_from why e h =
-      codes_refused (drop at d) (said_refusal why) (omega (arith, length-drop at d)) (refused_with the_length why (code_in (drop at d)) (sym (ap said_counted e) ∙ told))
+-- the codes from a byte on
+module _ (d : List ℕ) (at : ℕ) where
+  -- a refusal there is that of all
+  pub refused_from : (why : Said) → refused why ≡ code_in (drop at d) → at < length d → codes_of (drop at d) ≡ refused why
+  refused_from why e h = codes_refused (drop at d) why (omega (arith, length-drop at d)) (sym e)
 
-  module _ (k : ℕ) (e : r ≡ Count k) where
-    is_code : code_in (drop at d) ≡ gave k
-    is_code =
-        let g = given_with the_length (k ∷ []) (code_in (drop at d)) (code_numbered (drop at d)) (sym (ap said_counted e) ∙ told) in
-        let z : k ≡ g.0 = ap (λ (v : List ℕ). get_or v 0 0) g.2 in
-        g.1 ∙ ap gave (sym z)
-
+  module _ (k : ℕ) (e : gave k ≡ code_in (drop at d)) where
     -- a code is within the payload, and has a byte at least
     pub code_within : (1 ≤ k) × (at + k ≤ length d)
-    code_within = let c = coded (drop at d) k is_code in (c.some, omega (arith, length-drop at d, c.some, c.fits))
+    code_within = let c = coded (drop at d) k (sym e) in (c.some, omega (arith, length-drop at d, c.some, c.fits))
 
     -- and behind it are the others
     pub codes_behind : codes_of (drop at d) ≡ mapped (λ cs. take k (drop at d) ∷ cs) (codes_of (drop (at + k) d))
-    codes_behind = codes_next (drop at d) k is_code ∙ rw (drop-drop k at d)
+    codes_behind = codes_next (drop at d) k (sym e) ∙ rw (drop-drop k at d)
 
 -- how many codes there are, with so many before them
-abbrev pub counted : ℕ → Outcome (List (List ℕ)) → Said
-counted n o = says_with (λ cs. (n + length cs) ∷ []) o
+abbrev pub counted : ℕ → Outcome (List (List ℕ)) → Outcome ℕ
+counted n o = mapped (λ cs. n + length cs) o
 
 -- one of them counted
 counted_one : (n : ℕ) (c : List ℕ) (o : Outcome (List (List ℕ))) → counted n (mapped (λ cs. c ∷ cs) o) ≡ counted (n + 1) o
@@ -104,23 +93,22 @@ counted_one n c (gave cs) = let e : n + suc (length cs) ≡ n + 1 + length cs = 
 counted_one n c (refused why) = refl
 
 -- none of them yet
-pub counted_none : (o : Outcome (List (List ℕ))) → says_with how_many o ≡ counted 0 o
+pub counted_none : (o : Outcome (List (List ℕ))) → mapped how_many o ≡ counted 0 o
 counted_none (gave cs) = let e : 0 + length cs ≡ length cs = omega arith in rw e
 counted_none (refused why) = refl
 
-module _ (d : List ℕ) (at n : ℕ) (so : says_with how_many (codes_of d) ≡ counted n (codes_of (drop at d))) where
+module _ (d : List ℕ) (at n : ℕ) (so : mapped how_many (codes_of d) ≡ counted n (codes_of (drop at d))) where
   -- all of them
-  pub counted_all : length d ≤ at → accepted (n ∷ []) ≡ says_with how_many (codes_of d)
+  pub counted_all : length d ≤ at → gave n ≡ mapped how_many (codes_of d)
   counted_all h = let e : n + 0 ≡ n = omega arith in sym (so ∙ rw (drop_of_length-le d h, codes_none, e))
 
-  module _ (r : Counted) (told : said_counted r ≡ says_with the_length (code_in (drop at d))) where
-    -- one more
-    pub counted_next : (k : ℕ) → r ≡ Count k → says_with how_many (codes_of d) ≡ counted (n + 1) (codes_of (drop (at + k) d))
-    counted_next k e = so ∙ rw (codes_behind d at r told k e) (counted_one n (take k (drop at d)) (codes_of (drop (at + k) d)))
+  -- one more
+  pub counted_next : (k : ℕ) → gave k ≡ code_in (drop at d) → mapped how_many (codes_of d) ≡ counted (n + 1) (codes_of (drop (at + k) d))
+  counted_next k e = so ∙ rw (codes_behind d at k e) (counted_one n (take k (drop at d)) (codes_of (drop (at + k) d)))
 
-    -- or a refusal
-    pub counted_not : (why : Refusal) → r ≡ Refused why → at < length d → said_counted r ≡ says_with how_many (codes_of d)
-    counted_not why e h = ap said_counted e ∙ sym (so ∙ rw (refused_from d at r told why e h))
+  -- or a refusal
+  pub counted_not : (why : Said) → refused why ≡ code_in (drop at d) → at < length d → refused why ≡ mapped how_many (codes_of d)
+  counted_not why e h = sym (so ∙ rw (refused_from d at why e h))
 
 -- a payload that has codes is cut
 has_codes : (d : List ℕ) (o : Outcome (List (List ℕ))) (place : ℕ) → codes_of d ≡ o → place < length (after [] o) → codes_of d ≡ gave (after [] o)
@@ -142,45 +130,43 @@ module _ (d : List ℕ) where
         absurd (omega (arith, length-drop place (cut_of d))))
         (λ e. leb-false (length d) at e)
 
-    module _ (r : Counted) (told : said_counted r ≡ says_with the_length (code_in (drop at d))) where
-      -- a code begins there
-      pub reached_code : (why : Refusal) → r ≡ Refused why → ⊥
-      reached_code why e =
-          let q = refused_from d at r told why e reached_some in
-          let g = here.codes in
-          let z : ◌≡◌ {A = ℕ} 0 1 = cc in omega arith
+    -- a code begins there
+    pub reached_code : (why : Said) → refused why ≡ code_in (drop at d) → ⊥
+    reached_code why e =
+        let q = refused_from d at why e reached_some in
+        let g = here.codes in
+        let z : ◌≡◌ {A = ℕ} 0 1 = cc in omega arith
 
-      module _ (k : ℕ) (e : r ≡ Count k) where
-        -- the code, and those behind it
-        both_of : (o : Outcome (List (List ℕ))) → gave (drop place (cut_of d)) ≡ mapped (λ cs. take k (drop at d) ∷ cs) o
-            → (drop place (cut_of d) ≡ take k (drop at d) ∷ after [] o) × (o ≡ gave (after [] o))
-        both_of (gave cs) q = (cc, refl)
-        both_of (refused why) q = let z : ◌≡◌ {A = ℕ} 0 1 = cc in absurd (omega arith)
+    module _ (k : ℕ) (e : gave k ≡ code_in (drop at d)) where
+      -- the code, and those behind it
+      both_of : (o : Outcome (List (List ℕ))) → gave (drop place (cut_of d)) ≡ mapped (λ cs. take k (drop at d) ∷ cs) o
+          → (drop place (cut_of d) ≡ take k (drop at d) ∷ after [] o) × (o ≡ gave (after [] o))
+      both_of (gave cs) q = (cc, refl)
+      both_of (refused why) q = let z : ◌≡◌ {A = ℕ} 0 1 = cc in absurd (omega arith)
 
-        split : (drop place (cut_of d) ≡ take k (drop at d) ∷ cut_of (drop (at + k) d)) × (codes_of (drop (at + k) d) ≡ gave (cut_of (drop (at + k) d)))
-        split = both_of (codes_of (drop (at + k) d)) (sym here.codes ∙ codes_behind d at r told k e)
+      split : (drop place (cut_of d) ≡ take k (drop at d) ∷ cut_of (drop (at + k) d)) × (codes_of (drop (at + k) d) ≡ gave (cut_of (drop (at + k) d)))
+      split = both_of (codes_of (drop (at + k) d)) (sym here.codes ∙ codes_behind d at k e)
 
-        pub reached_is : take k (drop at d) ≡ get_or (cut_of d) place []
-        reached_is = let e : place + 0 ≡ place = omega arith in sym (ap (λ (cs : List (List ℕ)). get_or cs 0 []) split.0) ∙ get_or-drop place (cut_of d) 0 [] ∙ rw e
+      pub reached_is : take k (drop at d) ≡ get_or (cut_of d) place []
+      reached_is = let e : place + 0 ≡ place = omega arith in sym (ap (λ (cs : List (List ℕ)). get_or cs 0 []) split.0) ∙ get_or-drop place (cut_of d) 0 [] ∙ rw e
 
-        pub reached_next : Reached d (place + 1) (at + k)
-        reached_next =
-            record {
-              within = (code_within d at r told k e).1;
-              codes = split.1 ∙ ap gave (sym (sym (drop-drop 1 place (cut_of d)) ∙ ap (drop 1) split.0));
-            }
+      pub reached_next : Reached d (place + 1) (at + k)
+      reached_next =
+          record {
+            within = (code_within d at k e).1;
+            codes = split.1 ∙ ap gave (sym (sym (drop-drop 1 place (cut_of d)) ∙ ap (drop 1) split.0));
+          }
 
 -- how many codes were counted
-module _ (d : List ℕ) (r : Counted) (told : said_counted r ≡ says_with how_many (codes_of d)) where
+module _ (d : List ℕ) where
   -- none of a payload that is refused
-  pub not_cut : (why : Refusal) → r ≡ Refused why → (place : ℕ) → [] ≡ get_or (cut_of d) place []
-  not_cut why e place = rw (refused_with how_many why (codes_of d) (sym (ap said_counted e) ∙ told)) (sym (get_or-eq_default {A = List ℕ} [] [] {n = place} (omega arith)))
+  pub not_cut : (why : Said) → refused why ≡ mapped how_many (codes_of d) → (place : ℕ) → [] ≡ get_or (cut_of d) place []
+  not_cut why e place = rw (told_refused how_many (codes_of d) why e) (sym (get_or-eq_default {A = List ℕ} [] [] {n = place} (omega arith)))
 
-  pub cut_length : (n : ℕ) → r ≡ Count n → length (cut_of d) ≡ n
-  cut_length n e =
-      let g = given_with how_many (n ∷ []) (codes_of d) (codes_numbered d) (sym (ap said_counted e) ∙ told) in
-      ap (λ (o : Outcome (List (List ℕ))). length (after [] o)) g.1 ∙ sym (ap (λ (v : List ℕ). get_or v 0 0) g.2)
+  module _ (n : ℕ) (e : gave n ≡ mapped how_many (codes_of d)) where
+    pub cut_length : length (cut_of d) ≡ n
+    cut_length = let g = told_gave how_many (codes_of d) n e in ap (λ (o : Outcome (List (List ℕ))). length (after [] o)) g.1 ∙ sym g.2
 
-  -- none at a place behind all of them
-  pub past_all : (n place : ℕ) → r ≡ Count n → n ≤ place → [] ≡ get_or (cut_of d) place []
-  past_all n place e h = sym (get_or-eq_default (cut_of d) [] (omega (arith, cut_length n e)))
+    -- none at a place behind all of them
+    pub past_all : (place : ℕ) → n ≤ place → [] ≡ get_or (cut_of d) place []
+    past_all place h = sym (get_or-eq_default (cut_of d) [] (omega (arith, cut_length)))

@@ -1,15 +1,11 @@
 -- What is told of the codes of a payload. Assumes nothing.
-use Rattle.std.specs.Prelude.{◌≡◌, cond, List, [], ◌∷◌, ℕ, ◌≤◌, eqb, ltb, length, drop}
+use Rattle.std.specs.Prelude.{◌≡◌, cond, List, [], ℕ, ◌≤◌, eqb, ltb, length, drop}
 use Rattle.model.specs.Said.{Outcome, gave, refused, after, unknown_length, code_cut_short}
 use Rattle.model.specs.Codes.{codes_of}
 
--- of a code its length
-abbrev pub the_length : ℕ → List ℕ
-the_length k = k ∷ []
-
--- of several how many they are
-abbrev pub how_many : List (List ℕ) → List ℕ
-how_many cs = length cs ∷ []
+-- of several codes how many they are
+abbrev pub how_many : List (List ℕ) → ℕ
+how_many cs = length cs
 
 -- the codes of a payload; none where it is refused
 abbrev pub cut_of : List ℕ → List (List ℕ)

@@ -1,24 +1,14 @@
 -- The functions that every part shares. Assumes nothing.
 use mathlib.Core.Path.{sym, ◌∙◌}
 use contract.Lifetimes.{Lfts}
-use Rattle.basics.proofs.lesser.Reads as Lesser
 use Rattle.basics.proofs.cut.Reads as Cut
-use Rattle.basics.proofs.wide.Reads as Wide
 use Rattle.basics.proofs.put_bytes.Reads as PutBytesReads
 use Rattle.determined.specs.Determines.{Determines, DeterminesLent}
 use Rattle.determined.proofs.Ways.{equal, filled}
 
--- `lesser(a, b)`
-pub lesser : Determines (Lesser.Post (tt {0}))
-lesser = equal
-
 -- `cut(sum, step)`
 pub cut : Determines (Cut.Post (tt {0}))
 cut = equal
-
--- `wide(b)`
-pub wide : Determines (Wide.Post (tt {0}))
-wide = record { result = λ a r q e f h k. h.0 ∙ sym k.0 }
 
 -- `put_bytes(dst, at, src)`
 pub put_bytes : (κs : Lfts 2) → DeterminesLent (λ e. e.0.now) (PutBytesReads.Post κs)

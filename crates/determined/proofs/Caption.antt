@@ -1,5 +1,5 @@
 -- The frame rate's functions. Assumes nothing.
-use Rattle.caption.proofs.Rates.{said_budgets_injective}
+use Rattle.caption.proofs.Rates.{budgets_injective}
 use Rattle.caption.proofs.Framerate.new.Reads as new
 use Rattle.caption.proofs.Framerate.named.Reads as named
 use Rattle.caption.proofs.Framerate.numer.Reads as numer
@@ -26,4 +26,4 @@ framerate_denom = equal
 
 -- `rate.budgets()`
 pub framerate_budgets : Determines (budgets.Post (tt {0}))
-framerate_budgets = said said_budgets_injective
+framerate_budgets = said budgets_injective

@@ -40,7 +40,6 @@ pub mod ProgramLines
 pub mod CcreadReport
 pub mod CcpackReport
 pub mod ScriptAnswers
-pub mod Asked
 pub mod ScriptBlocks
 pub mod ScriptServices
 pub mod ScriptPackets

@@ -1,25 +1,7 @@
 -- The packet's functions. Assumes nothing.
-use mathlib.Core.Path.{refl, sym, ◌∙◌}
-use mathlib.Core.Bool.{cond}
-use mathlib.Core.List.{List}
-use mathlib.Mathlib.Logic.Function.Defs.{Injective, LeftInverse, LeftInverse-Injective}
-use Prim.Native.Nat.{ℕ}
-use lib.Dec.{eqb}
-use lib.ListN.{get_or}
+use mathlib.Core.Path.{sym, ◌∙◌}
 use contract.Lifetimes.{Lfts}
-use Rattle.model.specs.Said.{Outcome}
-use Rattle.model.specs.Block.{Block}
-use Rattle.model.specs.Packet.{Packet}
-use Rattle.caption.proofs.Answers.{answer_of, refused_again, said_counted_injective, said_truth_injective}
-use Rattle.service.specs.declared.Service.{Service}
-use Rattle.packet.specs.Packet.{Answers}
-use Rattle.packet.specs.Place.{said_place, Placed}
-use Rattle.packet.specs.declared.DTVCCPacket.{DTVCCPacket}
-use Rattle.packet.specs.declared.PacketAnswer.{PacketAnswer}
-use Rattle.packet.specs.declared.Place.{Place}
-use Rattle.packet.specs.declared.Place.TheVariants.{Here, Nothing, Refused}
-use Rattle.packet.specs.declared.ServiceAt.{ServiceAt}
-use Rattle.determined.proofs.Service.{writes}
+use Rattle.caption.proofs.Outcomes.{outcome_injective, says_injective}
 use Rattle.packet.proofs.packet_size.Reads as PacketSizeReads
 use Rattle.packet.proofs.reads_in.Reads as ReadsIn
 use Rattle.packet.proofs.DTVCCPacket.new.Reads as new
@@ -39,37 +21,8 @@ use Rattle.packet.proofs.DTVCCPacket.parse.Reads as parse
 use Rattle.packet.proofs.DTVCCPacket.parse_in.Reads as ParseIn
 use Rattle.packet.proofs.DTVCCPacket.parse_tidy.Reads as ParseTidyReads
 use Rattle.packet.proofs.DTVCCPacket.is_valid.Reads as IsValidReads
-use Rattle.packet.proofs.Replies.{one_answer}
-use Rattle.packet.proofs.Services.{said_set_injective}
 use Rattle.determined.specs.Determines.{Determines, DeterminesLent}
-use Rattle.determined.proofs.Ways.{equal, said, two}
-
--- the place that its values tell
-abbrev place_of : List ℕ → Place
-place_of v = cond (eqb (get_or v 0 0) 1) Here Nothing
-
--- a place is taken back from what it says
-place_again : LeftInverse (answer_of place_of Refused) said_place
-place_again Here = refl
-place_again Nothing = refl
-place_again (Refused why) = refused_again place_of Refused why
-
--- no two places say the same
-said_place_injective : Injective said_place
-said_place_injective = LeftInverse-Injective (answer_of place_of Refused) said_place place_again
-
-module _ {A E : Type 0} where
-  -- an answer and a packet
-  pub answers : {o : A → Outcome Packet} {old : A → DTVCCPacket} → Determines (λ (a : A) (r : PacketAnswer) (e : E). Answers (o a) (old a) r)
-  answers = record { result = λ a r q e f h k. one_answer r q h k }
-
-  -- a place and the block there
-  placed : {o : A → Outcome (List Block)} → Determines (λ (a : A) (r : ServiceAt) (e : E). Placed (o a) r)
-  placed =
-      record {
-        result = λ a r q e f h k. two (λ (x : Place) (s : Service). record { place = x; service = s })
-            (said_place_injective r.place q.place (h.place ∙ sym k.place)) (h.service ∙ sym k.service);
-      }
+use Rattle.determined.proofs.Ways.{equal, said}
 
 -- `packet_size(h)`
 pub packet_size : Determines (PacketSizeReads.Post (tt {0}))
@@ -81,68 +34,72 @@ reads_in κs = equal
 
 -- `DTVCCPacket::new(seq_no)`
 pub dtvcc_packet_new : Determines (new.Post (tt {0}))
-dtvcc_packet_new = answers
+dtvcc_packet_new = record { result = λ a r q e f h k. outcome_injective r q (h.1 ∙ sym k.1) }
 
 -- `packet.sequence_no()`
-pub dtvcc_packet_sequence_no : Determines (SequenceNoReads.Post (tt {0}))
-dtvcc_packet_sequence_no = said said_counted_injective
+pub dtvcc_packet_sequence_no : (κs : Lfts 1) → Determines (SequenceNoReads.Post κs)
+dtvcc_packet_sequence_no κs = said outcome_injective
 
 -- `packet.free_space()`
-pub dtvcc_packet_free_space : Determines (FreeSpaceReads.Post (tt {0}))
-dtvcc_packet_free_space = said said_counted_injective
+pub dtvcc_packet_free_space : (κs : Lfts 1) → Determines (FreeSpaceReads.Post κs)
+dtvcc_packet_free_space κs = said outcome_injective
 
 -- `packet.len()`
-pub dtvcc_packet_len : Determines (len.Post (tt {0}))
-dtvcc_packet_len = said said_counted_injective
+pub dtvcc_packet_len : (κs : Lfts 1) → Determines (len.Post κs)
+dtvcc_packet_len κs = said outcome_injective
 
 -- `packet.is_empty()`
-pub dtvcc_packet_is_empty : Determines (IsEmptyReads.Post (tt {0}))
-dtvcc_packet_is_empty = said said_truth_injective
+pub dtvcc_packet_is_empty : (κs : Lfts 1) → Determines (IsEmptyReads.Post κs)
+dtvcc_packet_is_empty κs = said outcome_injective
 
 -- `packet.service_count()`
-pub dtvcc_packet_service_count : Determines (ServiceCountReads.Post (tt {0}))
-dtvcc_packet_service_count = said said_counted_injective
+pub dtvcc_packet_service_count : (κs : Lfts 1) → Determines (ServiceCountReads.Post κs)
+dtvcc_packet_service_count κs = said outcome_injective
 
 -- `packet.service_set()`
-pub dtvcc_packet_service_set : Determines (ServiceSetReads.Post (tt {0}))
-dtvcc_packet_service_set = said said_set_injective
+pub dtvcc_packet_service_set : (κs : Lfts 1) → Determines (ServiceSetReads.Post κs)
+dtvcc_packet_service_set κs = said outcome_injective
 
 -- `packet.distinct_services()`
-pub dtvcc_packet_distinct_services : Determines (DistinctServicesReads.Post (tt {0}))
-dtvcc_packet_distinct_services = said said_counted_injective
-
--- `packet.write(out)`
-pub dtvcc_packet_write : (κs : Lfts 1) → DeterminesLent (λ e. e.1.0.now) (write.Post κs)
-dtvcc_packet_write κs = writes
+pub dtvcc_packet_distinct_services : (κs : Lfts 1) → Determines (DistinctServicesReads.Post κs)
+dtvcc_packet_distinct_services κs = said outcome_injective
 
 -- `packet.service(place)`
-pub dtvcc_packet_service : Determines (service.Post (tt {0}))
-dtvcc_packet_service = placed
+pub dtvcc_packet_service : (κs : Lfts 1) → Determines (service.Post κs)
+dtvcc_packet_service κs = said outcome_injective
 
 -- `packet.push_service(service)`
-pub dtvcc_packet_push_service : Determines (PushServiceReads.Post (tt {0}))
-dtvcc_packet_push_service = answers
+pub dtvcc_packet_push_service : (κs : Lfts 2) → DeterminesLent (λ e. e.0.now) (PushServiceReads.Post κs)
+dtvcc_packet_push_service κs =
+    record { result = λ a r q e f h k. says_injective r q (h.0 ∙ sym k.0); contents = λ a r q e f h k. h.1.1.0 ∙ sym k.1.1.0 }
 
 -- `packet.push_code(service_no, code)`
-pub dtvcc_packet_push_code : (κs : Lfts 1) → Determines (PushCodeReads.Post κs)
-dtvcc_packet_push_code κs = answers
+pub dtvcc_packet_push_code : (κs : Lfts 2) → DeterminesLent (λ e. e.0.now) (PushCodeReads.Post κs)
+dtvcc_packet_push_code κs =
+    record { result = λ a r q e f h k. says_injective r q (h.0 ∙ sym k.0); contents = λ a r q e f h k. h.1.1.0 ∙ sym k.1.1.0 }
 
 -- `packet.push_code_into_single_service(service_no, code)`
-pub dtvcc_packet_push_code_into_single_service : (κs : Lfts 1) → Determines (PushCodeIntoSingleServiceReads.Post κs)
-dtvcc_packet_push_code_into_single_service κs = answers
+pub dtvcc_packet_push_code_into_single_service : (κs : Lfts 2) → DeterminesLent (λ e. e.0.now) (PushCodeIntoSingleServiceReads.Post κs)
+dtvcc_packet_push_code_into_single_service κs =
+    record { result = λ a r q e f h k. says_injective r q (h.0 ∙ sym k.0); contents = λ a r q e f h k. h.1.1.0 ∙ sym k.1.1.0 }
 
 -- `DTVCCPacket::parse(data)`
 pub dtvcc_packet_parse : (κs : Lfts 1) → Determines (parse.Post κs)
-dtvcc_packet_parse κs = answers
+dtvcc_packet_parse κs = record { result = λ a r q e f h k. outcome_injective r q (h.1 ∙ sym k.1) }
 
 -- `DTVCCPacket::parse_in(bytes, len)`
 pub dtvcc_packet_parse_in : (κs : Lfts 1) → Determines (ParseIn.Post κs)
-dtvcc_packet_parse_in κs = answers
+dtvcc_packet_parse_in κs = record { result = λ a r q e f h k. outcome_injective r q (h.1 ∙ sym k.1) }
 
 -- `DTVCCPacket::parse_tidy(data)`
 pub dtvcc_packet_parse_tidy : (κs : Lfts 1) → Determines (ParseTidyReads.Post κs)
-dtvcc_packet_parse_tidy κs = answers
+dtvcc_packet_parse_tidy κs = record { result = λ a r q e f h k. outcome_injective r q (h.1 ∙ sym k.1) }
+
+-- `packet.write(out)`
+pub dtvcc_packet_write : (κs : Lfts 2) → DeterminesLent (λ e. e.1.0.now) (write.Post κs)
+dtvcc_packet_write κs =
+    record { result = λ a r q e f h k. outcome_injective r q (h.0 ∙ sym k.0); contents = λ a r q e f h k. h.1.0 ∙ sym k.1.0 }
 
 -- `packet.is_valid()`
-pub dtvcc_packet_is_valid : Determines (IsValidReads.Post (tt {0}))
-dtvcc_packet_is_valid = equal
+pub dtvcc_packet_is_valid : (κs : Lfts 1) → Determines (IsValidReads.Post κs)
+dtvcc_packet_is_valid κs = equal

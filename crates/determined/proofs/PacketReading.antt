@@ -1,14 +1,15 @@
--- The functions that read a packet. Assumes nothing.
-use contract.Lifetimes.{Lfts}
+-- The functions that read a packet, whichever way W they go. Assumes nothing.
+use denote.RattleType.{RattleType}
+use Rattle.caption.proofs.Outcomes.{outcome_injective}
 use Rattle.packet_reading.proofs.read_in.Reads as ReadIn
 use Rattle.packet_reading.proofs.read.Reads as Read
 use Rattle.determined.specs.Determines.{Determines}
-use Rattle.determined.proofs.PacketBlocks.{reads_as}
+use Rattle.determined.proofs.Ways.{said}
 
--- `read_in(bytes, len, tidy)`
-pub read_in : (κs : Lfts 1) → Determines (ReadIn.Post κs)
-read_in κs = reads_as
+-- `read_in::<W>(bytes, len)`
+pub read_in : (W : RattleType) (laws : _) (Way : _) (dict : _) (κs : _) → Determines (ReadIn.Post W laws Way dict κs)
+read_in W laws Way dict κs = said outcome_injective
 
--- `read(data, tidy)`
-pub read : (κs : Lfts 1) → Determines (Read.Post κs)
-read κs = reads_as
+-- `read::<W>(data)`
+pub read : (W : RattleType) (laws : _) (Way : _) (dict : _) (κs : _) → Determines (Read.Post W laws Way dict κs)
+read W laws Way dict κs = said outcome_injective

@@ -1,21 +1,30 @@
--- The function that takes an item out of what waits. Assumes nothing.
-use mathlib.Core.Path.{◌≡◌, sym, ap, ◌∙◌}
+-- The functions that take an item out of what waits. Assumes nothing.
+use mathlib.Core.Path.{sym, ◌∙◌}
 use mathlib.Core.List.{List}
 use Prim.Native.Nat.{ℕ}
 use contract.Lifetimes.{Lfts}
-use Rattle.parser_draws.specs.Take.{Taking, took_by}
-use Rattle.parser_draws.specs.declared.Took.{Took}
-use Rattle.parser_draws.proofs.take_item.Reads as TakeItemReads
-use Rattle.determined.specs.Determines.{DeterminesLent}
+use Rattle.parser_draws.proofs.no_packet.Reads as NoPacketReads
+use Rattle.parser_draws.proofs.take_pair.Reads as TakePairReads
+use Rattle.parser_draws.proofs.take_packet.Reads as TakePacketReads
+use Rattle.determined.specs.Determines.{Determines, DeterminesLent}
+use Rattle.determined.proofs.Ways.{equal, two}
 
--- what the code gives, taken back
-abbrev took_in : Taking → Took
-took_in x = record { next = x.next; packet = x.packet; left = x.left }
+-- `no_packet()`
+pub no_packet : Determines (NoPacketReads.Post (tt {0}))
+no_packet = equal
 
--- an item, with the list of pairs in a lent place
-takes : {A E : Type 0} {item : A → Taking} {lent : E → List ℕ} → DeterminesLent lent (λ (a : A) (r : Took) (e : E). took_by r (lent e) ≡ item a)
-takes = record { result = λ a r q e f h k. ap took_in (h ∙ sym k); contents = λ a r q e f h k. ap (λ (x : Taking). x.places) (h ∙ sym k) }
+-- `take_pair(pairs, count)`
+pub take_pair : (κs : Lfts 2) → DeterminesLent {X = List ℕ × ℕ} (λ e. (e.0.now, e.1.0.now)) (TakePairReads.Post κs)
+take_pair κs =
+    record {
+      result = λ a r q e f h k. h.0 ∙ sym k.0;
+      contents = λ a r q e f h k. two (λ x y. (x, y)) (h.1.1 ∙ sym k.1.1) (h.1.0 ∙ sym k.1.0);
+    }
 
--- `take_item(rest, w, pairs, slot)`
-pub take_item : (κs : Lfts 1) → DeterminesLent (λ e. e.1.1.0.now) (TakeItemReads.Post κs)
-take_item κs = takes
+-- `take_packet(slots, first, count)`
+pub take_packet : (κs : Lfts 3) → DeterminesLent {X = ℕ × ℕ} (λ e. (e.1.0.now, e.1.1.0.now)) (TakePacketReads.Post κs)
+take_packet κs =
+    record {
+      result = λ a r q e f h k. h.0 ∙ sym k.0;
+      contents = λ a r q e f h k. two (λ x y. (x, y)) (h.1.1 ∙ sym k.1.1) (h.1.0 ∙ sym k.1.0);
+    }

@@ -4,7 +4,7 @@ use mathlib.Core.List.{List}
 use Prim.Native.Nat.{ℕ}
 use contract.Lifetimes.{Lfts}
 use Rattle.parser_lists.specs.Listing.{Listing}
-use Rattle.parser_lists.proofs.list_by.Reads as ListByReads
+use Rattle.parser_lists.proofs.list_frame.Reads as ListFrameReads
 use Rattle.parser_lists.proofs.list_good.Reads as ListGoodReads
 use Rattle.determined.specs.Determines.{Determines, DeterminesLent}
 use Rattle.determined.proofs.Ways.{equal}
@@ -13,9 +13,9 @@ use Rattle.determined.proofs.Ways.{equal}
 lists : {A E : Type 0} {list : A → Listing} {lent : E → List ℕ} → DeterminesLent lent (λ (a : A) (r : ℕ) (e : E). record { count = r; places = lent e } ≡ list a)
 lists = record { result = λ a r q e f h k. ap (λ (x : Listing). x.count) (h ∙ sym k); contents = λ a r q e f h k. ap (λ (x : Listing). x.places) (h ∙ sym k) }
 
--- `list_by(lists, on, pairs, frame)`
-pub list_by : (κs : Lfts 2) → DeterminesLent (λ e. e.1.1.0.now) (ListByReads.Post κs)
-list_by κs = lists
+-- `list_frame(on, pairs, frame)`
+pub list_frame : (κs : Lfts 2) → DeterminesLent (λ e. e.1.0.now) (ListFrameReads.Post κs)
+list_frame κs = lists
 
 -- `list_good(on, pairs, n)`
 pub list_good : (κs : Lfts 1) → Determines (ListGoodReads.Post κs)

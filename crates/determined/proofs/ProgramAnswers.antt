@@ -1,7 +1,7 @@
 -- The functions that tell what answers say, as numbers. Assumes nothing.
 use Rattle.program_answers.proofs.tell_refusal.Reads as TellRefusalReads
-use Rattle.program_answers.proofs.tell_answer.Reads as TellAnswerReads
-use Rattle.program_answers.proofs.tell_counted.Reads as TellCountedReads
+use Rattle.program_answers.proofs.tell_done.Reads as TellDoneReads
+use Rattle.program_answers.proofs.tell_count.Reads as TellCountReads
 use Rattle.determined.specs.Determines.{Determines}
 use Rattle.determined.proofs.Ways.{equal}
 
@@ -9,10 +9,10 @@ use Rattle.determined.proofs.Ways.{equal}
 pub tell_refusal : Determines (TellRefusalReads.Post (tt {0}))
 tell_refusal = equal
 
--- `tell_answer(answer)`
-pub tell_answer : Determines (TellAnswerReads.Post (tt {0}))
-tell_answer = equal
+-- `tell_done(answer)`
+pub tell_done : Determines (TellDoneReads.Post (tt {0}))
+tell_done = equal
 
--- `tell_counted(counted)`
-pub tell_counted : Determines (TellCountedReads.Post (tt {0}))
-tell_counted = equal
+-- `tell_count(answer)`
+pub tell_count : Determines (TellCountReads.Post (tt {0}))
+tell_count = equal

@@ -2,11 +2,12 @@
 use contract.Lifetimes.{Lfts}
 use Rattle.determined.proofs.ProgramText.{lays}
 use Rattle.program_lines.proofs.put_value.Reads as PutValueReads
+use Rattle.program_lines.proofs.put_numbers.Reads as PutNumbersReads
 use Rattle.program_lines.proofs.put_run.Reads as PutRunReads
 use Rattle.program_lines.proofs.put_block.Reads as PutBlockReads
 use Rattle.program_lines.proofs.put_refusal.Reads as PutRefusalReads
-use Rattle.program_lines.proofs.put_answer.Reads as PutAnswerReads
-use Rattle.program_lines.proofs.put_counted.Reads as PutCountedReads
+use Rattle.program_lines.proofs.put_done.Reads as PutDoneReads
+use Rattle.program_lines.proofs.put_count.Reads as PutCountReads
 use Rattle.program_lines.proofs.put_pair.Reads as PutPairReads
 use Rattle.program_lines.proofs.put_packet.Reads as PutPacketReads
 use Rattle.program_lines.proofs.put_frame_line.Reads as PutFrameLineReads
@@ -18,6 +19,10 @@ use Rattle.determined.specs.Determines.{DeterminesLent}
 -- `put_value(out, at, n)`
 pub put_value : (κs : Lfts 1) → DeterminesLent (λ e. e.0.now) (PutValueReads.Post κs)
 put_value κs = lays
+
+-- `put_numbers(out, at, numbers)`
+pub put_numbers : (κs : Lfts 2) → DeterminesLent (λ e. e.0.now) (PutNumbersReads.Post κs)
+put_numbers κs = lays
 
 -- `put_run(out, at, bytes)`
 pub put_run : (κs : Lfts 2) → DeterminesLent (λ e. e.0.now) (PutRunReads.Post κs)
@@ -31,13 +36,13 @@ put_block κs = lays
 pub put_refusal : (κs : Lfts 1) → DeterminesLent (λ e. e.0.now) (PutRefusalReads.Post κs)
 put_refusal κs = lays
 
--- `put_answer(out, at, answer)`
-pub put_answer : (κs : Lfts 1) → DeterminesLent (λ e. e.0.now) (PutAnswerReads.Post κs)
-put_answer κs = lays
+-- `put_done(out, at, answer)`
+pub put_done : (κs : Lfts 1) → DeterminesLent (λ e. e.0.now) (PutDoneReads.Post κs)
+put_done κs = lays
 
--- `put_counted(out, at, counted)`
-pub put_counted : (κs : Lfts 1) → DeterminesLent (λ e. e.0.now) (PutCountedReads.Post κs)
-put_counted κs = lays
+-- `put_count(out, at, answer)`
+pub put_count : (κs : Lfts 1) → DeterminesLent (λ e. e.0.now) (PutCountReads.Post κs)
+put_count κs = lays
 
 -- `put_pair(out, at, pair)`
 pub put_pair : (κs : Lfts 1) → DeterminesLent (λ e. e.0.now) (PutPairReads.Post κs)

@@ -5,6 +5,7 @@ use Prim.Native.Nat.{ℕ}
 use contract.Lifetimes.{Lfts}
 use Rattle.program_records.specs.Moved.{Moved}
 use Rattle.program_records.proofs.next_record.Reads as NextRecordReads
+use Rattle.program_records.proofs.behind.Reads as Behind
 use Rattle.program_records.proofs.part.Reads as Part
 use Rattle.program_records.proofs.byte_at.Reads as ByteAtReads
 use Rattle.program_records.proofs.number_at.Reads as NumberAtReads
@@ -20,6 +21,10 @@ module _ {A E : Type 0} {lent : E → List ℕ} where
 -- `next_record(bytes, at, ended, first, kinds)`
 pub next_record : (κs : Lfts 2) → Determines (NextRecordReads.Post κs)
 next_record κs = equal
+
+-- `behind(bytes, at)`
+pub behind : (κs : Lfts 1) → DeterminesPart (Behind.Post κs)
+behind κs = part_equal
 
 -- `part(bytes, start, len)`
 pub part : (κs : Lfts 1) → DeterminesPart (Part.Post κs)

@@ -1,5 +1,6 @@
 -- The functions that run the records of a script. Assumes nothing.
 use mathlib.Core.Path.{sym, ◌∙◌}
+use mathlib.Core.List.{List}
 use Prim.Native.Nat.{ℕ}
 use contract.Lifetimes.{Lfts}
 use Rattle.script_operations.specs.declared.Machine.{Machine}
@@ -13,9 +14,9 @@ pub fresh : Determines (Fresh.Post (tt {0}))
 fresh = equal
 
 -- `run_record(out, at, m, record)`
-pub run_record : (κs : Lfts 2) → DeterminesLent (λ e. e.0.now) (Run.Post κs)
+pub run_record : (κs : Lfts 3) → DeterminesLent {X = List ℕ × Machine} (λ e. (e.0.now, e.1.1.0.now)) (Run.Post κs)
 run_record κs =
     record {
-      result = λ a r q e g h k. two (λ (x : ℕ) (m : Machine). record { laid = x; machine = m }) (h.told.place ∙ sym k.told.place) (h.left ∙ sym k.left);
-      contents = λ a r q e g h k. h.told.bytes ∙ sym k.told.bytes;
+      result = λ a r q e g h k. h.told.place ∙ sym k.told.place;
+      contents = λ a r q e g h k. two (λ x y. (x, y)) (h.told.bytes ∙ sym k.told.bytes) (h.left ∙ sym k.left);
     }

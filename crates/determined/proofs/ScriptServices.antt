@@ -11,5 +11,5 @@ pub set_in : (κs : Lfts 1) → Determines (SetIn.Post κs)
 set_in κs = equal
 
 -- `put_services_line(out, at, packet)`
-pub put_services_line : (κs : Lfts 1) → DeterminesLent (λ e. e.0.now) (PutServicesLineReads.Post κs)
+pub put_services_line : (κs : Lfts 2) → DeterminesLent (λ e. e.0.now) (PutServicesLineReads.Post κs)
 put_services_line κs = lays

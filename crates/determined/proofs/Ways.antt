@@ -3,11 +3,6 @@ use mathlib.Core.Path.{◌≡◌, refl, sym, ap, ◌∙◌}
 use mathlib.Mathlib.Logic.Function.Defs.{Injective}
 use denote.Ref.{Bor}
 use Rattle.model.specs.Said.{Said}
-use Rattle.caption.specs.Answers.{said_refusal}
-use Rattle.caption.proofs.Answers.{said_refusal_injective}
-use Rattle.caption.specs.declared.Refusal.{Refusal}
-use Rattle.caption.specs.declared.Counted.{Counted}
-use Rattle.caption.specs.declared.Counted.TheVariants.{Refused}
 use Rattle.determined.specs.Determines.{Determines, DeterminesLent, DeterminesPart}
 
 module _ {A R E : Type 0} where
@@ -28,10 +23,11 @@ module _ {A E X : Type 0} {f : A → X} where
   pub part_equal : DeterminesPart (λ (a : A) (r : Bor X) (e : E). r.now ≡ f a)
   part_equal = record { part = λ a r q e f h k. h ∙ sym k }
 
+-- the result and what is lent, both at once
+pub at_once : {A R E X : Type 0} {lent : E → X} {post : A → R → E → Type 0}
+    → ((a : A) (r q : R) (e g : E) → post a r e → post a q g → (r ≡ q) × (lent e ≡ lent g)) → DeterminesLent lent post
+at_once f = record { result = λ a r q e g h k. (f a r q e g h k).0; contents = λ a r q e g h k. (f a r q e g h k).1 }
+
 -- a value of two parts
 pub two : {X Y R : Type 0} (make : X → Y → R) {x x' : X} {y y' : Y} → x ≡ x' → y ≡ y' → make x y ≡ make x' y'
 two make e f = rw (e, f)
-
--- two refusals that say the same
-pub refusal_same : (e f : Refusal) {r q : Counted} {why : Said} → r ≡ Refused e → q ≡ Refused f → said_refusal e ≡ why → said_refusal f ≡ why → r ≡ q
-refusal_same e f a b h k = a ∙ ap Refused (said_refusal_injective e f (h ∙ sym k)) ∙ sym b

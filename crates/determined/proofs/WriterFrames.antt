@@ -14,19 +14,19 @@ pub frame_start : Determines (start.Post (tt {0}))
 frame_start = equal
 
 -- `frame.has_room(n)`
-pub frame_has_room : Determines (HasRoomReads.Post (tt {0}))
-frame_has_room = equal
+pub frame_has_room : (κs : Lfts 1) → Determines (HasRoomReads.Post κs)
+frame_has_room κs = equal
 
 -- `frame.carry(packet, at, n)`
-pub frame_carry : Determines (carry.Post (tt {0}))
-frame_carry = equal
+pub frame_carry : (κs : Lfts 2) → DeterminesLent (λ e. e.0.now) (carry.Post κs)
+frame_carry κs = filled
 
 -- `frame.pad(n)`
-pub frame_pad : Determines (pad.Post (tt {0}))
-frame_pad = equal
+pub frame_pad : (κs : Lfts 1) → DeterminesLent (λ e. e.0.now) (pad.Post κs)
+frame_pad κs = filled
 
 -- `frame.emit(out)`
-pub frame_emit : (κs : Lfts 1) → DeterminesLent (λ e. e.1.0.now) (emit.Post κs)
+pub frame_emit : (κs : Lfts 2) → DeterminesLent (λ e. e.1.0.now) (emit.Post κs)
 frame_emit κs = filled
 
 -- `put(bytes, at, a, b, c)`

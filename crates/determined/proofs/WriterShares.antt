@@ -1,5 +1,5 @@
 -- What a frame gets of a rate. Assumes nothing.
-use Rattle.writer_shares.proofs.Shares.{outcome_of_injective}
+use Rattle.writer_shares.proofs.Shares.{share_injective}
 use Rattle.writer_shares.proofs.Carry.is_valid.Reads as IsValidReads
 use Rattle.writer_shares.proofs.Carry.share.Reads as share
 use Rattle.determined.specs.Determines.{Determines}
@@ -11,4 +11,4 @@ carry_is_valid = equal
 
 -- `carry.share(carrying, rate)`
 pub carry_share : Determines (share.Post (tt {0}))
-carry_share = said outcome_of_injective
+carry_share = said share_injective

@@ -12,11 +12,6 @@ pub record DeterminesLent {A R E X : Type 0} (lent : E → X) (post : A → R �
   pub result : (a : A) (r q : R) (e f : E) → post a r e → post a q f → r ≡ q
   pub contents : (a : A) (r q : R) (e f : E) → post a r e → post a q f → lent e ≡ lent f
 
--- and so for arguments whose arrays have the lengths that their types give them, where the contract speaks only of such
-pub record DeterminesTyped {A R E X : Type 0} (typed : A → Type 0) (lent : E → X) (post : A → R → E → Type 0) : Type 0 where
-  pub result : (a : A) (r q : R) (e f : E) → typed a → post a r e → post a q f → r ≡ q
-  pub contents : (a : A) (r q : R) (e f : E) → typed a → post a r e → post a q f → lent e ≡ lent f
-
 -- a result that is a part of the caller's own bytes: what the part holds
 pub record DeterminesPart {A E X : Type 0} (post : A → Bor X → E → Type 0) : Type 0 where
   pub part : (a : A) (r q : Bor X) (e f : E) → post a r e → post a q f → r.now ≡ q.now

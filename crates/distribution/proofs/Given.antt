@@ -1,6 +1,6 @@
 -- What a reader tells of a packet: its frame stands at the front of the output, and where that has room for every frame, 9 is not told. Assumes nothing.
 use mathlib.Core.Path.{◌≡◌, refl, sym, ap, subst, ◌∙◌}
-use mathlib.Core.List.{List, [], ◌∷◌, ◌++◌}
+use mathlib.Core.List.{List, [], ◌++◌}
 use mathlib.Core.Option.{Option}
 use Prim.Native.Nat.{ℕ, ◌/◌, ◌≤◌}
 use native.Mathlib.Omega.{arith}
@@ -8,20 +8,21 @@ use lib.Dec.{leb}
 use lib.ListN.{length, get_or, take, drop}
 use lib.Seq.{take_at}
 use borrow.Author.Tests.{leb-true, le-ltb}
+use Rattle.std.specs.Prelude.{Result, Ok, Err}
 use Rattle.model.specs.Said.{Said, Outcome, gave, refused, and_then, mapped, after, put_into}
-use Rattle.model.specs.Distribution.{Distribution, is_coded, has_mark, sections_in_order, counter_at, sums_up, counters_agree, held_in, opened, takes, frame_of, Received, received_into, receive}
+use Rattle.model.specs.Distribution.{Distribution, is_coded, has_mark, sections_in_order, counter_at, sums_up, counters_agree, held_in, opened, takes, frame_of, received_into, receive}
+use Rattle.model.specs.Distribution as packets
 use Rattle.model.proofs.Cases.{by_cond, both, Gives, gives_at, Refuses}
 use Rattle.model.proofs.Frames.{frame_length}
 use Rattle.model.proofs.Distribution.{passes_ordered, held_count, Passed, opened_passed}
-use Rattle.caption.specs.Answers.{said_refusal}
+use Rattle.caption.specs.Answers.{said_refusal, outcome}
 use Rattle.caption.specs.declared.Refusal.{Refusal}
-use Rattle.caption.proofs.Answers.{refused_with, given_with}
 use Rattle.distribution.specs.States.{last_of}
-use Rattle.distribution.specs.Calls.{said_received, tells_of, Reads}
-use Rattle.distribution.specs.declared.Received.TheVariants as received
+use Rattle.distribution.specs.Calls.{read_by, told_of}
+use Rattle.distribution.specs.declared.Received.{Received}
 use Rattle.distribution.specs.declared.DistributionReader.{DistributionReader}
-use Rattle.distribution.specs.declared.DistributionRead.{DistributionRead}
-use Rattle.distribution.proofs.Trips.{TakenAs, taken, received_numbered}
+use Rattle.distribution.proofs.Outcomes.{told_gave, told_refused}
+use Rattle.distribution.proofs.Trips.{TakenAs, taken}
 
 -- a packet that is opened: its code is one of a rate, its counter stands behind the flags, and its frame is none of more than 95 bytes
 pub record OpenedAs (s : List ℕ) (d : Distribution) : Type 0 where
@@ -78,14 +79,14 @@ refuses_given P Q (gave x) f p q h = h x q
 refuses_given P Q (refused why) f p q h = p
 
 -- a packet that is read, and its frame in the output
-pub record ReceivedAs (s out : List ℕ) (x : Received) : Type 0 where
+pub record ReceivedAs (s out : List ℕ) (x : packets.Received) : Type 0 where
   pub packet : OpenedAs s x.packet
   pub there : x.out ≡ frame_of x.packet ++ drop (length (frame_of x.packet)) out
 
 module _ (last : Option ℕ) (s out : List ℕ) where
   pub received_as : Gives (ReceivedAs s out) (receive last s out)
   received_as =
-      gives_weaker (λ (x : Received) (t : TakenAs last s out x). record { packet = gives_at (OpenedAs s) (opened s) t.whole (opened_as s); there = t.there })
+      gives_weaker (λ (x : packets.Received) (t : TakenAs last s out x). record { packet = gives_at (OpenedAs s) (opened s) t.whole (opened_as s); there = t.there })
       (receive last s out) (taken last s out)
 
   -- where there is room for 95 bytes, 9 is not told
@@ -105,31 +106,29 @@ front : (f rest end : List ℕ) (k : ℕ) → end ≡ f ++ rest → k ≡ length
 front f rest end k e n = rw e (take_at f rest k (sym n))
 
 -- what is told of a packet that is accepted, the packet, and its frame at the front of the output
-pub record Gave (c n k : ℕ) (end : List ℕ) (o : Outcome Received) : Type 0 where
-  pub read : Received
+pub record Gave (x : Received) (end : List ℕ) (o : Outcome packets.Received) : Type 0 where
+  pub read : packets.Received
   pub whole : o ≡ gave read
-  pub code : c ≡ read.packet.code
-  pub counter : n ≡ read.packet.counter
-  pub frame : take k end ≡ frame_of read.packet
+  pub code : x.code ≡ read.packet.code
+  pub counter : x.counter ≡ read.packet.counter
+  pub frame : take x.len end ≡ frame_of read.packet
 
-module _ (reader : DistributionReader) (s out : List ℕ) (r : DistributionRead) (end : List ℕ) (h : Reads reader s out r end) where
+module _ (reader : DistributionReader) (s out : List ℕ) (r : Result Received Refusal) (h : outcome r ≡ mapped told_of (read_by reader s out)) where
   -- why a packet is refused is told
-  pub reads_why : (why : Refusal) → r.received ≡ received.Refused why → receive (last_of reader.last) s out ≡ refused (said_refusal why)
-  reads_why why e = refused_with tells_of why (receive (last_of reader.last) s out) (sym (ap said_received e) ∙ h.answer)
+  pub reads_why : (why : Refusal) → r ≡ Err why → read_by reader s out ≡ refused (said_refusal why)
+  reads_why why e = told_refused told_of (read_by reader s out) (said_refusal why) (sym (ap outcome e) ∙ h)
 
   -- and what it is where it is accepted
-  pub reads_gave : (code counter len : ℕ) → r.received ≡ received.Packet code counter len
-      → Gave code counter len end (receive (last_of reader.last) s out)
-  reads_gave code counter len e =
-      let o = receive (last_of reader.last) s out in
-      let g = given_with tells_of (code ∷ counter ∷ len ∷ []) o (received_numbered (last_of reader.last) s out) (sym (ap said_received e) ∙ h.answer) in
+  pub reads_gave : (end : List ℕ) → end ≡ after out (mapped (λ y. y.out) (read_by reader s out)) → (x : Received) → r ≡ Ok x → Gave x end (read_by reader s out)
+  reads_gave end output x e =
+      let o = read_by reader s out in
+      let g = told_gave told_of o x (sym (ap outcome e) ∙ h) in
       let there = (gives_at (ReceivedAs s out) o g.1 (received_as (last_of reader.last) s out)).there in
-      let n : len ≡ length (frame_of g.0.packet) = ap (λ (v : List ℕ). get_or v 2 0) g.2 in
-      let put : end ≡ g.0.out = h.output ∙ ap (λ (q : Outcome Received). after out (mapped (λ x. x.out) q)) g.1 in
+      let put : end ≡ g.0.out = output ∙ ap (λ (q : Outcome packets.Received). after out (mapped (λ y. y.out) q)) g.1 in
       record {
         read = g.0;
         whole = g.1;
-        code = ap (λ (v : List ℕ). get_or v 0 0) g.2;
-        counter = ap (λ (v : List ℕ). get_or v 1 0) g.2;
-        frame = front (frame_of g.0.packet) _ end len (put ∙ there) n;
+        code = ap (λ (y : Received). y.code) g.2;
+        counter = ap (λ (y : Received). y.counter) g.2;
+        frame = front (frame_of g.0.packet) _ end x.len (put ∙ there) (ap (λ (y : Received). y.len) g.2);
       }

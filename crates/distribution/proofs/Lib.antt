@@ -1,7 +1,6 @@
+pub mod Outcomes
 pub mod Rates
 pub mod Reading
-pub mod Writing
-pub mod Told
 pub mod Trips
 pub mod Given
 pub mod Tests

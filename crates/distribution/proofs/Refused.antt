@@ -9,23 +9,17 @@ use contract.Lifetimes.{Lfts}
 use lib.Dec.{ltb}
 use lib.ListN.{length}
 use Rattle.model.specs.Lists.{every}
-use Rattle.model.specs.Said.{Said, says_with, put_into}
+use Rattle.std.specs.Prelude.{Result, Err}
+use Rattle.model.specs.Said.{Outcome, gave, refused, says, mapped, put_into}
 use Rattle.model.specs.Distribution.{is_coded, distribution_bytes, has_mark, sections_in_order, sums_up, counters_agree, held_in, opened, takes, frame_of, received_into, receive, is_whole, distribution_of, packed, Distributed, sent_into, distribute}
 use Rattle.model.proofs.Cases.{by_test, both, and_both}
-use Rattle.caption.specs.Answers.{said_refusal, said_counted}
+use Rattle.caption.specs.Answers.{said_refusal, outcome}
 use Rattle.caption.specs.declared.Refusal.{Refusal}
-use Rattle.caption.specs.declared.Counted.{Counted}
-use Rattle.caption.specs.declared.Counted.TheVariants as counted
 use Rattle.caption.proofs.Answers.{refusal_numbered}
 use Rattle.distribution.specs.States.{last_of}
-use Rattle.distribution.specs.Calls.{said_received, tells_of}
+use Rattle.distribution.specs.Calls.{read_by, told_of, written_by}
 use Rattle.distribution.specs.declared.Received.{Received}
-use Rattle.distribution.specs.declared.Received.TheVariants.{Refused}
-use Rattle.distribution.specs.declared.DistributionReader.{DistributionReader}
-use Rattle.distribution.specs.declared.DistributionRead.{DistributionRead}
-use Rattle.distribution.specs.declared.DistributionWriter.{DistributionWriter}
-use Rattle.distribution.specs.declared.DistributionWritten.{DistributionWritten}
-use Rattle.distribution.proofs.Trips.{Lent, Output, Read, Write}
+use Rattle.distribution.proofs.Trips.{Lent, Output, Reader, Writer, Read, Write}
 use Rattle.distribution.proofs.Tests.{Test, read_tests, write_tests}
 
 -- the number of the first that fails; 0 if none does
@@ -55,7 +49,12 @@ fails_so (t ∷ ts) n e z =
     (t ∷ r.0, r.1, r.2, ap (λ (l : List Test). t ∷ l) r.3, and_both t.passes (every (λ (x : Test). x.passes) r.0) p r.4, r.5, r.6))
     (λ p. ([], t, ts, refl, refl, p, rw p at e))
 
-received_number : (last : Option ℕ) (s out : List ℕ) → (says_with tells_of (receive last s out)).number ≡ first_failing (read_tests last s out)
+-- what is told of what is given does not change a number
+told_number : {A B : Type 0} (f : A → B) (o : Outcome A) → (says (mapped f o)).number ≡ (says o).number
+told_number f (gave x) = refl
+told_number f (refused why) = refl
+
+received_number : (last : Option ℕ) (s out : List ℕ) → (says (receive last s out)).number ≡ first_failing (read_tests last s out)
 unfolding first_failing receive opened received_into put_into
 received_number last s out =
     by_test (has_mark s)
@@ -70,7 +69,7 @@ received_number last s out =
     (λ o. rw (m, o) refl))
     (λ m. rw m refl)
 
-sent_number : (counter code : ℕ) (f out : List ℕ) → (says_with (λ (x : Distributed). length x.bytes ∷ []) (distribute counter code f out)).number ≡ first_failing (write_tests counter code f out)
+sent_number : (counter code : ℕ) (f out : List ℕ) → (says (distribute counter code f out)).number ≡ first_failing (write_tests counter code f out)
 unfolding first_failing distribute packed sent_into put_into
 sent_number counter code f out =
     by_test (is_whole f && is_coded code)
@@ -81,34 +80,35 @@ sent_number counter code f out =
 first_is : (ts : List Test) (n : ℕ) → FirstIs ts n → first_failing ts ≡ n
 first_is ts n f = ap first_failing f.3 ∙ fails_here f.0 f.1 f.2 f.4 f.5 ∙ f.6
 
-module _ (κs : Lfts 2) (reader : DistributionReader) (packet : Lent) (out end : Output) (r : DistributionRead) (told : Read κs reader packet out end r) where
+module _ (κs : Lfts 3) (reader next : Reader) (packet : Lent) (out end : Output) (r : Result Received Refusal) (told : Read κs reader next packet out end r) where
   -- the tests of this read
   abbrev tests_read : List Test
-  tests_read = read_tests (last_of reader.last) packet.now out.now
+  tests_read = read_tests (last_of reader.now.last) packet.now out.now
 
-  read_number : (said_received r.received).number ≡ first_failing tests_read
-  read_number = ap (λ (s : Said). s.number) told.answer ∙ received_number (last_of reader.last) packet.now out.now
+  read_number : (says (outcome r)).number ≡ first_failing tests_read
+  read_number = ap (λ (o : Outcome Received). (says o).number) told.0 ∙ told_number told_of (read_by reader.now packet.now out.now) ∙ received_number (last_of reader.now.last) packet.now out.now
 
   -- A read that is refused is refused with the number of the first test that fails,
-  pub read_refused : (why : Refusal) → r.received ≡ Refused why → FirstIs tests_read (said_refusal why).number
-  read_refused why e = fails_so tests_read (said_refusal why).number (sym read_number ∙ ap (λ (x : Received). (said_received x).number) e) (refusal_numbered why)
+  pub read_refused : (why : Refusal) → r ≡ Err why → FirstIs tests_read (said_refusal why).number
+  read_refused why e = fails_so tests_read (said_refusal why).number (sym read_number ∙ ap (λ (x : Result Received Refusal). (says (outcome x)).number) e) (refusal_numbered why)
 
   -- and where a test is the first that fails its number is told.
-  pub read_told : (n : ℕ) → FirstIs tests_read n → (said_received r.received).number ≡ n
+  pub read_told : (n : ℕ) → FirstIs tests_read n → (says (outcome r)).number ≡ n
   read_told n f = read_number ∙ first_is tests_read n f
 
-module _ (κs : Lfts 2) (w : DistributionWriter) (code : ℕ) (frame : Lent) (out end : Output) (r : DistributionWritten) (told : Write κs w code frame out end r) where
+module _ (κs : Lfts 3) (w v : Writer) (code : ℕ) (frame : Lent) (out end : Output) (r : Result ℕ Refusal) (told : Write κs w v code frame out end r) where
   -- the tests of this write
   abbrev tests_write : List Test
-  tests_write = write_tests w.next code frame.now out.now
+  tests_write = write_tests w.now.next code frame.now out.now
 
-  write_number : (said_counted r.answer).number ≡ first_failing tests_write
-  write_number = ap (λ (s : Said). s.number) told.answer ∙ sent_number w.next code frame.now out.now
+  write_number : (says (outcome r)).number ≡ first_failing tests_write
+  write_number =
+      ap (λ (o : Outcome ℕ). (says o).number) told.0 ∙ told_number (λ (x : Distributed). length x.bytes) (written_by w.now code frame.now out.now) ∙ sent_number w.now.next code frame.now out.now
 
   -- So it is with a write that is refused,
-  pub write_refused : (why : Refusal) → r.answer ≡ counted.Refused why → FirstIs tests_write (said_refusal why).number
-  write_refused why e = fails_so tests_write (said_refusal why).number (sym write_number ∙ ap (λ (x : Counted). (said_counted x).number) e) (refusal_numbered why)
+  pub write_refused : (why : Refusal) → r ≡ Err why → FirstIs tests_write (said_refusal why).number
+  write_refused why e = fails_so tests_write (said_refusal why).number (sym write_number ∙ ap (λ (x : Result ℕ Refusal). (says (outcome x)).number) e) (refusal_numbered why)
 
   -- and with its tests.
-  pub write_told : (n : ℕ) → FirstIs tests_write n → (said_counted r.answer).number ≡ n
+  pub write_told : (n : ℕ) → FirstIs tests_write n → (says (outcome r)).number ≡ n
   write_told n f = write_number ∙ first_is tests_write n f

@@ -2,7 +2,7 @@
 -- read is of the layout. Assumes nothing.
 use mathlib.Core.Path.{◌≡◌, refl, sym, ap, ap₂, ◌∙◌}
 use mathlib.Core.Bool.{true, false, cond}
-use mathlib.Core.List.{List, [], ◌∷◌, ◌++◌}
+use mathlib.Core.List.{List, ◌∷◌, ◌++◌}
 use mathlib.Core.Option.{Option, some}
 use Prim.Native.Nat.{ℕ, ◌+◌, ◌*◌, ◌/◌, ◌%◌, ◌^◌, ◌≤◌, ◌<◌}
 use native.Mathlib.Omega.{arith}
@@ -13,30 +13,27 @@ use lib.ListN.{length, get_or, take, drop}
 use lib.Seq.{take_at, drop_at, drop-cons}
 use borrow.Author.Tests.{eq-eqb, le-ltb, lt-leb, leb-true}
 use Rattle.model.specs.Lists.{every}
-use Rattle.model.specs.Said.{Outcome, gave, refused, says_with, and_then, mapped, after, put_into, not_newer}
+use Rattle.std.specs.Prelude.{Result, Ok, Err}
+use Rattle.model.specs.Said.{Outcome, gave, refused, and_then, mapped, after, put_into, not_newer}
 use Rattle.model.specs.Frame.{Triple, seen_all, flagged, count_in, Frame, frame_bytes}
 use Rattle.model.specs.Demux.{Demux, late_from, take_triples, take_frame}
-use Rattle.model.specs.Distribution.{Distribution, is_coded, length_with, sum_of, Unread, as_written, laid_out, distribution_bytes, opened, ahead, takes, newer, frame_of, received_into, receive, counter_after, is_whole, distribution_of, Distributed, distribute}
+use Rattle.model.specs.Distribution.{Distribution, is_coded, length_with, sum_of, Unread, as_written, laid_out, distribution_bytes, opened, ahead, takes, newer, frame_of, received_into, receive, counter_after, is_whole, distribution_of, Distributed}
 use Rattle.model.specs.Distribution as packets
-use Rattle.model.proofs.Cases.{by_test, by_cond, Gives, gives_at, gives_mapped, NotAccepted, Refuses, refuses_then, refuses_mapped}
+use Rattle.model.proofs.Cases.{by_test, by_cond, Gives, gives_at, gives_mapped}
 use Rattle.model.proofs.Frames.{take_whole, frame_length, frame_triples}
-use Rattle.model.proofs.Distribution.{Fits, laid_length, laid_sum, laid_opened, opened_numbered, unread_in, is_byte, opened_laid, next_newer, whole_length, whole_count, whole_frame, SentAs, sent_as, sent_numbered, sent_fits}
+use Rattle.model.proofs.Distribution.{Fits, laid_length, laid_sum, laid_opened, unread_in, is_byte, opened_laid, next_newer, whole_length, whole_count, whole_frame, SentAs, sent_as, sent_fits}
 use Rattle.caption.specs.declared.Refusal.{Refusal}
 use Rattle.caption.specs.declared.Refusal.TheVariants.{NotNewer}
-use Rattle.caption.specs.declared.Counted.TheVariants.{Count}
-use Rattle.caption.specs.Answers.{said_refusal, said_counted}
-use Rattle.caption.proofs.Answers.{given_with}
+use Rattle.caption.specs.Answers.{said_refusal, outcome}
+use Rattle.caption.proofs.Outcomes.{outcome_injective}
 use Rattle.distribution.specs.States.{last_of, fresh_reader, reader_at, writer_at}
-use Rattle.distribution.specs.Calls.{said_received, tells_of}
+use Rattle.distribution.specs.Calls.{read_by, told_of, written_by}
 use Rattle.distribution.specs.declared.Received.{Received}
-use Rattle.distribution.specs.declared.Received.TheVariants.{Packet, Refused}
 use Rattle.distribution.specs.declared.DistributionReader.{DistributionReader}
-use Rattle.distribution.specs.declared.DistributionRead.{DistributionRead}
 use Rattle.distribution.specs.declared.DistributionWriter.{DistributionWriter}
-use Rattle.distribution.specs.declared.DistributionWritten.{DistributionWritten}
 use Rattle.distribution.proofs.DistributionReader.read.Reads as read
 use Rattle.distribution.proofs.DistributionWriter.write.Reads as write
-use Rattle.distribution.proofs.Told.{said_received_injective}
+use Rattle.distribution.proofs.Outcomes.{told_gave}
 
 -- bytes that a caller lends
 abbrev pub Lent : Type 0
@@ -46,46 +43,54 @@ Lent = Bor (List ℕ)
 abbrev pub Output : Type 0
 Output = MutBor (List ℕ)
 
--- `writer.write(code, frame, &mut out)`, where `out` is as it was lent and `end` as it is at exit
-abbrev pub Write : Lfts 2 → DistributionWriter → ℕ → Lent → Output → Output → DistributionWritten → Type 0
-Write κs w code frame out end r = write.Post κs (w, (code, (frame, (out, tt)))) r (w, (code, (frame, (end, tt))))
+-- a writer that a caller lends
+abbrev pub Writer : Type 0
+Writer = MutBor DistributionWriter
 
--- `reader.read(packet, &mut out)`
-abbrev pub Read : Lfts 2 → DistributionReader → Lent → Output → Output → DistributionRead → Type 0
-Read κs d packet out end r = read.Post κs (d, (packet, (out, tt))) r (d, (packet, (end, tt)))
+-- a reader that a caller lends
+abbrev pub Reader : Type 0
+Reader = MutBor DistributionReader
+
+-- `writer.write(code, frame, &mut out)`, where `w` and `out` are as they were lent, and `v` and `end` as they are at exit
+abbrev pub Write : Lfts 3 → Writer → Writer → ℕ → Lent → Output → Output → Result ℕ Refusal → Type 0
+Write κs w v code frame out end r = write.Post κs (w, (code, (frame, (out, tt)))) r (v, (code, (frame, (end, tt))))
+
+-- `reader.read(packet, &mut out)`, where `d` and `out` are as they were lent, and `e` and `end` as they are at exit
+abbrev pub Read : Lfts 3 → Reader → Reader → Lent → Output → Output → Result Received Refusal → Type 0
+Read κs d e packet out end r = read.Post κs (d, (packet, (out, tt))) r (e, (packet, (end, tt)))
 
 -- A frame was written as a packet: it is whole, the rate has a code, the packet has the layout and is in the output, and the counter moves on.
-pub record Sends (w : DistributionWriter) (code : ℕ) (f out end : List ℕ) (r : DistributionWritten) (n : ℕ) : Type 0 where
+pub record Sends (w v : DistributionWriter) (code : ℕ) (f out end : List ℕ) (n : ℕ) : Type 0 where
   pub whole : is_whole f ≡ true
   pub coded : is_coded code ≡ true
   pub count : n ≡ length_with (count_in (get_or f 0 0))
   pub packet : take n end ≡ distribution_bytes (distribution_of w.next code f)
   pub behind : drop n end ≡ drop n out
-  pub next : r.writer ≡ writer_at (counter_after w.next)
+  pub next : v ≡ writer_at (counter_after w.next)
 
-module _ (κs : Lfts 2) (w : DistributionWriter) (code : ℕ) (frame : Lent) (out end : Output) (r : DistributionWritten) (told : Write κs w code frame out end r) where
-  pub written_laid : (n : ℕ) → r.answer ≡ Count n → Sends w code frame.now out.now end.now r n
+module _ (κs : Lfts 3) (w v : Writer) (code : ℕ) (frame : Lent) (out end : Output) (r : Result ℕ Refusal) (told : Write κs w v code frame out end r) where
+  pub written_laid : (n : ℕ) → r ≡ Ok n → Sends w.now v.now code frame.now out.now end.now n
   written_laid n e =
       let f = frame.now in
       let o = out.now in
-      let d = distribution_of w.next code f in
-      let g = given_with (λ (x : Distributed). length x.bytes ∷ []) (n ∷ []) (distribute w.next code f o) (sent_numbered w.next code f o) (sym (ap said_counted e) ∙ told.answer) in
-      let s = gives_at (SentAs w.next code f o) (distribute w.next code f o) g.1 (sent_as w.next code f o) in
+      let d = distribution_of w.now.next code f in
+      let g = told_gave (λ (x : Distributed). length x.bytes) (written_by w.now code f o) n (sym (ap outcome e) ∙ told.0) in
+      let s = gives_at (SentAs w.now.next code f o) (written_by w.now code f o) g.1 (sent_as w.now.next code f o) in
       let all : end.now ≡ distribution_bytes d ++ drop (length (distribution_bytes d)) o =
-      told.output ∙ ap (λ (q : Outcome Distributed). after o (mapped (λ x. x.out) q)) g.1 ∙ s.there in
-      let long : n ≡ length (distribution_bytes d) = ap (λ (v : List ℕ). get_or v 0 0) g.2 ∙ ap length s.packet in
+      told.1.1.0 ∙ ap (λ (q : Outcome Distributed). after o (mapped (λ x. x.out) q)) g.1 ∙ s.there in
+      let long : n ≡ length (distribution_bytes d) = g.2 ∙ ap length s.packet in
       record {
         whole = s.whole;
         coded = s.coded;
         count = omega (arith, long, laid_length as_written d, whole_count f s.whole);
         packet = ap (λ (l : List ℕ). take n l) all ∙ take_at (distribution_bytes d) _ n (sym long);
         behind = ap (λ (l : List ℕ). drop n l) all ∙ drop_at (distribution_bytes d) _ n (sym long) ∙ ap (λ (k : ℕ). drop k o) (sym long);
-        next = told.places ∙ ap (λ (q : Outcome Distributed). after w (mapped (λ x. writer_at x.next) q)) g.1 ∙ ap writer_at s.moved;
+        next = told.1.0 ∙ ap (λ (q : Outcome Distributed). after w.now (mapped (λ x. writer_at x.next) q)) g.1 ∙ ap writer_at s.moved;
       }
 
   -- Its sum is 0 modulo 256.
-  pub written_sum : (n : ℕ) → r.answer ≡ Count n → sum_of (take n end.now) % 256 ≡ 0
-  written_sum n e = ap (λ (l : List ℕ). sum_of l % 256) (written_laid n e).packet ∙ laid_sum as_written (distribution_of w.next code frame.now)
+  pub written_sum : (n : ℕ) → r ≡ Ok n → sum_of (take n end.now) % 256 ≡ 0
+  written_sum n e = ap (λ (l : List ℕ). sum_of l % 256) (written_laid n e).packet ∙ laid_sum as_written (distribution_of w.now.next code frame.now)
 
 -- A packet of the layout, whatever stands where a reader does not look
 module _ (u : Unread) (d : Distribution) (fits : Fits u d) (last : Option ℕ) (out : List ℕ) where
@@ -122,77 +127,72 @@ module _ (last : Option ℕ) (s out : List ℕ) where
   unfolding receive
   taken = taken_of (opened s) refl
 
-  pub received_numbered : Refuses NotAccepted (receive last s out)
-  unfolding receive received_into put_into
-  received_numbered =
-      refuses_then NotAccepted (opened s) _ (opened_numbered s)
-      (λ d. by_cond (Refuses NotAccepted) (takes last d.counter)
-      (λ _. refuses_mapped NotAccepted _ (put_into out (frame_of d)) (by_cond (Refuses NotAccepted) (ltb (length out) (length (frame_of d))) (λ _ e. omega (arith, e)) (λ _. tt)))
-      (λ _ e. omega (arith, e)))
-
-module _ (κs : Lfts 2) (reader : DistributionReader) (packet : Lent) (out end : Output) (r : DistributionRead) (told : Read κs reader packet out end r) where
+module _ (κs : Lfts 3) (reader next : Reader) (packet : Lent) (out end : Output) (r : Result Received Refusal) (told : Read κs reader next packet out end r) where
   -- what is read as the model says
   abbrev said : Outcome packets.Received
-  said = receive (last_of reader.last) packet.now out.now
+  said = read_by reader.now packet.now out.now
 
   -- what the model's call comes to: what is told, the reader, and the output
-  came_to : (o : Outcome packets.Received) (x : Received) → said ≡ o → says_with tells_of o ≡ said_received x
-      → (r ≡ record { received = x; reader = after reader (mapped (λ y. reader_at y.packet.counter) o) }) × (end.now ≡ after out.now (mapped (λ y. y.out) o))
-  came_to o x e t =
-      let told_is = said_received_injective r.received x (told.answer ∙ ap (says_with tells_of) e ∙ t) in
-      let reader_is = told.places ∙ ap (λ (q : Outcome packets.Received). after reader (mapped (λ y. reader_at y.packet.counter) q)) e in
-      (ap₂ (λ (a : Received) (b : DistributionReader). record { received = a; reader = b }) told_is reader_is, told.output ∙ ap (λ (q : Outcome packets.Received). after out.now (mapped (λ y. y.out) q)) e)
+  came_to : (o : Outcome packets.Received) (x : Result Received Refusal) → said ≡ o → mapped told_of o ≡ outcome x
+      → (r ≡ x) × (next.now ≡ after reader.now (mapped (λ y. reader_at y.packet.counter) o)) × (end.now ≡ after out.now (mapped (λ y. y.out) o))
+  came_to o x e t = (
+    outcome_injective r x (told.0 ∙ ap (mapped told_of) e ∙ t),
+    told.1.1.0 ∙ ap (λ (q : Outcome packets.Received). after reader.now (mapped (λ y. reader_at y.packet.counter) q)) e,
+    told.1.1.1.0 ∙ ap (λ (q : Outcome packets.Received). after out.now (mapped (λ y. y.out) q)) e,
+  )
 
   -- a packet is given,
-  given_so : (x : packets.Received) → said ≡ gave x
-      → (r ≡ record { received = Packet x.packet.code x.packet.counter (length (frame_of x.packet)); reader = reader_at x.packet.counter }) × (end.now ≡ x.out)
-  given_so x e = came_to (gave x) (Packet x.packet.code x.packet.counter (length (frame_of x.packet))) e refl
+  given_so : (x : packets.Received) → said ≡ gave x → (r ≡ Ok (told_of x)) × (next.now ≡ reader_at x.packet.counter) × (end.now ≡ x.out)
+  given_so x e = came_to (gave x) (Ok (told_of x)) e refl
 
   -- or it is refused, and nothing changes
-  stays_so : (why : Refusal) → said ≡ refused (said_refusal why) → (r ≡ record { received = Refused why; reader = reader }) × (end.now ≡ out.now)
-  stays_so why e = came_to (refused (said_refusal why)) (Refused why) e refl
+  stays_so : (why : Refusal) → said ≡ refused (said_refusal why) → (r ≡ Err why) × (next.now ≡ reader.now) × (end.now ≡ out.now)
+  stays_so why e = came_to (refused (said_refusal why)) (Err why) e refl
 
   module _ (u : Unread) (d : Distribution) (fits : Fits u d) (laid : packet.now ≡ laid_out u d) where
-    said_as : said ≡ receive (last_of reader.last) (laid_out u d) out.now
-    said_as = ap (λ (s : List ℕ). receive (last_of reader.last) s out.now) laid
+    said_as : said ≡ receive (last_of reader.now.last) (laid_out u d) out.now
+    said_as = ap (λ (s : List ℕ). receive (last_of reader.now.last) s out.now) laid
 
     -- A packet of the layout that is newer is given, with its code, its counter and its frame,
-    pub laid_read : takes (last_of reader.last) d.counter ≡ true → 3 * length d.triples + 2 ≤ length out.now
-        → (r ≡ record { received = Packet d.code d.counter (length (frame_of d)); reader = reader_at d.counter })
+    pub laid_read : takes (last_of reader.now.last) d.counter ≡ true → 3 * length d.triples + 2 ≤ length out.now
+        → (r ≡ Ok (record { code = d.code; counter = d.counter; len = length (frame_of d) })) × (next.now ≡ reader_at d.counter)
         × (end.now ≡ frame_of d ++ drop (length (frame_of d)) out.now)
-    laid_read t l = given_so (record { packet = d; out = frame_of d ++ drop (length (frame_of d)) out.now; last = some d.counter }) (said_as ∙ laid_received u d fits (last_of reader.last) out.now t l)
+    laid_read t l = given_so (record { packet = d; out = frame_of d ++ drop (length (frame_of d)) out.now; last = some d.counter }) (said_as ∙ laid_received u d fits (last_of reader.now.last) out.now t l)
 
     -- and one that is not newer is refused with 20, whatever was lent; so a repeat changes nothing.
-    pub old_read : takes (last_of reader.last) d.counter ≡ false → (r ≡ record { received = Refused NotNewer; reader = reader }) × (end.now ≡ out.now)
-    old_read t = stays_so NotNewer (said_as ∙ laid_old u d fits (last_of reader.last) out.now t)
+    pub old_read : takes (last_of reader.now.last) d.counter ≡ false → (r ≡ Err NotNewer) × (next.now ≡ reader.now) × (end.now ≡ out.now)
+    old_read t = stays_so NotNewer (said_as ∙ laid_old u d fits (last_of reader.now.last) out.now t)
 
   -- Nothing else is given: bytes that a packet is given of are that packet, laid out, and it is newer.
-  pub read_laid : (code counter len : ℕ) → r.received ≡ Packet code counter len → every is_byte packet.now ≡ true
-      → (d : Distribution) × (packet.now ≡ laid_out (unread_in packet.now) d) × Fits (unread_in packet.now) d × (takes (last_of reader.last) d.counter ≡ true)
-      × (r ≡ record { received = Packet d.code d.counter (length (frame_of d)); reader = reader_at d.counter })
-  read_laid code counter len e bytes =
-      let g = given_with tells_of (code ∷ counter ∷ len ∷ []) said (received_numbered (last_of reader.last) packet.now out.now) (sym (ap said_received e) ∙ told.answer) in
-      let t = gives_at (TakenAs (last_of reader.last) packet.now out.now) said g.1 (taken (last_of reader.last) packet.now out.now) in
+  pub read_laid : (x : Received) → r ≡ Ok x → every is_byte packet.now ≡ true
+      → (d : Distribution) × (packet.now ≡ laid_out (unread_in packet.now) d) × Fits (unread_in packet.now) d × (takes (last_of reader.now.last) d.counter ≡ true)
+      × (r ≡ Ok (record { code = d.code; counter = d.counter; len = length (frame_of d) })) × (next.now ≡ reader_at d.counter)
+  read_laid x e bytes =
+      let g = told_gave told_of said x (sym (ap outcome e) ∙ told.0) in
+      let t = gives_at (TakenAs (last_of reader.now.last) packet.now out.now) said g.1 (taken (last_of reader.now.last) packet.now out.now) in
       let l = opened_laid packet.now g.0.packet bytes t.whole in
-      (g.0.packet, l.0, l.1, t.newer, (given_so g.0 g.1).0)
+      let so = given_so g.0 g.1 in
+      (g.0.packet, l.0, l.1, t.newer, so.0, so.1)
 
 -- What was written is read back, by a reader to which its counter is newer: the code, the counter, and the frame's own triples behind C0 and their count, and FF.
-pub written_read : (κs κs' : Lfts 2) (w : DistributionWriter) (code n : ℕ) (frame : Lent) (out end : Output) (r : DistributionWritten) → Write κs w code frame out end r → r.answer ≡ Count n
-    → w.next < 2 ^ 16
-    → (reader : DistributionReader) (packet : Lent) (lent after : Output) (q : DistributionRead) → Read κs' reader packet lent after q → packet.now ≡ take n end.now
-    → takes (last_of reader.last) w.next ≡ true → length frame.now ≤ length lent.now
-    → (q ≡ record { received = Packet code w.next (length frame.now); reader = reader_at w.next })
-    × (after.now ≡ ((0xC0 + count_in (get_or frame.now 0 0)) ∷ 0xFF ∷ drop 2 frame.now) ++ drop (length frame.now) lent.now)
-written_read κs κs' w code n frame out end r told e small reader packet lent after q read p t room =
+pub written_read : (κs κs' : Lfts 3) (w v : Writer) (code n : ℕ) (frame : Lent) (out end : Output) (r : Result ℕ Refusal) → Write κs w v code frame out end r → r ≡ Ok n
+    → w.now.next < 2 ^ 16
+    → (reader next : Reader) (packet : Lent) (lent laid : Output) (q : Result Received Refusal) → Read κs' reader next packet lent laid q → packet.now ≡ take n end.now
+    → takes (last_of reader.now.last) w.now.next ≡ true → length frame.now ≤ length lent.now
+    → (q ≡ Ok (record { code = code; counter = w.now.next; len = length frame.now })) × (next.now ≡ reader_at w.now.next)
+    × (laid.now ≡ ((0xC0 + count_in (get_or frame.now 0 0)) ∷ 0xFF ∷ drop 2 frame.now) ++ drop (length frame.now) lent.now)
+written_read κs κs' w v code n frame out end r told e small reader next packet lent laid q read p t room =
     let f = frame.now in
-    let d = distribution_of w.next code f in
-    let s = written_laid κs w code frame out end r told n e in
+    let d = distribution_of w.now.next code f in
+    let s = written_laid κs w v code frame out end r told n e in
     let count = whole_count f s.whole in
     let long = whole_length f s.whole in
     let size : length (frame_of d) ≡ length f = omega (arith, frame_length (record { count = length d.triples; triples = d.triples }), count, long) in
-    let g = laid_read κs' reader packet lent after q read as_written d (sent_fits w.next code f s.whole s.coded small) (p ∙ s.packet) t (omega (arith, count, long)) in (
-      g.0 ∙ ap (λ (k : ℕ). record { received = Packet code w.next k; reader = reader_at w.next }) size,
-      g.1 ∙ ap₂ (λ (a : List ℕ) (k : ℕ). a ++ drop k lent.now) (whole_frame f s.whole code w.next) size,
+    let told_long : ℕ → Result Received Refusal = λ k. Ok (record { code = code; counter = w.now.next; len = k }) in
+    let g = laid_read κs' reader next packet lent laid q read as_written d (sent_fits w.now.next code f s.whole s.coded small) (p ∙ s.packet) t (omega (arith, count, long)) in (
+      g.0 ∙ ap told_long size,
+      g.1,
+      g.2 ∙ ap₂ (λ (a : List ℕ) (k : ℕ). a ++ drop k lent.now) (whole_frame f s.whole code w.now.next) size,
     )
 
 -- A frame that begins as frames are written comes back byte for byte.

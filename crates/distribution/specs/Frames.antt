@@ -1,12 +1,5 @@
 -- What functions of this crate that are not public go by: no public contract reaches this file. Assumes nothing.
-use Rattle.std.specs.Prelude.{◌≡◌, List, [], ◌∷◌, ◌++◌, ℕ, ◌+◌, ◌*◌, take, drop}
-use Rattle.model.specs.Said.{accepted, says_with}
-use Rattle.model.specs.Distribution.{opened}
-use Rattle.distribution_reading.specs.Opened.{fields_of}
-
--- bytes are opened as a packet with these three
-abbrev pub Opens : ℕ → ℕ → ℕ → List ℕ → Type 0
-Opens code counter count s = accepted (code ∷ counter ∷ count ∷ []) ≡ says_with fields_of (opened s)
+use Rattle.std.specs.Prelude.{List, ◌∷◌, ◌++◌, ℕ, ◌+◌, ◌*◌, take, drop}
 
 -- an output with the frame of so many triples at its front: those behind the first nine bytes
 abbrev pub frame_laid : ℕ → List ℕ → List ℕ → List ℕ

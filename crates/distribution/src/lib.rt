@@ -1,70 +1,40 @@
-// Caption distribution packets, SMPTE ST 334-2: frames written as packets, packets read back as frames, and the rates by their codes.
+//! Caption distribution packets, SMPTE ST 334-2: frames written as packets, packets read back as frames, and the rates by their codes.
 #![tactic(auto)]
 
-ghost use Rattle.std.specs.Prelude.{◌≡◌, ◌+◌, ◌*◌, ◌≤◌, ◌<◌, length};
+ghost use Rattle.std.specs.Prelude.{◌≡◌, ◌+◌, ◌*◌, ◌≤◌, ◌<◌, length, OnErr};
 ghost use Rattle.std.proofs.Math.Option.{none};
+ghost use Rattle.caption.specs.Answers.{outcome};
+ghost use Rattle.model.specs.Said.{mapped, after};
 ghost use Rattle.model.specs.Distribution.{rate_of, takes};
-ghost use Rattle.model.specs.Said.{says_with};
-ghost use Rattle.distribution.specs.Rates.{coded_rates, rate_fields, said_rate};
-ghost use Rattle.distribution.specs.States.{last_of, fresh_reader, fresh_writer};
-ghost use Rattle.distribution.specs.Calls.{Reads, Writes};
-ghost use Rattle.distribution.specs.Frames.{Opens, frame_laid};
+ghost use Rattle.distribution.specs.Rates.{coded_rates, coded_rate};
+ghost use Rattle.distribution.specs.States.{last_of, fresh_reader, reader_at, fresh_writer, writer_at};
+ghost use Rattle.distribution.specs.Calls.{read_by, told_of, written_by};
+ghost use Rattle.distribution.specs.Frames.{frame_laid};
 
-use basics::put_bytes;
-use caption::{Counted, Framerate, Refusal};
+use caption::{Framerate, Refusal};
 use distribution_numbers::is_coded;
-use distribution_reading::Opened;
 
-// The counter of the packet that a reader accepted last.
-#[derive(Clone, Copy)]
-pub enum Last {
-    // None was accepted yet.
-    Nothing,
-    Counter(u16),
-}
-
-// A reader of packets.
-#[derive(Clone, Copy)]
+/// A reader of packets, by the counter of the packet that it accepted last.
+#[derive(Clone, Copy, Debug, PartialEq, Eq)]
 pub struct DistributionReader {
-    pub last: Last,
+    pub last: Option<u16>,
 }
 
-// What a reader tells of a packet.
-#[derive(Clone, Copy)]
-pub enum Received {
-    // Its rate by its code, its counter, and how many bytes of the lent output are its frame.
-    Packet { code: u8, counter: u16, len: usize },
-    Refused(Refusal),
+/// What a reader tells of a packet: its rate by its code, its counter, and how many bytes of the lent output are its frame.
+#[derive(Clone, Copy, Debug, PartialEq, Eq)]
+pub struct Received {
+    pub code: u8,
+    pub counter: u16,
+    pub len: usize,
 }
 
-// What is told of a packet, and the reader afterwards.
-#[derive(Clone, Copy)]
-pub struct DistributionRead {
-    pub received: Received,
-    pub reader: DistributionReader,
-}
-
-// A writer of packets: the next one has this counter.
-#[derive(Clone, Copy)]
+/// A writer of packets: the next one has this counter.
+#[derive(Clone, Copy, Debug, PartialEq, Eq)]
 pub struct DistributionWriter {
     pub next: u16,
 }
 
-// How many bytes were written, and the writer afterwards.
-#[derive(Clone, Copy)]
-pub struct DistributionWritten {
-    pub answer: Counted,
-    pub writer: DistributionWriter,
-}
-
-// A rate, or a refusal where a code has none.
-#[derive(Clone, Copy)]
-pub enum CodedRate {
-    Is(Framerate),
-    Refused(Refusal),
-}
-
-// The rates that have codes, from 1 on [L2].
+/// The rates that have codes, from 1 on [L2].
 pub fn coded_rates() -> [Framerate; 8]
     ensures { result ≡ coded_rates }
 {
@@ -89,115 +59,88 @@ pub fn coded_rates() -> [Framerate; 8]
     ]
 }
 
-// The rate of a code [L2].
-pub fn rate_of(code: u8) -> CodedRate
-    ensures { said_rate result ≡ says_with rate_fields (rate_of code) }
+/// The rate of a code [L2]. Refused with `BadSection` where no rate has it.
+pub fn rate_of(code: u8) -> Result<Framerate, Refusal>
+    ensures { outcome result ≡ mapped coded_rate (rate_of code) }
 {
     if !is_coded(code) {
-        return CodedRate::Refused(Refusal::BadSection);
+        return Err(Refusal::BadSection);
     }
     let rates = coded_rates();
-    CodedRate::Is(rates[(code - 1) as usize])
+    Ok(rates[(code - 1) as usize])
 }
 
 impl DistributionReader {
-    // A fresh reader, which takes any first counter [L5].
+    /// A fresh reader, which takes any first counter [L5].
     pub fn new() -> Self
-        ensures { (last_of result.last ≡ none) × (result ≡ fresh_reader) }
+        ensures state { last_of result.last ≡ none }
+        ensures places { result ≡ fresh_reader }
     {
-        DistributionReader {
-            last: Last::Nothing,
-        }
+        DistributionReader { last: None }
     }
 
-    // Reads a packet, and lays its frame into what is lent [L4] to [L6].
-    pub fn read(self, packet: &[u8], out: &mut [u8]) -> DistributionRead
-        ensures { Reads self packet.now out.old result out.new }
+    /// Reads a packet, and lays its frame into what is lent [L4] to [L6]. Refused, in this order: `BadMark`, `BadSection`, `BadSum`, `CountersDiffer`,
+    /// `NotNewer`, and `OutShort` where the frame does not fit.
+    pub fn read(&mut self, packet: &[u8], out: &mut [u8]) -> Result<Received, Refusal>
+        ensures answer { outcome result ≡ mapped told_of (read_by self.old packet.now out.old) }
+        ensures state { last_of self.new.last ≡
+            after (last_of self.old.last) (mapped (λ x. x.last) (read_by self.old packet.now out.old)) }
+        ensures places { self.new ≡ after self.old
+            (mapped (λ x. reader_at x.packet.counter) (read_by self.old packet.now out.old)) }
+        ensures output { out.new ≡ after out.old (mapped (λ x. x.out) (read_by self.old packet.now out.old)) }
+        ensures kept { OnErr result (self.new ≡ self.old) }
+        ensures unwritten { OnErr result (out.new ≡ out.old) }
     {
-        match distribution_reading::open(packet) {
-            Opened::Packet {
-                code,
-                counter,
-                count,
-            } => self.give(packet, code, counter, count, out),
-            Opened::Refused(why) => self.refused(why),
+        let held = distribution_reading::open(packet)?;
+        if !self.takes(held.counter) {
+            return Err(Refusal::NotNewer);
         }
-    }
-
-    // Gives the frame of a packet that was opened, if its counter is newer and there is room.
-    fn give(
-        self,
-        packet: &[u8],
-        code: u8,
-        counter: u16,
-        count: usize,
-        out: &mut [u8],
-    ) -> DistributionRead
-        requires { Opens code counter count packet.now }
-        ensures { Reads self packet.now out.old result out.new }
-    {
-        if !self.takes(counter) {
-            return self.refused(Refusal::NotNewer);
-        }
-        let len = 3 * count + 2;
+        let len = 3 * held.count + 2;
         if out.len() < len {
-            return self.refused(Refusal::OutShort { needed: len });
+            return Err(Refusal::OutShort { needed: len });
         }
-        lay_frame(packet, count, out);
-        DistributionRead {
-            received: Received::Packet { code, counter, len },
-            reader: DistributionReader {
-                last: Last::Counter(counter),
-            },
-        }
+        lay_frame(packet, held.count, out);
+        self.last = Some(held.counter);
+        Ok(Received {
+            code: held.code,
+            counter: held.counter,
+            len,
+        })
     }
 
     // Whether a counter is newer than the last; any is, where there is none yet.
-    fn takes(self, counter: u16) -> bool
-        ensures { result ≡ takes (last_of self.last) counter }
+    fn takes(&self, counter: u16) -> bool
+        ensures { result ≡ takes (last_of self.now.last) counter }
     {
-        let accepted = self.last;
-        match accepted {
-            Last::Nothing => true,
-            Last::Counter(last) => distribution_numbers::newer(last, counter),
-        }
-    }
-
-    // A refusal, with the reader as it was.
-    fn refused(self, why: Refusal) -> DistributionRead
-        ensures { result ≡ record { received = Received.Refused why; reader = self } }
-    {
-        DistributionRead {
-            received: Received::Refused(why),
-            reader: self,
+        match self.last {
+            None => true,
+            Some(last) => distribution_numbers::newer(last, counter),
         }
     }
 }
 
 impl DistributionWriter {
-    // A fresh writer: its first packet has counter 0 [L5].
+    /// A fresh writer: its first packet has counter 0 [L5].
     pub fn new() -> Self
         ensures { result ≡ fresh_writer }
     {
         DistributionWriter { next: 0 }
     }
 
-    // Writes a frame as the next packet, at the rate of a code, to what is lent [L3].
-    pub fn write(self, code: u8, frame: &[u8], out: &mut [u8]) -> DistributionWritten
-        ensures { Writes self code frame.now out.old result out.new }
+    /// Writes a frame as the next packet, at the rate of a code, to what is lent, and answers how many bytes it has [L3]. Refused: `BadSection` where the
+    /// frame is not whole or no rate has the code, then `OutShort`.
+    pub fn write(&mut self, code: u8, frame: &[u8], out: &mut [u8]) -> Result<usize, Refusal>
+        ensures answer { outcome result ≡
+            mapped (λ x. length x.bytes) (written_by self.old code frame.now out.old) }
+        ensures places { self.new ≡ after self.old
+            (mapped (λ x. writer_at x.next) (written_by self.old code frame.now out.old)) }
+        ensures output { out.new ≡ after out.old (mapped (λ x. x.out) (written_by self.old code frame.now out.old)) }
+        ensures kept { OnErr result (self.new ≡ self.old) }
+        ensures unwritten { OnErr result (out.new ≡ out.old) }
     {
-        let answer = distribution_writing::write_packet(self.next, code, frame, out);
-        let next = distribution_numbers::counter_after(self.next);
-        let Counted::Count(_) = answer else {
-            return DistributionWritten {
-                answer,
-                writer: self,
-            };
-        };
-        DistributionWritten {
-            answer,
-            writer: DistributionWriter { next },
-        }
+        let len = distribution_writing::write_packet(self.next, code, frame, out)?;
+        self.next = distribution_numbers::counter_after(self.next);
+        Ok(len)
     }
 }
 
@@ -209,7 +152,7 @@ fn lay_frame(packet: &[u8], count: usize, out: &mut [u8])
     ensures { out.new ≡ frame_laid count packet.now out.old }
 {
     let end = 9 + 3 * count;
-    let head = [0xC0 + count as u8, 0xFF];
-    put_bytes(out, 0, &head);
-    put_bytes(out, 2, &packet[9..end]);
+    out[0] = 0xC0 + count as u8;
+    out[1] = 0xFF;
+    out[2..3 * count + 2].copy_from_slice(&packet[9..end]);
 }

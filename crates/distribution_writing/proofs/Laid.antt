@@ -67,11 +67,11 @@ module _ (counter code : ℕ) (f : List ℕ) (whole : is_whole f ≡ true) where
       ∙ ap (λ (x : List ℕ). sets o 0 x) sections_are
 
   -- the same, where the frame's triples are a part of it
-  pub pieces_laid : (o a b c head two : List ℕ) → head ≡ first_nine counter code (count_in (get_or f 0 0)) → two ≡ two_bytes counter → a ≡ sets o 0 head
-      → b ≡ sets a 9 (take (length f - 2) (drop 2 f)) → c ≡ sets b (length f + 7) (0x74 ∷ get_or two 0 0 ∷ get_or two 1 0 ∷ []) → c ≡ sets o 0 (sections_of counter code f)
-  pieces_laid o a b c head two h n x y z =
+  pub pieces_laid : (o a b c head : List ℕ) → head ≡ first_nine counter code (count_in (get_or f 0 0)) → a ≡ sets o 0 head
+      → b ≡ sets a 9 (take (length f - 2) (drop 2 f)) → c ≡ sets b (length f + 7) (0x74 ∷ get_or head 5 0 ∷ get_or head 6 0 ∷ []) → c ≡ sets o 0 (sections_of counter code f)
+  pieces_laid o a b c head h x y z =
       let part : take (length f - 2) (drop 2 f) ≡ drop 2 f = take_all (length f - 2) (drop 2 f) (omega (arith, length-drop 2 f)) in
-      rw (z, y, x, h ∙ sym (nine_are counter code (count_in (get_or f 0 0))), n, part) (three_laid o)
+      rw (z, y, x, h ∙ sym (nine_are counter code (count_in (get_or f 0 0))), part) (three_laid o)
 
   -- behind them there is room for one byte more
   pub sections_there : (o c : List ℕ) → length f + 11 ≤ length o → c ≡ sets o 0 (sections_of counter code f) → length f + 10 ≡ length (take (length f + 10) c)

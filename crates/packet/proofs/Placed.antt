@@ -1,19 +1,15 @@
 -- The block at a place, by each way out. Assumes nothing.
-use mathlib.Core.Path.{◌≡◌, refl, sym, ap, ◌∙◌}
-use mathlib.Core.Bool.{true, false}
+use mathlib.Core.Path.{◌≡◌, sym, ap, ◌∙◌}
+use mathlib.Core.Bool.{true}
 use mathlib.Core.List.{List, [], ◌∷◌}
 use Prim.Native.Nat.{ℕ, zero, suc, ◌+◌, ◌-◌, ◌≤◌, ◌<◌}
 use native.Mathlib.Omega.{arith}
 use lib.ListN.{length, take, drop, get_or, length-drop, drop_of_length-le}
 use lib.Seq.{length-take-le, drop-drop}
-use Rattle.caption.specs.declared.Refusal.TheVariants.{BadValue}
-use Rattle.model.specs.Said.{Outcome, gave, checked}
-use Rattle.model.specs.Block.{Block}
-use Rattle.service.specs.Service.{blank}
+use Rattle.std.specs.Prelude.{Some, None}
+use Rattle.model.specs.Said.{gave, mapped}
 use Rattle.service.specs.declared.Service.{Service}
 use Rattle.packet.specs.declared.DTVCCPacket.{DTVCCPacket}
-use Rattle.packet.specs.declared.ServiceAt.{ServiceAt}
-use Rattle.packet.specs.declared.Place.TheVariants.{Here, Nothing, Refused}
 use Rattle.packet_entries.specs.Entries.{Entry, entries, cut, used_by}
 use Rattle.packet_entries.specs.Extent.{sum_to, placed_service}
 use Rattle.packet_entries.proofs.Entries.{entries_at, used_sum}
@@ -21,18 +17,10 @@ use Rattle.packet_entries.proofs.Holds.{Within, used_fits, blocks_cut, blocks_co
 use Rattle.packet_entries.proofs.Walks.{sum_few}
 use Rattle.packet_entries.proofs.Placed.{place_block}
 use Rattle.packet_pushes.proofs.Pushed.{used_parts, cut_drop}
-use Rattle.packet.specs.Packet.{packet_of, valid_dtvcc}
-use Rattle.packet.specs.Place.{Placed, said_place}
+use Rattle.packet.specs.Packet.{packet_of, valid_dtvcc, asked}
+use Rattle.packet.specs.Place.{blocks_at, handed}
 use Rattle.packet.specs.Replies.{fields_of, entries_of}
 use Rattle.packet.proofs.Holds.{Places, within_facts, entries_within}
-
--- the blocks at a place of a packet: one, or none behind the last
-abbrev pub blocks_at : ℕ → DTVCCPacket → Outcome (List Block)
-blocks_at i p = checked (valid_dtvcc p) (gave (take 1 (drop i (packet_of p).blocks)))
-
--- a packet that breaks a limit
-pub place_invalid : (p : DTVCCPacket) (i : ℕ) (r : ServiceAt) → valid_dtvcc p ≡ false → r.place ≡ Refused BadValue → r.service ≡ blank → Placed (blocks_at i p) r
-place_invalid p i r e a b = rw e (record { place = ap said_place a; service = b })
 
 -- the entries from a place on
 entries_drop : (i k : ℕ) (ns ss : List ℕ) → i ≤ k → drop i (entries k ns ss) ≡ entries (k - i) (drop i ns) (drop i ss)
@@ -50,11 +38,11 @@ module _ (p : DTVCCPacket) (valid : valid_dtvcc p ≡ true) (places : Places p) 
   w : Within (fields_of p)
   w = entries_within p (within_facts p valid) places
 
-  pub place_none : (r : ServiceAt) → p.count ≤ i → r.place ≡ Nothing → r.service ≡ blank → Placed (blocks_at i p) r
-  place_none r h a b =
+  pub place_none : p.count ≤ i → gave None ≡ mapped handed (asked p (blocks_at i))
+  place_none h =
       let few : length (packet_of p).blocks ≤ i = omega (arith, blocks_count (fields_of p)) in
       let z : drop i (packet_of p).blocks ≡ [] = drop_of_length-le (packet_of p).blocks few in
-      rw (valid, z) (record { place = ap said_place a; service = b })
+      rw (valid, z)
 
   module _ (there : i < p.count) where
     abbrev from : ℕ
@@ -78,10 +66,10 @@ module _ (p : DTVCCPacket) (valid : valid_dtvcc p ≡ true) (places : Places p) 
         let r : used_by (drop i (entries_of p)) ≡ k + used_by rest = ap used_by rest_at in
         omega (arith, before, used_parts i (entries_of p), used_fits (fields_of p) w places.payload)
 
-    pub place_here : (b : Service) → b ≡ placed_service i p.numbers p.sizes p.payload → Placed (blocks_at i p) (record { place = Here; service = b })
+    pub place_here : (b : Service) → b ≡ placed_service i p.numbers p.sizes p.payload → gave (Some b) ≡ mapped handed (asked p (blocks_at i))
     unfolding cut
     place_here b e =
         let size : length (take k (drop from p.payload)) ≡ k = length-take-le k (drop from p.payload) (rw length-drop (omega (arith, bytes_there))) in
         let d : drop i (packet_of p).blocks ≡ cut (record { number = get_or p.numbers i 0; size = k } ∷ rest) (drop from p.payload) =
         ap (drop i) (blocks_cut (fields_of p)) ∙ cut_drop i (entries_of p) p.payload ∙ rw (before, rest_at) in
-        rw (valid, d) (record { place = refl; service = e ∙ place_block i p.numbers p.sizes p.payload (omega (arith, w.count)) size })
+        rw (valid, d) (ap (λ (s : Service). gave (Some s)) (e ∙ place_block i p.numbers p.sizes p.payload (omega (arith, w.count)) size))

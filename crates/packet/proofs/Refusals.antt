@@ -1,31 +1,18 @@
--- What the answers to reading tell: a refusal is of a length, and none says accepted, so that whether bytes read as a packet is what the answer says.
--- Assumes nothing.
-use mathlib.Core.Path.{◌≡◌, refl, sym, ap}
+-- What the answers to reading tell: whether bytes read as a packet, and that a refusal is of a length. Assumes nothing.
+use mathlib.Core.Path.{◌≡◌, sym, ap, subst, ◌∙◌}
 use mathlib.Core.Bool.{true, false}
 use mathlib.Core.List.{List}
 use Prim.Native.Nat.{ℕ, ◌<◌}
-use native.Mathlib.Omega.{arith}
 use borrow.Author.Tests.{eqb-false, ltb-true, not-true}
-use Rattle.caption.specs.declared.Answer.TheVariants.{Accepted, Refused}
+use Rattle.std.specs.Prelude.{Result, Ok, Err}
 use Rattle.caption.specs.declared.Refusal.{Refusal}
-use Rattle.caption.specs.Answers.{said_refusal, said_answer}
-use Rattle.caption.proofs.Answers.{refused_as, refused_so}
-use Rattle.model.specs.Said.{Said, Outcome, gave, refused, is_given, says}
-use Rattle.model.specs.Packet.{Packet, Way, plainly, tidily, read_packet, read_tidy, reads}
+use Rattle.caption.specs.Answers.{said_refusal, outcome}
+use Rattle.model.specs.Said.{Outcome, refused, is_given, mapped}
+use Rattle.model.specs.Packet.{Packet, plainly, tidily, read_packet, read_tidy, reads}
 use Rattle.model.proofs.Cases.{Refuses}
-use Rattle.model.proofs.Lengths.{ShortAt, in_header, in_body, OfLength, none, own, inside, packet_refusals}
-use Rattle.packet.specs.Packet.{Answers, blank}
-use Rattle.packet.specs.declared.PacketAnswer.{PacketAnswer}
-
--- none of them says accepted
-not_short : {at : ℕ} {d : List ℕ} {why : Said} → ShortAt at d why → why.number ≡ 0 → ⊥
-not_short {at} {d} {why} (in_header few e) z = let n : why.number ≡ 14 = ap (λ (s : Said). s.number) e in omega arith
-not_short {at} {d} {why} (in_body there few e) z = let n : why.number ≡ 15 = ap (λ (s : Said). s.number) e in omega arith
-
-not_accepted : {way : Way} {Wrong : ℕ → ℕ → Type 0} (d : List ℕ) (why : Said) → OfLength way Wrong d why → why.number ≡ 0 → ⊥
-not_accepted d why (none empty e) z = let n : why.number ≡ 13 = ap (λ (s : Said). s.number) e in omega arith
-not_accepted d why (own some wrong e) z = let n : why.number ≡ 13 = ap (λ (s : Said). s.number) e in omega arith
-not_accepted d why (inside i) z = not_short i.short z
+use Rattle.model.proofs.Lengths.{OfLength, packet_refusals}
+use Rattle.packet.specs.Packet.{packet_of}
+use Rattle.packet.specs.declared.DTVCCPacket.{DTVCCPacket}
 
 -- a wrong length: of the plain reader more bytes than the header says, of the tidy reader any other number
 abbrev pub Longer : ℕ → ℕ → Type 0
@@ -43,25 +30,28 @@ tidy_refused : (d : List ℕ) → Refuses (OfLength tidily Other d) (read_tidy d
 unfolding read_tidy
 tidy_refused d = packet_refusals tidily Other (λ size n w. eqb-false size n (not-true _ w)) d
 
-module _ (d : List ℕ) (r : PacketAnswer) (read : Answers (read_packet d) blank r) where
-  pub accepted_reads : r.answer ≡ Accepted → reads d ≡ true
+-- an answer that says what a reading gives
+abbrev pub Reads : Outcome Packet → Result DTVCCPacket Refusal → Type 0
+Reads o r = mapped packet_of (outcome r) ≡ o
+
+module _ (d : List ℕ) (r : Result DTVCCPacket Refusal) where
+  pub accepted_reads : Reads (read_packet d) r → (x : DTVCCPacket) → r ≡ Ok x → reads d ≡ true
   unfolding reads
-  accepted_reads e = by (read_packet d) (plain_refused d) read.answer
-    where
-      by : (o : Outcome Packet) → Refuses (OfLength plainly Longer d) o → said_answer r.answer ≡ says o → is_given o ≡ true
-      by (gave x) q h = refl
-      by (refused why) q h = absurd (not_accepted d why q (sym (ap (λ (s : Said). s.number) (rw e at h))))
+  accepted_reads read x is = sym (ap is_given read) ∙ rw is
 
--- an answer that refuses
-module _ (d : List ℕ) (r : PacketAnswer) (why : Refusal) (is : r.answer ≡ Refused why) where
-  pub refused_reads : Answers (read_packet d) blank r → reads d ≡ false
-  unfolding reads
-  refused_reads read = ap is_given (refused_as why (read_packet d) (rw is at read.answer))
+  -- an answer that refuses
+  module _ (why : Refusal) (is : r ≡ Err why) where
+    refuses : {o : Outcome Packet} → Reads o r → refused (said_refusal why) ≡ o
+    refuses read = rw is at read
 
-  -- What reading a packet is refused with is what `OfLength` says, whatever answer the contract allows: plainly,
-  pub plain_lengths : Answers (read_packet d) blank r → OfLength plainly Longer d (said_refusal why)
-  plain_lengths read = refused_so (OfLength plainly Longer d) why (read_packet d) (plain_refused d) (rw is at read.answer)
+    pub refused_reads : Reads (read_packet d) r → reads d ≡ false
+    unfolding reads
+    refused_reads read = sym (ap is_given (refuses read))
 
-  -- and tidily
-  pub tidy_lengths : Answers (read_tidy d) blank r → OfLength tidily Other d (said_refusal why)
-  tidy_lengths read = refused_so (OfLength tidily Other d) why (read_tidy d) (tidy_refused d) (rw is at read.answer)
+    -- What reading a packet is refused with is what `OfLength` says, whatever answer the contract allows: plainly,
+    pub plain_lengths : Reads (read_packet d) r → OfLength plainly Longer d (said_refusal why)
+    plain_lengths read = subst (Refuses (OfLength plainly Longer d)) (sym (refuses read)) (plain_refused d)
+
+    -- and tidily
+    pub tidy_lengths : Reads (read_tidy d) r → OfLength tidily Other d (said_refusal why)
+    tidy_lengths read = subst (Refuses (OfLength tidily Other d)) (sym (refuses read)) (tidy_refused d)

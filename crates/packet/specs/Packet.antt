@@ -1,17 +1,15 @@
 -- What a `DTVCCPacket` holds, and what its functions answer. Assumes nothing.
-use Rattle.std.specs.Prelude.{◌≡◌, Bool, ◌&&◌, ◌+◌, eqb, leb, length, take, replicate}
-use mathlib.Core.List.{[], ◌∷◌, map, flat_map, foldr}
+use Rattle.std.specs.Prelude.{Bool, ◌&&◌, ◌+◌, ℕ, eqb, leb, length, take, replicate}
+use mathlib.Core.List.{List, map, flat_map, foldr}
 use Rattle.std.proofs.lemmas.List.Edits.{sets}
-use Rattle.caption.specs.Answers.{said_refusal, said_answer}
-use Rattle.model.specs.Said.{Said, Outcome, accepted, says, after, mapped}
+use Rattle.model.specs.Said.{Outcome, gave, after, mapped, checked, put_into}
 use Rattle.model.specs.Block.{Block}
-use Rattle.model.specs.Packet.{Packet, valid_packet}
+use Rattle.model.specs.Packet.{Packet, valid_packet, push_block, push_run, push_run_single, written_packet}
 use Rattle.model.specs.Services.{numbers_of, services_of}
+use Rattle.service.specs.declared.Service.{Service}
+use Rattle.service.specs.Service.{block_of, valid_service}
 use Rattle.packet_entries.specs.Fields.{blocks_held}
 use Rattle.packet.specs.declared.DTVCCPacket.{DTVCCPacket}
-use Rattle.packet.specs.declared.PacketAnswer.{PacketAnswer}
-use Rattle.packet.specs.declared.ServiceSet.{ServiceSet}
-use Rattle.packet.specs.declared.ServiceSet.TheVariants.{Of, Refused}
 
 -- the packet that it holds
 abbrev pub packet_of : DTVCCPacket → Packet
@@ -41,13 +39,30 @@ blank = record { seq_no = 0; count = 0; services = 0; numbers = replicate 63 0; 
 abbrev pub laid : Packet → DTVCCPacket
 laid p = over blank p
 
--- accepted, with the set
-abbrev pub said_set : ServiceSet → Said
-said_set (Of set) = accepted (set ∷ [])
-said_set (Refused why) = said_refusal why
+-- what is asked of it; 11 where it breaks a limit
+abbrev pub asked : {A : Type 0} → DTVCCPacket → (Packet → A) → Outcome A
+asked p f = checked (valid_dtvcc p) (gave (f (packet_of p)))
 
--- an answer says what the outcome says; the packet beside it means what the outcome gives, and that is laid over `old`, which a refusal leaves
-pub record Answers (o : Outcome Packet) (old : DTVCCPacket) (r : PacketAnswer) : Type 0 where
-  pub answer : said_answer r.answer ≡ says o
-  pub means : packet_of r.packet ≡ after (packet_of old) o
-  pub places : r.packet ≡ after old (mapped (over old) o)
+-- the packet with a block pushed to it: both are within the limits
+abbrev pub pushed_block : Service → DTVCCPacket → Outcome Packet
+pushed_block s p = checked (valid_dtvcc p && valid_service s) (push_block (block_of s) (packet_of p))
+
+-- with a run pushed to it
+abbrev pub pushed_run : ℕ → List ℕ → DTVCCPacket → Outcome Packet
+pushed_run n run p = checked (valid_dtvcc p) (push_run n run (packet_of p))
+
+-- with a run pushed to it in the single-service form
+abbrev pub pushed_single : ℕ → List ℕ → DTVCCPacket → Outcome Packet
+pushed_single n run p = checked (valid_dtvcc p) (push_run_single n run (packet_of p))
+
+-- the places behind a call: what it gives is laid over the old ones, and a refusal leaves them
+abbrev pub left : DTVCCPacket → Outcome Packet → DTVCCPacket
+left old o = after old (mapped (over old) o)
+
+-- the packet as it is written
+abbrev pub bytes_of : DTVCCPacket → List ℕ
+bytes_of p = written_packet (packet_of p)
+
+-- a lent output with the packet written to it
+abbrev pub written : DTVCCPacket → List ℕ → Outcome (List ℕ)
+written p out = checked (valid_dtvcc p) (put_into out (bytes_of p))

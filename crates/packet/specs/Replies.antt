@@ -1,24 +1,16 @@
 -- What the functions of this crate that are not public answer, and the places of a packet as the leaf crates have them: no public contract reaches
 -- this file. Assumes nothing.
-use Rattle.std.specs.Prelude.{Bool, cond, List, ℕ, eqb}
-use Rattle.caption.specs.declared.Counted.{Counted}
-use Rattle.caption.specs.declared.Counted.TheVariants.{Count, Refused}
-use Rattle.caption.specs.declared.Refusal.{Refusal}
-use Rattle.caption.specs.declared.Refusal.TheVariants.{BadValue}
-use Rattle.caption.specs.declared.Answer.{Answer}
-use Rattle.caption.specs.declared.Answer.TheVariants as answer
+use Rattle.std.specs.Prelude.{Bool, List, ℕ, eqb}
+use Rattle.model.specs.Said.{Outcome, checked}
+use Rattle.model.specs.Packet.{Packet, push_run_by}
 use Rattle.packet_services.specs.Services.{services_to}
-use Rattle.packet_entries.specs.declared.Extent.{Extent}
-use Rattle.packet_entries.specs.declared.Extent.TheVariants.{Bad}
 use Rattle.packet_entries.specs.Fields.{Fields, fields}
 use Rattle.packet_entries.specs.Entries.{Entry}
 use Rattle.packet_entries.specs.Entries as listed
-use Rattle.packet_entries.specs.Extent.{extent_as}
 use Rattle.packet_blocks.specs.declared.Filled.{Filled}
 use Rattle.packet_blocks.specs.Reading as reading
 use Rattle.packet.specs.declared.DTVCCPacket.{DTVCCPacket}
-use Rattle.packet.specs.declared.PacketAnswer.{PacketAnswer}
-use Rattle.packet.specs.Packet.{blank}
+use Rattle.packet.specs.Packet.{packet_of, valid_dtvcc}
 
 -- its places
 abbrev pub fields_of : DTVCCPacket → Fields
@@ -40,38 +32,10 @@ entries_of p = listed.entries_of (fields_of p)
 unfoldable pub agrees : DTVCCPacket → Bool
 agrees p = eqb p.services (services_to p.count p.numbers)
 
--- its extent, or that it breaks a limit
-unfoldable pub extent_of : DTVCCPacket → Extent
-extent_of p = cond (agrees p) (extent_as p.seq_no p.count (entries_of p)) Bad
+-- the packet of the places that a reading filled
+abbrev pub filled_from : Filled → DTVCCPacket
+filled_from r = packet_from (reading.fields_of r)
 
--- a refusal, beside no packet
-abbrev pub unread_for : Refusal → PacketAnswer
-unread_for why = record { answer = answer.Refused why; packet = blank }
-
--- one that breaks a limit, handed back
-abbrev pub refused_of : DTVCCPacket → PacketAnswer
-refused_of p = record { answer = answer.Refused BadValue; packet = p }
-
--- what is answered to a reading, with the packet of the places that it filled
-abbrev pub answer_from : Filled → PacketAnswer
-answer_from r = record { answer = r.answer; packet = packet_from (reading.fields_of r) }
-
--- what is answered by how many blocks there are
-abbrev pub answer_to : Counted → Answer
-answer_to (Count k) = answer.Accepted
-answer_to (Refused why) = answer.Refused why
-
--- how many blocks there are after a push: as many as before, where it is refused
-abbrev pub count_after : Counted → ℕ → ℕ
-count_after (Count k) before = k
-count_after (Refused why) before = before
-
--- the set of services after a push: what it was, where the push is refused
-abbrev pub services_after : Counted → ℕ → List ℕ → ℕ
-services_after (Count k) before ns = services_to k ns
-services_after (Refused why) before ns = before
-
--- what is answered to it, with the places that it leaves
-abbrev pub answer_of : DTVCCPacket → Counted → List ℕ → List ℕ → List ℕ → PacketAnswer
-answer_of p r n s d =
-    record { answer = answer_to r; packet = packet_at (services_after r p.services n) (fields p.seq_no (count_after r p.count) n s d) }
+-- the packet with a run pushed to it in either form
+abbrev pub pushed_by : Bool → ℕ → List ℕ → DTVCCPacket → Outcome Packet
+pushed_by needs_room n run p = checked (valid_dtvcc p) (push_run_by needs_room n run (packet_of p))

@@ -1,26 +1,30 @@
 // A DTVCC packet: its sequence number and its blocks, how it is read, written and pushed to.
 #![tactic(auto)]
 
-ghost use Rattle.std.specs.Prelude.{◌≡◌, cond, ◌&&◌, length, take, drop, eqb};
-ghost use Rattle.caption.specs.Answers.{said_counted, said_truth};
-ghost use Rattle.model.specs.Said.{gave, checked, measured};
-ghost use Rattle.model.specs.Packet.{packet_size, read_packet, read_tidy, new_packet, packet_length, packet_room, written_packet, push_block, push_run, push_run_single, push_run_by};
+ghost use Rattle.std.specs.Prelude.{◌≡◌, ◌==◌, length, take, drop, OnErr};
+ghost use Rattle.caption.specs.Answers.{outcome};
+ghost use Rattle.model.specs.Said.{says, after, mapped};
+ghost use Rattle.model.specs.Packet.{packet_size, read_packet, read_tidy, new_packet, packet_length, packet_room};
 ghost use Rattle.model.specs.Packet as model;
 ghost use Rattle.model.specs.Services.{services_of, distinct_services};
-ghost use Rattle.service.specs.Service.{Writes, block_of, valid_service};
-ghost use Rattle.service.specs.Service as service;
-ghost use Rattle.packet.specs.Packet.{Answers, packet_of, blank, valid_dtvcc, said_set};
-ghost use Rattle.packet.specs.Place.{Placed};
-ghost use Rattle.packet.specs.Replies.{agrees, extent_of, unread_for, refused_of, answer_from, answer_to, count_after, services_after, answer_of};
+ghost use Rattle.packet_entries.specs.Fields.{fields};
+ghost use Rattle.packet_pushes.specs.Pushing.{spills};
+ghost use Rattle.packet.specs.Packet.{packet_of, laid, left, valid_dtvcc, asked};
+ghost use Rattle.packet.specs.Packet.{pushed_block, pushed_run, pushed_single, bytes_of, written};
+ghost use Rattle.packet.specs.Place.{blocks_at, handed};
+ghost use Rattle.packet.specs.Replies.{agrees, packet_from, filled_from, pushed_by};
 
 use basics::MOST_PACKET;
-use caption::{Answer, Counted, Refusal, Truth};
+use caption::Refusal;
 use packet_blocks::Filled;
-use packet_entries::Extent;
+use packet_moves::{Plain, Tidy};
+use packet_pushes::Form;
 use service::Service;
 
-// A packet: block i has number `numbers[i]` and the next `sizes[i]` bytes of `payload`. Bit k of `services` is 1 where a block has number k.
-#[derive(Clone, Copy)]
+/// A packet: block i has number `numbers[i]` and the next `sizes[i]` bytes of `payload`. Bit k of
+/// `services` is 1 where a block has number k. One that breaks a limit can be built; every call
+/// on it is refused with `BadValue`.
+#[derive(Clone, Copy, Debug, PartialEq, Eq)]
 pub struct DTVCCPacket {
     pub seq_no: u8,
     pub count: usize,
@@ -30,397 +34,283 @@ pub struct DTVCCPacket {
     pub payload: [u8; 127],
 }
 
-// An answer, and the packet beside it.
-#[derive(Clone, Copy)]
-pub struct PacketAnswer {
-    pub answer: Answer,
-    pub packet: DTVCCPacket,
-}
-
-// The set of a packet's services.
-#[derive(Clone, Copy)]
-pub enum ServiceSet {
-    Of(u64),
-    Refused(Refusal),
-}
-
-// Whether there is a block at a place.
-#[derive(Clone, Copy)]
-pub enum Place {
-    Here,
-    Nothing,
-    Refused(Refusal),
-}
-
-// Whether there is a block at a place, and the block.
-#[derive(Clone, Copy)]
-pub struct ServiceAt {
-    pub place: Place,
-    pub service: Service,
-}
-
 impl DTVCCPacket {
-    // A packet without blocks [P14].
-    #[tactic(auto, using(crate::proofs::Replies::refuses, crate::proofs::Measures::new_bad))]
-    pub fn new(seq_no: u8) -> PacketAnswer
-        ensures { Answers (new_packet seq_no) blank result }
+    /// A packet without blocks [P14]. Refused with `BadNumber` where `seq_no` is above 3.
+    #[tactic(auto, using(crate::proofs::Measures::new_bad))]
+    pub fn new(seq_no: u8) -> Result<DTVCCPacket, Refusal>
+        ensures answer { mapped packet_of (outcome result) ≡ new_packet seq_no }
+        ensures places { outcome result ≡ mapped laid (new_packet seq_no) }
     {
         if 3 < seq_no {
-            return unread(Refusal::BadNumber);
+            return Err(Refusal::BadNumber);
         }
-        PacketAnswer {
-            answer: Answer::Accepted,
-            packet: DTVCCPacket {
-                seq_no,
-                count: 0,
-                services: 0,
-                numbers: [0u8; 63],
-                sizes: [0u8; 63],
-                payload: [0u8; 127],
-            },
-        }
+        Ok(DTVCCPacket {
+            seq_no,
+            count: 0,
+            services: 0,
+            numbers: [0u8; 63],
+            sizes: [0u8; 63],
+            payload: [0u8; 127],
+        })
     }
 
-    // The sequence number of the packet [P1].
-    pub fn sequence_no(self) -> Counted
-        ensures { said_counted result ≡ measured (valid_dtvcc self) self.seq_no }
+    /// The sequence number of the packet [P1].
+    pub fn sequence_no(&self) -> Result<u8, Refusal>
+        ensures { outcome result ≡ asked self.now (λ p. p.sequence) }
     {
-        if self.is_valid() {
-            return Counted::Count(self.seq_no as usize);
-        }
-        Counted::Refused(Refusal::BadValue)
+        self.check()?;
+        Ok(self.seq_no)
     }
 
-    // How many bytes more the packet has room for [P9].
-    pub fn free_space(self) -> Counted
-        ensures { said_counted result ≡ measured (valid_dtvcc self) (packet_room (packet_of self)) }
+    /// How many bytes more the packet has room for [P9].
+    pub fn free_space(&self) -> Result<usize, Refusal>
+        ensures { outcome result ≡ asked self.now packet_room }
     {
-        match self.extent() {
-            Extent::Of { length, used: _ } => Counted::Count(MOST_PACKET - length),
-            Extent::Bad => Counted::Refused(Refusal::BadValue),
-        }
+        let length = self.len()?;
+        Ok(MOST_PACKET - length)
     }
 
-    // The length of the packet; 0 without blocks [P7].
-    pub fn len(self) -> Counted
-        ensures { said_counted result ≡ measured (valid_dtvcc self) (packet_length (packet_of self)) }
+    /// The length of the packet in bytes; 0 without blocks [P7].
+    pub fn len(&self) -> Result<usize, Refusal>
+        ensures { outcome result ≡ asked self.now packet_length }
     {
-        match self.extent() {
-            Extent::Of { length, used: _ } => Counted::Count(length),
-            Extent::Bad => Counted::Refused(Refusal::BadValue),
-        }
-    }
-
-    // Whether the packet has no blocks [P1].
-    pub fn is_empty(self) -> Truth
-        ensures { said_truth result ≡ measured (valid_dtvcc self) (cond (eqb (length (packet_of self).blocks) 0) 1 0) }
-    {
-        if self.is_valid() {
-            return Truth::Is(self.count == 0);
-        }
-        Truth::Refused(Refusal::BadValue)
-    }
-
-    // How many blocks the packet has [P1].
-    pub fn service_count(self) -> Counted
-        ensures { said_counted result ≡ measured (valid_dtvcc self) (length (packet_of self).blocks) }
-    {
-        if self.is_valid() {
-            return Counted::Count(self.count);
-        }
-        Counted::Refused(Refusal::BadValue)
-    }
-
-    // The set of the packet's services: bit k for service k [P15].
-    pub fn service_set(self) -> ServiceSet
-        ensures { said_set result ≡ measured (valid_dtvcc self) (services_of (packet_of self)) }
-    {
-        if self.is_valid() {
-            return ServiceSet::Of(self.services);
-        }
-        ServiceSet::Refused(Refusal::BadValue)
-    }
-
-    // How many services the packet has: as many as its set has ones [P16].
-    pub fn distinct_services(self) -> Counted
-        ensures { said_counted result ≡ measured (valid_dtvcc self) (distinct_services (packet_of self)) }
-    {
-        if self.is_valid() {
-            return Counted::Count(packet_services::how_many(self.services));
-        }
-        Counted::Refused(Refusal::BadValue)
-    }
-
-    // The block at a place [P1].
-    pub fn service(self, place: usize) -> ServiceAt
-        ensures { Placed (checked (valid_dtvcc self) (gave (take 1 (drop place (packet_of self).blocks)))) result }
-    {
-        let count = self.count;
-        let numbers = self.numbers;
-        let sizes = self.sizes;
-        let payload = self.payload;
-        if !self.is_valid() {
-            return nowhere(Place::Refused(Refusal::BadValue));
-        }
-        if count <= place {
-            return nowhere(Place::Nothing);
-        }
-        ServiceAt {
-            place: Place::Here,
-            service: packet_entries::block_at(&numbers, &sizes, &payload, place),
-        }
-    }
-
-    // Pushes a block behind the others [P10].
-    pub fn push_service(self, service: Service) -> PacketAnswer
-        ensures { Answers (checked (valid_dtvcc self && valid_service service) (push_block (block_of service) (packet_of self))) self result }
-    {
-        let mut numbers = self.numbers;
-        let mut sizes = self.sizes;
-        let mut payload = self.payload;
         if !self.services_agree() {
-            return self.refused();
+            return Err(Refusal::BadValue);
         }
-        let r = packet_pushes::push_block(
+        match packet_entries::extent_of(self.seq_no, self.count, &self.numbers, &self.sizes) {
+            Some(extent) => Ok(extent.length),
+            None => Err(Refusal::BadValue),
+        }
+    }
+
+    /// Whether the packet has no blocks [P1].
+    pub fn is_empty(&self) -> Result<bool, Refusal>
+        ensures { outcome result ≡ asked self.now (λ p. length p.blocks == 0) }
+    {
+        self.check()?;
+        Ok(self.count == 0)
+    }
+
+    /// How many blocks the packet has [P1].
+    pub fn service_count(&self) -> Result<usize, Refusal>
+        ensures { outcome result ≡ asked self.now (λ p. length p.blocks) }
+    {
+        self.check()?;
+        Ok(self.count)
+    }
+
+    /// The set of the packet's services: bit k for service k [P15].
+    pub fn service_set(&self) -> Result<u64, Refusal>
+        ensures { outcome result ≡ asked self.now services_of }
+    {
+        self.check()?;
+        Ok(self.services)
+    }
+
+    /// How many services the packet has: as many as its set has ones [P16].
+    pub fn distinct_services(&self) -> Result<usize, Refusal>
+        ensures { outcome result ≡ asked self.now distinct_services }
+    {
+        self.check()?;
+        Ok(packet_services::how_many(self.services))
+    }
+
+    /// The block at a place; none behind the last [P1].
+    pub fn service(&self, place: usize) -> Result<Option<Service>, Refusal>
+        ensures { outcome result ≡ mapped handed (asked self.now (blocks_at place)) }
+    {
+        self.check()?;
+        if self.count <= place {
+            return Ok(None);
+        }
+        Ok(Some(packet_entries::block_at(&self.numbers, &self.sizes, &self.payload, place)))
+    }
+
+    /// Pushes a block behind the others [P10]. Refused with `EmptyService` where it has no payload,
+    /// and with `WouldOverflow` where the packet has no room for it.
+    pub fn push_service(&mut self, service: &Service) -> Result<(), Refusal>
+        ensures answer { says (outcome result) ≡ says (pushed_block service.now self.old) }
+        ensures state { packet_of self.new ≡ after (packet_of self.old) (pushed_block service.now self.old) }
+        ensures places { self.new ≡ left self.old (pushed_block service.now self.old) }
+        ensures kept { OnErr result (self.new ≡ self.old) }
+    {
+        if !self.services_agree() {
+            return Err(Refusal::BadValue);
+        }
+        let count = packet_pushes::push_block(
             service,
             self.seq_no,
             self.count,
-            &mut numbers,
-            &mut sizes,
-            &mut payload,
-        );
-        answered(self, r, numbers, sizes, payload)
+            &mut self.numbers,
+            &mut self.sizes,
+            &mut self.payload,
+        )?;
+        self.hold(count);
+        Ok(())
     }
 
-    // Pushes a code, a run of bytes, to the latest block of its number that has room, or as a new block [P11] [P12].
-    pub fn push_code(self, service_no: u8, code: &[u8]) -> PacketAnswer
-        ensures { Answers (checked (valid_dtvcc self) (push_run service_no code.now (packet_of self))) self result }
+    /// Pushes a code, a run of bytes, to the latest block of its number that has room, or as a new
+    /// block [P11] [P12]. Refused with `BadNumber`, `BadRun`, `ReadOnly` for service 0, and with
+    /// `WouldOverflow` where the packet has no room for it.
+    pub fn push_code(&mut self, service_no: u8, code: &[u8]) -> Result<(), Refusal>
+        ensures answer { says (outcome result) ≡ says (pushed_run service_no code.now self.old) }
+        ensures state { packet_of self.new ≡ after (packet_of self.old) (pushed_run service_no code.now self.old) }
+        ensures places { self.new ≡ left self.old (pushed_run service_no code.now self.old) }
+        ensures kept { OnErr result (self.new ≡ self.old) }
     {
-        self.push_run(true, service_no, code)
+        self.push_run(Form::Spill, service_no, code)
     }
 
-    // Pushes a code to the latest block of its number; a new block is made only where there is none [P13].
-    pub fn push_code_into_single_service(self, service_no: u8, code: &[u8]) -> PacketAnswer
-        ensures { Answers (checked (valid_dtvcc self) (push_run_single service_no code.now (packet_of self))) self result }
+    /// Pushes a code to the latest block of its number; a new block is made only where there is
+    /// none [P13]. Refused as `push_code` is, and where that block has no room for it.
+    pub fn push_code_into_single_service(
+        &mut self,
+        service_no: u8,
+        code: &[u8],
+    ) -> Result<(), Refusal>
+        ensures answer { says (outcome result) ≡ says (pushed_single service_no code.now self.old) }
+        ensures state { packet_of self.new
+            ≡ after (packet_of self.old) (pushed_single service_no code.now self.old) }
+        ensures places { self.new ≡ left self.old (pushed_single service_no code.now self.old) }
+        ensures kept { OnErr result (self.new ≡ self.old) }
     {
-        self.push_run(false, service_no, code)
+        self.push_run(Form::Single, service_no, code)
     }
 
-    // Reads a packet as the crate does: data may be shorter than its header says [P2] to [P6].
-    pub fn parse(data: &[u8]) -> PacketAnswer
-        ensures { Answers (read_packet «data».now) blank result }
+    /// Reads a packet as the crate does: data may be shorter than its header says [P2] to [P6].
+    /// Refused where it is longer, and where a block is cut short.
+    pub fn parse(data: &[u8]) -> Result<DTVCCPacket, Refusal>
+        ensures answer { mapped packet_of (outcome result) ≡ read_packet «data».now }
+        ensures places { outcome result ≡ mapped laid (read_packet «data».now) }
     {
-        packet_of(packet_reading::read(data, false))
+        let filled = packet_reading::read::<Plain>(data)?;
+        Ok(filled_from(&filled))
     }
 
-    // Reads the packet that the first `len` bytes are, as `parse` does; at most 128 are there [P2] to [P6].
-    pub fn parse_in(bytes: &[u8; 128], len: usize) -> PacketAnswer
-        ensures { Answers (read_packet (take len bytes.now)) blank result }
+    /// Reads the packet that the first `len` bytes are, as `parse` does; at most 128 are there
+    /// [P2] to [P6].
+    pub fn parse_in(bytes: &[u8; 128], len: usize) -> Result<DTVCCPacket, Refusal>
+        ensures answer { mapped packet_of (outcome result) ≡ read_packet (take len bytes.now) }
+        ensures places { outcome result ≡ mapped laid (read_packet (take len bytes.now)) }
     {
-        packet_of(packet_reading::read_in(bytes, len, false))
+        let filled = packet_reading::read_in::<Plain>(bytes, len)?;
+        Ok(filled_from(&filled))
     }
 
-    // Reads a packet whose length is what its header says, block by whole block up to a null header [T1] to [T3].
-    pub fn parse_tidy(data: &[u8]) -> PacketAnswer
-        ensures { Answers (read_tidy «data».now) blank result }
+    /// Reads a packet whose length is what its header says, block by whole block up to a null
+    /// header [T1] to [T3]. Refused at any other length, and where a block is cut short.
+    pub fn parse_tidy(data: &[u8]) -> Result<DTVCCPacket, Refusal>
+        ensures answer { mapped packet_of (outcome result) ≡ read_tidy «data».now }
+        ensures places { outcome result ≡ mapped laid (read_tidy «data».now) }
     {
-        packet_of(packet_reading::read(data, true))
+        let filled = packet_reading::read::<Tidy>(data)?;
+        Ok(filled_from(&filled))
     }
 
-    // Writes the packet to a lent output; answers how many bytes that is [P8] [R9].
-    pub fn write(self, out: &mut [u8]) -> Counted
-        ensures { Writes (valid_dtvcc self) (written_packet (packet_of self)) out.old result out.new }
+    /// Writes the packet to a lent output; answers how many bytes that is [P8] [R9]. Refused with
+    /// `OutShort` where the output is shorter, and the output then stays.
+    pub fn write(&self, out: &mut [u8]) -> Result<usize, Refusal>
+        ensures answer { outcome result ≡ mapped (λ _. length (bytes_of self.now)) (written self.now out.old) }
+        ensures output { out.new ≡ after out.old (written self.now out.old) }
+        ensures kept { OnErr result (out.new ≡ out.old) }
     {
-        let numbers = self.numbers;
-        let sizes = self.sizes;
-        let payload = self.payload;
         if !self.services_agree() {
-            return Counted::Refused(Refusal::BadValue);
+            return Err(Refusal::BadValue);
         }
-        packet_writing::write(self.seq_no, self.count, &numbers, &sizes, &payload, out)
+        packet_writing::write(
+            self.seq_no,
+            self.count,
+            &self.numbers,
+            &self.sizes,
+            &self.payload,
+            out,
+        )
     }
 
-    // Whether the packet breaks no limit [P1] [P15].
-    pub fn is_valid(self) -> bool
-        ensures { result ≡ valid_dtvcc self }
+    /// Whether the packet breaks no limit [P1] [P15].
+    pub fn is_valid(&self) -> bool
+        ensures { result ≡ valid_dtvcc self.now }
     {
-        match self.extent() {
-            Extent::Of { length: _, used: _ } => true,
-            Extent::Bad => false,
-        }
+        self.len().is_ok()
     }
 
-    // The extent of a packet that breaks no limit.
-    fn extent(self) -> Extent
-        ensures { result ≡ extent_of self }
+    // The test at the head of each call.
+    fn check(&self) -> Result<(), Refusal>
+        ensures { outcome result ≡ asked self.now (λ _. tt) }
     {
-        let numbers = self.numbers;
-        let sizes = self.sizes;
-        if !self.services_agree() {
-            return Extent::Bad;
+        if self.is_valid() {
+            return Ok(());
         }
-        packet_entries::extent_of(self.seq_no, self.count, &numbers, &sizes)
+        Err(Refusal::BadValue)
     }
 
     // Whether the set is that of the numbers of the blocks.
-    fn services_agree(self) -> bool
-        ensures { result ≡ agrees self }
+    fn services_agree(&self) -> bool
+        ensures { result ≡ agrees self.now }
     {
-        let numbers = self.numbers;
-        self.services == packet_services::services_to(&numbers, self.count)
+        self.services == packet_services::services_to(&self.numbers, self.count)
     }
 
-    // A packet that breaks a limit, handed back.
-    fn refused(self) -> PacketAnswer
-        ensures { result ≡ refused_of self }
+    // Pushes a run in one of its two forms.
+    fn push_run(&mut self, form: Form, service_no: u8, code: &[u8]) -> Result<(), Refusal>
+        ensures answer { says (outcome result) ≡ says (pushed_by (spills form) service_no code.now self.old) }
+        ensures state { packet_of self.new
+            ≡ after (packet_of self.old) (pushed_by (spills form) service_no code.now self.old) }
+        ensures places { self.new ≡ left self.old (pushed_by (spills form) service_no code.now self.old) }
+        ensures kept { OnErr result (self.new ≡ self.old) }
     {
-        PacketAnswer {
-            answer: Answer::Refused(Refusal::BadValue),
-            packet: self,
-        }
-    }
-
-    // Pushes a run to the latest block of its number, or as a new block: where there is no such block, or where it has no
-    // room and `needs_room` says that it has to.
-    fn push_run(self, needs_room: bool, service_no: u8, code: &[u8]) -> PacketAnswer
-        ensures { Answers (checked (valid_dtvcc self) (push_run_by needs_room service_no code.now (packet_of self))) self result }
-    {
-        let mut numbers = self.numbers;
-        let mut sizes = self.sizes;
-        let mut payload = self.payload;
         if !self.services_agree() {
-            return self.refused();
+            return Err(Refusal::BadValue);
         }
-        let r = packet_pushes::push_run(
-            needs_room,
+        let count = packet_pushes::push_run(
+            form,
             service_no,
             code,
             self.seq_no,
             self.count,
-            &mut numbers,
-            &mut sizes,
-            &mut payload,
-        );
-        answered(self, r, numbers, sizes, payload)
+            &mut self.numbers,
+            &mut self.sizes,
+            &mut self.payload,
+        )?;
+        self.hold(count);
+        Ok(())
+    }
+
+    // Holds the first `count` blocks of its places.
+    fn hold(&mut self, count: usize)
+        ensures { self.new
+            ≡ packet_from
+            (fields self.old.seq_no count self.old.numbers self.old.sizes self.old.payload) }
+    {
+        self.count = count;
+        self.services = packet_services::services_to(&self.numbers, count);
     }
 }
 
-// How many bytes a packet whose first byte is `h` has in all [P2].
+/// How many bytes a packet whose first byte is `h` has in all [P2].
 pub fn packet_size(h: u8) -> usize
     ensures { result ≡ packet_size h }
 {
     packet_moves::packet_size(h)
 }
 
-// Whether the first `len` bytes read as a packet; at most 128 are there [F10].
+/// Whether the first `len` bytes read as a packet; at most 128 are there [F10].
 pub fn reads_in(bytes: &[u8; 128], len: usize) -> bool
     ensures { result ≡ model.reads (take len bytes.now) }
 {
     packet_moves::reads_in(bytes, len)
 }
 
-// A refusal, beside an empty packet.
-fn unread(why: Refusal) -> PacketAnswer
-    ensures { result ≡ unread_for why }
+// The packet of the places that a reading filled.
+fn filled_from(r: &Filled) -> DTVCCPacket
+    ensures { result ≡ filled_from r.now }
 {
-    PacketAnswer {
-        answer: Answer::Refused(why),
-        packet: DTVCCPacket {
-            seq_no: 0,
-            count: 0,
-            services: 0,
-            numbers: [0u8; 63],
-            sizes: [0u8; 63],
-            payload: [0u8; 127],
-        },
-    }
-}
-
-// The answer to a reading: the packet of the places that it filled.
-fn packet_of(r: Filled) -> PacketAnswer
-    ensures { result ≡ answer_from r }
-{
-    let answer = r.answer;
-    let numbers = r.numbers;
-    let sizes = r.sizes;
-    let payload = r.payload;
-    let services = packet_services::services_to(&numbers, r.count);
-    PacketAnswer {
-        answer,
-        packet: DTVCCPacket {
-            seq_no: r.seq_no,
-            count: r.count,
-            services,
-            numbers,
-            sizes,
-            payload,
-        },
-    }
-}
-
-// The answer to a push into these places, which a refusal leaves as they were. It is built once: built for each answer, it would be copied.
-fn answered(
-    before: DTVCCPacket,
-    r: Counted,
-    numbers: [u8; 63],
-    sizes: [u8; 63],
-    payload: [u8; 127],
-) -> PacketAnswer
-    ensures { result ≡ answer_of before r numbers sizes payload }
-{
-    PacketAnswer {
-        answer: answer_to(r),
-        packet: DTVCCPacket {
-            seq_no: before.seq_no,
-            count: count_after(r, before.count),
-            services: services_after(r, before.services, &numbers),
-            numbers,
-            sizes,
-            payload,
-        },
-    }
-}
-
-// What is answered to a push, by how many blocks there then are.
-fn answer_to(r: Counted) -> Answer
-    ensures { result ≡ answer_to r }
-{
-    match r {
-        Counted::Refused(why) => Answer::Refused(why),
-        Counted::Count(_) => Answer::Accepted,
-    }
-}
-
-// How many blocks there are after a push; one that is refused leaves as many as there were.
-fn count_after(r: Counted, before: usize) -> usize
-    ensures { result ≡ count_after r before }
-{
-    match r {
-        Counted::Refused(_) => before,
-        Counted::Count(count) => count,
-    }
-}
-
-// The set of services after a push, by how many blocks there then are; one that is refused leaves the set as it was.
-fn services_after(r: Counted, before: u64, numbers: &[u8; 63]) -> u64
-    ensures { result ≡ services_after r before numbers.now }
-{
-    match r {
-        Counted::Refused(_) => before,
-        Counted::Count(count) => packet_services::services_to(numbers, count),
-    }
-}
-
-// No block beside this answer.
-fn nowhere(place: Place) -> ServiceAt
-    ensures { (result.place ≡ place) × (result.service ≡ service.blank) }
-{
-    ServiceAt {
-        place,
-        service: Service {
-            number: 0,
-            len: 0,
-            payload: [0u8; 31],
-        },
+    DTVCCPacket {
+        seq_no: r.seq_no,
+        count: r.count,
+        services: packet_services::services_to(&r.numbers, r.count),
+        numbers: r.numbers,
+        sizes: r.sizes,
+        payload: r.payload,
     }
 }

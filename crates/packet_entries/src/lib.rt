@@ -5,67 +5,47 @@ ghost use Rattle.std.specs.Prelude.{◌≡◌, ◌≤◌};
 ghost use Rattle.packet_entries.specs.Entries.{entries, good_entry};
 ghost use Rattle.packet_entries.specs.Extent.{length_with, walked, extent_as, latest_of, sum_to, placed_service};
 
-use basics::{MOST_BLOCKS, lesser, put_bytes, wide};
+use basics::{MOST_BLOCKS, MOST_NUMBER, put_bytes};
 use service::Service;
 
 const MOST_BYTES: usize = 127;
 
-// How long a packet is, 0 without blocks, and how many bytes of payload its blocks have; or that a limit is broken.
-#[derive(Clone, Copy)]
-pub enum Extent {
-    Of { length: usize, used: usize },
-    Bad,
-}
+const MOST_SIZE: u8 = 31;
 
-// A place among the blocks.
-#[derive(Clone, Copy)]
-pub enum Found {
-    At(usize),
-    Nothing,
+/// How long a packet is, 0 without blocks, and how many bytes of payload its blocks have.
+#[derive(Clone, Copy, Debug, PartialEq, Eq)]
+pub struct Extent {
+    pub length: usize,
+    pub used: usize,
 }
 
 // Whether a block of this number and size may stand in a packet.
-#[tactic(auto, using(crate::proofs::Walks::entry_null, crate::proofs::Walks::entry_over, crate::proofs::Walks::entry_empty, crate::proofs::Walks::entry_long, crate::proofs::Walks::entry_good))]
+#[tactic(auto, unfolding(crate::specs::Entries::good_entry))]
 fn good_entry(number: u8, size: u8) -> bool
     ensures { result ≡ good_entry number size }
 {
-    if number < 1 {
-        return false;
-    }
-    if 63 < number {
-        return false;
-    }
-    if size < 1 {
-        return false;
-    }
-    if 31 < size {
-        return false;
-    }
-    true
+    (1..=MOST_NUMBER).contains(&number) && (1..=MOST_SIZE).contains(&size)
 }
 
-// Goes over the first `count` blocks: the sum of their lengths, and of their payloads.
-fn walk(numbers: &[u8; 63], sizes: &[u8; 63], count: usize) -> Extent
+// Goes over the first `count` blocks: the sum of their lengths, and of their payloads; none where
+// one of them breaks a limit.
+fn walk(numbers: &[u8; 63], sizes: &[u8; 63], count: usize) -> Option<Extent>
     requires { count ≤ 63 }
     ensures { result ≡ walked (entries count numbers.now sizes.now) }
 {
-    let mut lengths: usize = 0;
+    let mut length: usize = 0;
     let mut used: usize = 0;
-    let mut i = 0;
-    while i < count {
+    // By the place: a walk over the two slices in step (`zip`) did not close.
+    for i in 0..count {
         let number = numbers[i];
         let size = sizes[i];
         if !good_entry(number, size) {
-            return Extent::Bad;
+            return None;
         }
-        lengths += service_headers::block_length(number, size);
-        used += wide(size);
-        i += 1;
+        length += service_headers::block_length(number, size);
+        used += size as usize;
     }
-    Extent::Of {
-        length: lengths,
-        used,
-    }
+    Some(Extent { length, used })
 }
 
 // The length of a packet of `count` blocks whose lengths sum up to `lengths`.
@@ -79,68 +59,57 @@ fn length_of(count: usize, lengths: usize) -> usize
     1 + lengths
 }
 
-// The extent of a packet that breaks no limit.
+/// The extent of a packet that breaks no limit; none of one that does.
 #[tactic(auto, using(crate::proofs::Walks::extent_sequence, crate::proofs::Walks::extent_count, crate::proofs::Walks::extent_bad, crate::proofs::Walks::extent_long, crate::proofs::Walks::extent_good))]
-pub fn extent_of(seq_no: u8, count: usize, numbers: &[u8; 63], sizes: &[u8; 63]) -> Extent
+pub fn extent_of(seq_no: u8, count: usize, numbers: &[u8; 63], sizes: &[u8; 63]) -> Option<Extent>
     ensures { result ≡ extent_as seq_no count (entries count numbers.now sizes.now) }
 {
     if 3 < seq_no {
-        return Extent::Bad;
+        return None;
     }
     if MOST_BLOCKS < count {
-        return Extent::Bad;
+        return None;
     }
-    let walk = walk(numbers, sizes, count);
-    let Extent::Of {
-        length: lengths,
-        used,
-    } = walk
-    else {
-        return Extent::Bad;
-    };
-    if 127 < lengths {
-        return Extent::Bad;
+    let blocks = walk(numbers, sizes, count)?;
+    if 127 < blocks.length {
+        return None;
     }
-    Extent::Of {
-        length: length_of(count, lengths),
-        used,
-    }
+    Some(Extent {
+        length: length_of(count, blocks.length),
+        used: blocks.used,
+    })
 }
 
-// The sum of the first `count` sizes.
+/// The sum of the first `count` sizes; 0 where there are fewer places.
+#[tactic(auto, using(crate::proofs::Walks::sum_many))]
 pub fn sum_of(sizes: &[u8; 63], count: usize) -> usize
     ensures { result ≡ sum_to count sizes.now }
 {
-    let mut sum: usize = 0;
-    let mut i = 0;
     if MOST_BLOCKS < count {
         return 0;
     }
-    while i < count {
-        sum += wide(sizes[i]);
-        i += 1;
+    let all = &sizes[..];
+    let mut sum: usize = 0;
+    for &size in &all[..count] {
+        sum += size as usize;
     }
     sum
 }
 
-// The place of the latest of the first `count` blocks that has this number.
-pub fn latest(numbers: &[u8; 63], count: usize, number: u8) -> Found
+/// The place of the latest of the first `count` blocks that has this number; none where there are
+/// fewer places.
+#[tactic(auto, using(crate::proofs::Walks::latest_many))]
+pub fn latest(numbers: &[u8; 63], count: usize, number: u8) -> Option<usize>
     ensures { result ≡ latest_of count numbers.now number }
 {
     if MOST_BLOCKS < count {
-        return Found::Nothing;
+        return None;
     }
-    let mut i = count;
-    while 0 < i {
-        if numbers[i - 1] == number {
-            return Found::At(i - 1);
-        }
-        i -= 1;
-    }
-    Found::Nothing
+    let all = &numbers[..];
+    all[..count].iter().rposition(|&n| n == number)
 }
 
-// The block at a place of the arrays.
+/// The block at a place of the arrays.
 pub fn block_at(numbers: &[u8; 63], sizes: &[u8; 63], payload: &[u8; 127], place: usize) -> Service
     ensures { result ≡ placed_service place numbers.now sizes.now payload.now }
 {
@@ -152,9 +121,9 @@ pub fn block_at(numbers: &[u8; 63], sizes: &[u8; 63], payload: &[u8; 127], place
             payload: bytes,
         };
     }
-    let size = wide(sizes[place]);
-    let from = lesser(sum_of(sizes, place), MOST_BYTES);
-    let end = lesser(from + size, MOST_BYTES);
+    let size = sizes[place] as usize;
+    let from = sum_of(sizes, place).min(MOST_BYTES);
+    let end = (from + size).min(MOST_BYTES);
     let all = &payload[..];
     put_bytes(&mut bytes, 0, &all[from..end]);
     Service {

@@ -1,2 +1,3 @@
 pub mod Moves
 pub mod Fronts
+pub mod Nulls

@@ -1,26 +1,35 @@
 -- What pushing to the places of a packet answers, and what it leaves: for the functions of this crate and the proofs of `packet`, whose public
 -- contracts say it by the model and do not reach this file. Assumes nothing.
-use Rattle.std.specs.Prelude.{◌≡◌, Bool, ◌&&◌, List, ℕ, ◌+◌, ◌-◌, ◌≤◌, ◌<◌, length, get_or, set, take, drop}
+use Rattle.std.specs.Prelude.{◌≡◌, Bool, true, false, ◌&&◌, Result, List, ℕ, ◌+◌, ◌-◌, ◌≤◌, ◌<◌, length, get_or, set, take, drop}
 use Rattle.std.proofs.lemmas.List.Edits.{sets}
 use Rattle.caption.specs.declared.Refusal.{Refusal}
-use Rattle.caption.specs.declared.Counted.{Counted}
-use Rattle.caption.specs.declared.Counted.TheVariants.{Count, Refused}
-use Rattle.caption.specs.Answers.{said_refusal}
-use Rattle.model.specs.Said.{Outcome, gave, refused, mapped, checked}
+use Rattle.caption.specs.Answers.{outcome}
+use Rattle.model.specs.Said.{Outcome, mapped, after, checked}
 use Rattle.model.specs.Packet.{push_block, push_new, push_at, push_run_by}
 use Rattle.service.specs.declared.Service.{Service}
 use Rattle.service.specs.Service.{block_of, valid_service}
-use Rattle.packet_entries.specs.Fields.{Fields, Arrays, Places, fields, arrays_of, laid_over, packet_in, valid_fields}
+use Rattle.packet_entries.specs.Fields.{Fields, Arrays, fields, laid_over, packet_in, valid_fields}
 use Rattle.packet_entries.specs.Extent.{sum_to}
+use Rattle.packet_pushes.specs.declared.Form.{Form}
+use Rattle.packet_pushes.specs.declared.Form.TheVariants.{Spill, Single}
 
--- how many blocks there are in the places that the outcome gives, and those places; or its refusal, and the places as they were
-unfoldable pub Stores : Outcome Fields → Fields → Counted → Arrays → Type 0
-Stores (gave g) f r a = (r ≡ Count g.count) × (g ≡ fields f.seq_no g.count a.numbers a.sizes a.payload)
-Stores (refused why) f r a = (e : Refusal) × (r ≡ Refused e) × (said_refusal e ≡ why) × (a ≡ arrays_of f)
+-- how many blocks there are in the places that an outcome gives
+abbrev pub counted : Outcome Fields → Outcome ℕ
+counted o = mapped (λ (f : Fields). f.count) o
 
--- a push to arrays of their lengths
-abbrev pub Pushes : (Fields → Outcome Fields) → Fields → Counted → Arrays → Type 0
-Pushes push f r a = Places f → Stores (push f) f r a
+-- the places behind a push: as many blocks as it answers, and as many as before where it refuses
+abbrev pub left_by : ℕ → ℕ → Result ℕ Refusal → Arrays → Fields
+left_by q k r a = fields q (after k (outcome r)) a.numbers a.sizes a.payload
+
+-- a push answers how many blocks there are in the places that it gives, and leaves those; a refusal leaves them as they were
+pub record Stores (push : Fields → Outcome Fields) (f : Fields) (r : Result ℕ Refusal) (a : Arrays) : Type 0 where
+  pub answer : outcome r ≡ counted (push f)
+  pub places : left_by f.seq_no f.count r a ≡ after f (push f)
+
+-- whether a run goes to a new block where the latest has no room for it
+abbrev pub spills : Form → Bool
+spills Spill = true
+spills Single = false
 
 -- a run pushed as a new block: the packet that it gives is laid over this one
 unfoldable pub pushed_new : ℕ → List ℕ → Fields → Outcome Fields

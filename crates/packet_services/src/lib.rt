@@ -17,25 +17,23 @@ fn with_number(set: u64, number: u8) -> u64
     set | (1u64 << (number as u32))
 }
 
-// The set of the first `count` numbers.
+/// The set of the first `count` numbers; empty where there are fewer places.
 #[tactic(auto, using(crate::proofs::Services::set_many))]
 pub fn services_to(numbers: &[u8; 63], count: usize) -> u64
     ensures { result ≡ services_to count numbers.now }
 {
-    let all = &numbers[..];
-    let mut set: u64 = 0;
-    let mut i = 0;
     if MOST_BLOCKS < count {
         return 0;
     }
-    while i < count {
-        set = with_number(set, all[i]);
-        i += 1;
+    let all = &numbers[..];
+    let mut set: u64 = 0;
+    for &number in &all[..count] {
+        set = with_number(set, number);
     }
     set
 }
 
-// How many services a set has: as many as ones.
+/// How many services a set has: as many as ones.
 pub fn how_many(set: u64) -> usize
     ensures { result ≡ ones set }
 {

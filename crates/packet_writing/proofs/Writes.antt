@@ -1,7 +1,7 @@
 -- How a packet is laid into an output: header, blocks, fill. Assumes nothing.
-use mathlib.Core.Path.{◌≡◌, refl, sym, ◌∙◌}
+use mathlib.Core.Path.{◌≡◌, refl, sym, ap, ◌∙◌}
 use mathlib.Core.Bool.{true, false, cond}
-use mathlib.Core.List.{List, [], ◌∷◌, ◌++◌}
+use mathlib.Core.List.{List, ◌∷◌, ◌++◌}
 use Prim.Native.Nat.{ℕ, ◌+◌, ◌-◌, ◌*◌, ◌/◌, ◌%◌, ◌≤◌, ◌<◌}
 use native.Mathlib.Nat.{sub-zero}
 use native.Mathlib.Omega.{arith}
@@ -9,9 +9,7 @@ use lib.Dec.{eqb, ltb}
 use lib.ListN.{length, take, drop, get_or, set, length-append, length-drop}
 use lib.Seq.{sets, drop-drop, length-take-le, set_out}
 use borrow.Author.Tests.{eq-eqb, ne_eqb, lt-ltb, le-ltb, eqb-true, eqb-false}
-use Rattle.caption.specs.declared.Counted.{Counted}
-use Rattle.caption.specs.Answers.{said_counted}
-use Rattle.model.specs.Said.{put_into, accepted, bad_value, out_short}
+use Rattle.model.specs.Said.{gave, refused, put_into, bad_value, out_short}
 use Rattle.model.specs.Block.{Block, written_header, written_block}
 use Rattle.model.specs.Packet.{packet_length, packet_header, written_blocks, written_packet, fill}
 use Rattle.model.proofs.Cases.{by_test, by_cond, both}
@@ -23,7 +21,7 @@ use Rattle.service_headers.proofs.Heads.{laid_block}
 use Rattle.packet_entries.specs.Fields.{Fields, packet_in, block_from}
 use Rattle.packet_entries.specs.Entries.{Entry, entries, entries_of, cut, good_entry, good_entries, entry_lengths, used_by, valid_entries}
 use Rattle.packet_entries.specs.Extent.{Sized}
-use Rattle.packet_writing.specs.Writing.{Writable, WritesPlaces}
+use Rattle.packet_writing.specs.Writing.{Writable, written}
 use Rattle.packet_entries.proofs.Entries.{Good, no_lengths, entries_at, good_facts, length_for_some}
 use Rattle.packet_entries.proofs.Holds.{Within, within_facts, blocks_cut, used_fits, lengths_held, held_valid, tests_agree}
 use Rattle.packet_entries.proofs.Measures.{sized_within, sized_valid, sized_length}
@@ -169,23 +167,24 @@ module _ (p : Fields) (n u : ℕ) (s : Sized p n u) (full : length p.payload ≡
     pub total_some : 1 ≤ t
     total_some = rw is (by_cond (λ k. 1 ≤ k) (eqb n 0) (λ _. omega arith) (λ e. omega (arith, eqb-false n 0 e)))
 
-    pub write_short : (out : List ℕ) (r : Counted) → length out < t → said_counted r ≡ out_short t → WritesPlaces p out r out
+    -- 9: the output is too short
+    pub write_short : (out : List ℕ) → length out < t → written p out ≡ refused (out_short t)
     unfolding put_into
-    write_short out r h q =
+    write_short out h =
         let z : ltb (length out) t ≡ true = lt-ltb _ _ h in
-        record { answer = rw (sized_valid p n u s full, written_total t is, z) q; output = rw (sized_valid p n u s full, written_total t is, z) }
+        rw (sized_valid p n u s full, written_total t is, z)
 
-    pub write_fits : (out now : List ℕ) (r : Counted) → t ≤ length out → said_counted r ≡ accepted (t ∷ []) → now ≡ sets out 0 (written_packet (packet_in p))
-        → WritesPlaces p out r now
+    -- accepted: the packet stands at the front of the output
+    pub write_fits : (out now : List ℕ) → t ≤ length out → now ≡ sets out 0 (written_packet (packet_in p)) → written p out ≡ gave now
     unfolding put_into
-    write_fits out now r h q e =
+    write_fits out now h e =
         let z : ltb (length out) t ≡ false = le-ltb _ _ h in
         let f = sets_front out (written_packet (packet_in p)) (omega (arith, written_total t is)) in
-        record { answer = rw (sized_valid p n u s full, written_total t is, z) q; output = rw (sized_valid p n u s full, written_total t is, z) (e ∙ rw (written_total t is) at f) }
+        rw (sized_valid p n u s full, written_total t is, z) (ap gave (sym (e ∙ rw (written_total t is) at f)))
 
-pub write_invalid : (p : Fields) → length p.payload ≡ 127 → (out : List ℕ) (r : Counted) → valid_entries p ≡ false → said_counted r ≡ bad_value
-    → WritesPlaces p out r out
-write_invalid p full out r e q = rw (tests_agree p full, e) (record { answer = q; output = refl })
+-- 11: the places break a limit
+pub write_invalid : (p : Fields) → length p.payload ≡ 127 → (out : List ℕ) → valid_entries p ≡ false → written p out ≡ refused bad_value
+write_invalid p full out e = rw (tests_agree p full, e)
 
 -- the blocks of such a packet may be written
 pub writable : (p : Fields) → valid_entries p ≡ true → length p.payload ≡ 127 → Writable (entries_of p) p.count (length p.payload)

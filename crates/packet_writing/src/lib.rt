@@ -7,13 +7,14 @@ ghost use Rattle.model.specs.Packet.{written_blocks, fill};
 ghost use Rattle.model.specs.Block.{written_block};
 ghost use Rattle.packet_entries.specs.Fields.{fields, block_from};
 ghost use Rattle.packet_entries.specs.Entries.{entries, cut};
-ghost use Rattle.packet_writing.specs.Writing.{Writable, WritesPlaces};
+ghost use Rattle.caption.specs.Answers.{outcome};
+ghost use Rattle.model.specs.Said.{after, mapped};
+ghost use Rattle.packet_writing.specs.Writing.{Writable, bytes_in, written};
 
-use basics::{put_bytes, wide};
-use caption::{Counted, Refusal};
-use packet_entries::Extent;
+use basics::put_bytes;
+use caption::Refusal;
 
-// Writes a packet to a lent output; answers how many bytes that is.
+/// Writes a packet to a lent output; answers how many bytes that is.
 pub fn write(
     seq_no: u8,
     count: usize,
@@ -21,22 +22,26 @@ pub fn write(
     sizes: &[u8; 63],
     payload: &[u8; 127],
     out: &mut [u8],
-) -> Counted
-    ensures { WritesPlaces (fields seq_no count numbers.now sizes.now payload.now) out.old result out.new }
+) -> Result<usize, Refusal>
+    ensures answer { outcome result
+        ≡ mapped (λ _. length (bytes_in (fields seq_no count numbers.now sizes.now payload.now)))
+        (written (fields seq_no count numbers.now sizes.now payload.now) out.old) }
+    ensures output { out.new
+        ≡ after out.old (written (fields seq_no count numbers.now sizes.now payload.now) out.old) }
 {
-    let bytes = &payload[..];
-    let extent = packet_entries::extent_of(seq_no, count, numbers, sizes);
-    let Extent::Of { length: n, used: _ } = extent else {
-        return Counted::Refused(Refusal::BadValue);
+    let Some(extent) = packet_entries::extent_of(seq_no, count, numbers, sizes) else {
+        return Err(Refusal::BadValue);
     };
+    let n = extent.length;
     let total = written_in(n);
     if out.len() < total {
-        return Counted::Refused(Refusal::OutShort { needed: total });
+        return Err(Refusal::OutShort { needed: total });
     }
+    let bytes = &payload[..];
     out[0] = header_byte(seq_no, n);
     put_blocks(numbers, sizes, bytes, count, out);
     put_fill(out, n);
-    Counted::Count(total)
+    Ok(total)
 }
 
 // How many bytes a packet of length `n` is written in.
@@ -65,15 +70,13 @@ fn put_blocks(numbers: &[u8; 63], sizes: &[u8; 63], payload: &[u8], count: usize
 {
     let mut at: usize = 1;
     let mut from: usize = 0;
-    let mut i: usize = 0;
-    while i < count {
+    for i in 0..count {
         let number = numbers[i];
         let size = sizes[i];
-        let end = from + wide(size);
+        let end = from + size as usize;
         put_block(out, at, number, size, &payload[from..end]);
-        at += service_headers::written_header_length(number) + wide(size);
+        at += service_headers::written_header_length(number) + size as usize;
         from = end;
-        i += 1;
     }
 }
 

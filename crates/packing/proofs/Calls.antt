@@ -8,14 +8,11 @@ use lib.Dec.{ltb}
 use lib.ListN.{length}
 use lib.Seq.{sets}
 use borrow.Author.Tests.{le-leb, lt-leb, lt-ltb, le-ltb}
-use Rattle.caption.specs.declared.Refusal.TheVariants.{OverLimit, OutShort}
-use Rattle.model.specs.Said.{put_into}
+use Rattle.model.specs.Said.{gave, refused, over_limit, out_short, put_into}
 use Rattle.basics.proofs.Runs.{sets_front}
 use Rattle.model_packing.specs.Pieces.{Piece, numbers_of}
 use Rattle.model_packing.specs.Proposals.{runs_fit}
 use Rattle.model_packing.specs.FirstCome.{Filling, start, placed_run, pieces_from, first_come, packets_filled, packable, propose}
-use Rattle.packing.specs.declared.Proposal.TheVariants.{Made, Refused}
-use Rattle.packing.specs.Calls.{Proposes}
 
 -- five numbers for each piece
 pub length_numbers : (ps : List Piece) → length (numbers_of ps) ≡ 5 * length ps
@@ -40,24 +37,24 @@ all_fit services lengths few fit is e = rw (le-leb _ _ few, ← is, e)
 
 module _ (services lengths out : List ℕ) where
   -- 26 where no proposal can be made
-  over_limit : packable services lengths ≡ false → Proposes services lengths out (Refused OverLimit) out
+  unpacked : packable services lengths ≡ false → propose services lengths out ≡ refused over_limit
   unfolding propose
-  over_limit e = record { answer = rw e; output = rw e }
+  unpacked e = rw e
 
   -- of too many runs
-  pub too_many : 256 < length services → Proposes services lengths out (Refused OverLimit) out
+  pub too_many : 256 < length services → propose services lengths out ≡ refused over_limit
   unfolding packable
-  too_many h = over_limit (rw (lt-leb _ _ h))
+  too_many h = unpacked (rw (lt-leb _ _ h))
 
   module _ (few : length services ≤ 256) (fit : Bool) (is : fit ≡ runs_fit services lengths) where
     -- of one that does not fit
-    pub one_unfit : fit ≡ false → Proposes services lengths out (Refused OverLimit) out
+    pub one_unfit : fit ≡ false → propose services lengths out ≡ refused over_limit
     unfolding packable
-    one_unfit e = over_limit (rw (le-leb _ _ few, ← is, e))
+    one_unfit e = unpacked (rw (le-leb _ _ few, ← is, e))
 
     module _ (e : fit ≡ true) where
       -- the numbers of the pieces
-      abbrev numbers : List ℕ
+      abbrev pub numbers : List ℕ
       numbers = numbers_of (first_come services lengths)
 
       -- the runs are packed
@@ -65,20 +62,20 @@ module _ (services lengths out : List ℕ) where
       packs = all_fit services lengths few fit is e
 
       -- they are five for each run
-      needed : length numbers ≡ 5 * length services
+      pub needed : length numbers ≡ 5 * length services
       needed = proposal_length services lengths
 
       -- 9 where the pieces are longer than the output
-      pub out_short : length out < 5 * length services → Proposes services lengths out (Refused (OutShort (5 * length services))) out
+      pub short_of_room : length out < 5 * length services → propose services lengths out ≡ refused (out_short (5 * length services))
       unfolding propose put_into
-      out_short h =
+      short_of_room h =
           let s : ltb (length out) (length numbers) ≡ true = lt-ltb (length out) (length numbers) (omega (arith, needed)) in
-          record { answer = rw (packs, s, needed); output = rw (packs, s) }
+          rw (packs, s, needed)
 
       -- else they are in front of it
-      pub made : 5 * length services ≤ length out → (packets : ℕ) → packets ≡ packets_filled services lengths → (end : List ℕ) → end ≡ sets out 0 numbers
-          → Proposes services lengths out (Made packets (5 * length services)) end
+      pub made : 5 * length services ≤ length out
+          → propose services lengths out ≡ gave (record { packets = packets_filled services lengths; numbers = numbers; out = sets out 0 numbers })
       unfolding propose put_into
-      made h packets p end o =
+      made h =
           let s : ltb (length out) (length numbers) ≡ false = le-ltb (length out) (length numbers) (omega (arith, needed)) in
-          record { answer = rw (packs, s, needed, p); output = o ∙ sets_front out numbers (omega (arith, needed)) ∙ rw (packs, s) }
+          rw (packs, s, sets_front out numbers (omega (arith, needed)))

@@ -9,9 +9,7 @@ use lib.ListN.{length}
 use Rattle.model.specs.Said.{Said, accepted, bad_cover, out_of_order, run_split, over_limit}
 use Rattle.model.proofs.Cases.{by_test, NotAccepted}
 use Rattle.caption.specs.declared.Refusal.{Refusal}
-use Rattle.caption.specs.declared.Answer.{Answer}
-use Rattle.caption.specs.declared.Answer.TheVariants.{Accepted, Refused}
-use Rattle.caption.specs.Answers.{said_refusal, said_answer}
+use Rattle.caption.specs.Answers.{said_refusal}
 use Rattle.caption.proofs.Answers.{refusal_numbered}
 use Rattle.model_packing.specs.Pieces.{Piece}
 use Rattle.model_packing.specs.Proposals.{covers, ordered, unsplit, limits, most_runs, bytes_first, check_proposal}
@@ -42,16 +40,16 @@ module _ (services lengths : List ℕ) (ps : List Piece) where
       (λ o. rw (f, c, o) (rw (f, c, o) at e)))
       (λ c. rw (f, c) (rw (f, c) at e)))
 
-module _ (services lengths : List ℕ) (ps : List Piece) (a : Answer) (said : said_answer a ≡ bytes_said services lengths ps) where
+module _ (services lengths : List ℕ) (ps : List Piece) where
   -- the bytes are refused
-  pub bytes_refused : (why : Refusal) → a ≡ Refused why → said_answer a ≡ check_proposal services lengths ps
+  pub bytes_refused : (why : Refusal) → said_refusal why ≡ bytes_said services lengths ps → said_refusal why ≡ check_proposal services lengths ps
   unfolding bytes_said check_proposal
-  bytes_refused why e = rw e (bytes_first_lem services lengths ps (said_refusal why) (refusal_numbered why) (ap said_answer (sym e) ∙ said) _)
+  bytes_refused why e = bytes_first_lem services lengths ps (said_refusal why) (refusal_numbered why) e _
 
-  module _ (e : a ≡ Accepted) where
+  module _ (e : accepted [] ≡ bytes_said services lengths ps) where
     asked : check_proposal services lengths ps ≡ cond (limits services lengths ps) (accepted []) over_limit
     unfolding bytes_said check_proposal
-    asked = bytes_passed services lengths ps (ap said_answer (sym e) ∙ said) _
+    asked = bytes_passed services lengths ps e _
 
     module _ (b : Bool) (is : b ≡ limits services lengths ps) where
       -- the limits are kept

@@ -9,11 +9,12 @@ use lib.Dec.{eqb}
 use lib.ListN.{length, get_or, length-replicate}
 use lib.Seq.{sets, length-sets}
 use borrow.Author.Tests.{eqb-true, eqb-false}
-use Rattle.model.specs.Packet.{latest, new_packet}
+use Rattle.model.specs.Packet.{latest}
 use Rattle.model.proofs.Cases.{by_test}
-use Rattle.packet.specs.declared.PacketAnswer.{PacketAnswer}
-use Rattle.packet.specs.Packet.{Answers, packet_of, valid_dtvcc}
+use Rattle.packet.specs.declared.DTVCCPacket.{DTVCCPacket}
+use Rattle.packet.specs.Packet.{packet_of, valid_dtvcc}
 use Rattle.packet.specs.Packet as packet
+use Rattle.packet.proofs.Holds.{blank_places}
 use Rattle.packet.proofs.Keeps.{blank_valid}
 use Rattle.model_packing.specs.Pieces.{numbers_of, service_of}
 use Rattle.model_packing.specs.Proposals.{run_fits}
@@ -21,8 +22,8 @@ use Rattle.model_packing.specs.FirstCome.{start, placed_run, place_or0, piece_fo
 use Rattle.model_packing.specs.FirstCome as model
 use Rattle.model_packing.proofs.Filling.{PlacedAt, Bounded, bounded_start, fits_carriable, run_placed, bounded_next, few_runs, each_run_fits}
 use Rattle.packing.specs.declared.Filling.{Filling}
-use Rattle.packing.specs.Fillings.{filling_of, PlacesRun}
-use Rattle.packing.proofs.Fillings.{new_blank, blank_holds}
+use Rattle.packing.specs.Fillings.{filling_of, InPlaces, PlacesRun}
+use Rattle.packing.proofs.Fillings.{blank_holds}
 
 -- five numbers stored, then the rest
 stored : (l : List ℕ) (o a b d e f : ℕ) (vs : List ℕ)
@@ -54,6 +55,7 @@ pub record Going (services lengths before : List ℕ) (i : ℕ) (at : Filling) (
   pub packs : packable services lengths ≡ true
   pub upto : i ≤ length services
   pub valid : valid_dtvcc at.packet ≡ true
+  pub places : InPlaces at.packet
   pub bounded : Bounded i (filling_of at)
   pub left : sets out (5 * i) (numbers_of (pieces_from services lengths (length services - i) i (filling_of at))) ≡ whole services lengths before
   pub packets : packets_from services lengths (length services - i) i (filling_of at) ≡ packets_of services lengths
@@ -65,15 +67,15 @@ module _ (services lengths before : List ℕ) where
   none_put h = rw h
 
   -- at first nothing is placed
-  pub going_first : packable services lengths ≡ true → (new : PacketAnswer) → Answers (new_packet 0) packet.blank new
-      → Going services lengths before 0 (record { before = 0; packet = new.packet }) before
-  going_first e new n =
+  pub going_first : packable services lengths ≡ true → (p : DTVCCPacket) → p ≡ packet.blank → Going services lengths before 0 (record { before = 0; packet = p }) before
+  going_first e p n =
       let z : length services - 0 ≡ length services = omega arith in
-      rw (new_blank new n)
+      rw n
       (record {
         packs = e;
         upto = omega arith;
         valid = blank_valid;
+        places = blank_places;
         bounded = rw blank_holds bounded_start;
         left = rw (z, blank_holds);
         packets = rw (z, blank_holds);
@@ -166,6 +168,7 @@ module _ (services lengths before : List ℕ) where
               packs = g.packs;
               upto = omega arith;
               valid = t.valid;
+              places = t.places;
               bounded = rw (add-one i) to_bounded;
               left = rw (e, w, add-one i, eb, es, en, ← stored) m;
               packets = rw (add-one i, to_is) q;

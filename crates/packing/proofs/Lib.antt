@@ -3,6 +3,5 @@ pub mod Pushes
 pub mod Fillings
 pub mod Going
 pub mod Calls
-pub mod Told
 pub mod Pushed
 pub mod Checked

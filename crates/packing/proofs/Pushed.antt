@@ -1,6 +1,6 @@
 -- What the first-come packer proposes is carried out by `push_code`: whatever results its contract allows, every push is accepted, and then each packet
 -- has exactly the blocks that the proposal describes. Assumes nothing.
-use mathlib.Core.Path.{◌≡◌, refl, sym, ◌∙◌}
+use mathlib.Core.Path.{◌≡◌, refl, sym, ap, ◌∙◌}
 use mathlib.Core.Bool.{true}
 use mathlib.Core.List.{List, [], ◌∷◌, ◌++◌, append-nil, append_assoc, map}
 use Prim.Native.Nat.{ℕ, ◌≤◌}
@@ -9,15 +9,14 @@ use lib.ListN.{length}
 use contract.Lifetimes.{Lfts}
 use denote.Ref.{Bor}
 use borrow.Author.Tests.{eqb-true, eqb-false, le-ltb}
-use Rattle.model.specs.Said.{gave, checked}
+use Rattle.std.specs.Prelude.{Ok, OnErr}
+use Rattle.model.specs.Said.{gave, says, after}
 use Rattle.model.specs.Packet.{Packet, new_packet, push_run}
 use Rattle.model.proofs.Cases.{by_cond}
-use Rattle.caption.specs.declared.Answer.{Answer}
-use Rattle.caption.specs.declared.Answer.TheVariants.{Accepted}
-use Rattle.caption.proofs.Answers.{said_answer_injective}
+use Rattle.caption.specs.Answers.{outcome}
+use Rattle.caption.proofs.Outcomes.{says_injective}
 use Rattle.packet.specs.declared.DTVCCPacket.{DTVCCPacket}
-use Rattle.packet.specs.declared.PacketAnswer.{PacketAnswer}
-use Rattle.packet.specs.Packet.{Answers, packet_of, over, blank, valid_dtvcc}
+use Rattle.packet.specs.Packet.{packet_of, over, blank, valid_dtvcc, left, pushed_run}
 use Rattle.packet.proofs.Holds.{Places, blank_places}
 use Rattle.packet.proofs.Measures.{new_valid}
 use Rattle.packet.proofs.Keeps.{Laid, laid_over, run_held}
@@ -30,11 +29,15 @@ use Rattle.model_packing.proofs.Accepted.{accepted_passes}
 use Rattle.model_packing.proofs.Carried.{piece_length}
 use Rattle.model_packing.proofs.AsProposed.{CarriedOut, pushed_as_proposed}
 use Rattle.model_packing.proofs.Passing.{passes}
-use Rattle.packing.specs.Pushing.{NewPacket, Packets, Fresh, replaced, Pushes, no_piece, push_piece, AllPushed}
+use Rattle.packing.specs.Pushing.{Answer, Lent, NewPacket, Packets, Fresh, replaced, Pushes, no_piece, push_piece, AllPushed}
 
 -- bytes that are lent
 abbrev lent : List ℕ → Bor (List ℕ)
 lent bytes = record { ref_ptr = (0, 0); now = bytes }
+
+-- a packet that is lent
+abbrev lent_packet : DTVCCPacket → Lent
+lent_packet p = record { ref_ptr = (0, 0); ghost_name = 0; now = p }
 
 -- a packet that holds a packet of the model, within the limits
 pub record Keeps (p : DTVCCPacket) (m : Packet) : Type 0 where
@@ -43,40 +46,40 @@ pub record Keeps (p : DTVCCPacket) (m : Packet) : Type 0 where
   pub means : packet_of p ≡ m
 
 -- one made anew has no blocks
-fresh_keeps : (n : ℕ) → n ≤ 3 → (r : PacketAnswer) → NewPacket n r → Keeps r.packet (record { sequence = n; blocks = [] })
+fresh_keeps : (n : ℕ) → n ≤ 3 → (p : DTVCCPacket) → NewPacket n (Ok p) → Keeps p (record { sequence = n; blocks = [] })
 unfolding new_packet
-fresh_keeps n few r a =
+fresh_keeps n few p a =
     let l : Laid blank (record { sequence = n; blocks = [] }) = laid_over blank blank_places _ (new_valid n few) in
-    let e : r.packet ≡ over blank (record { sequence = n; blocks = [] }) = rw (le-ltb 3 n few) at a.places in
+    let g : gave p ≡ gave (over blank (record { sequence = n; blocks = [] })) = rw (le-ltb 3 n few) at a.1 in
+    let e : p ≡ over blank (record { sequence = n; blocks = [] }) = cc in
     rw e (record { places = l.places; valid = l.valid; means = l.holds })
 
 -- what the contract of a push allows
-abbrev pub Pushed : DTVCCPacket → ℕ → List ℕ → PacketAnswer → Type 0
-Pushed p s run r = Answers (checked (valid_dtvcc p) (push_run s run (packet_of p))) p r
+abbrev pub Pushed : DTVCCPacket → ℕ → List ℕ → Answer → DTVCCPacket → Type 0
+Pushed p s run r q =
+    (says (outcome r) ≡ says (pushed_run s run p))
+    × ((packet_of q ≡ after (packet_of p) (pushed_run s run p)) × ((q ≡ left p (pushed_run s run p)) × OnErr r (q ≡ p)))
 
 -- a push that the model accepts
 module _ (p : DTVCCPacket) (m : Packet) (k : Keeps p m) (s : ℕ) (run : List ℕ) (to : Packet) (takes : push_run s run m ≡ gave to) where
-  taken_by : push_run s run (packet_of p) ≡ gave to
-  taken_by = rw k.means takes
+  pushed_to : pushed_run s run p ≡ gave to
+  pushed_to = rw (k.valid, k.means, takes)
 
   laid_there : Laid p to
-  laid_there = run_held p k.valid k.places true s run taken_by
+  laid_there = run_held p k.valid k.places true s run (rw k.means takes)
 
   -- has a result that is allowed
-  pub push_some : (r : PacketAnswer) × Pushed p s run r
-  push_some = (record { answer = Accepted; packet = over p to }, rw (k.valid, taken_by) (record { answer = refl; means = laid_there.holds; places = refl }))
+  pub push_some : Pushed p s run (Ok tt) (over p to)
+  push_some = rw pushed_to (refl, (laid_there.holds, (refl, tt)))
 
-  module _ (r : PacketAnswer) (a : Pushed p s run r) where
-    answers : Answers (gave to) p r
-    answers = rw (k.valid, taken_by) at a
-
+  module _ (r : Answer) (q : DTVCCPacket) (a : Pushed p s run r q) where
     -- any that is allowed accepts it,
-    pub push_accepted : r.answer ≡ Accepted
-    push_accepted = said_answer_injective r.answer Accepted answers.answer
+    pub push_accepted : r ≡ Ok tt
+    push_accepted = says_injective r (Ok tt) (a.0 ∙ ap says pushed_to)
 
     -- and leaves what the model gives
-    pub push_keeps : Keeps r.packet to
-    push_keeps = let l = laid_there in rw answers.places (record { places = l.places; valid = l.valid; means = l.holds })
+    pub push_keeps : Keeps q to
+    push_keeps = let l = laid_there in rw (a.1.1.0, pushed_to) (record { places = l.places; valid = l.valid; means = l.holds })
 
 -- packets that keep what pieces describe
 abbrev Described : List ℕ → List (List ℕ) → (ℕ → ℕ) → List Piece → Packets → Type 0
@@ -85,15 +88,15 @@ Described services runs sequence ps packets = (p : ℕ) → Keeps (packets p) (r
 module _ (services : List ℕ) (runs : List (List ℕ)) (sequence : ℕ → ℕ) (proposal : List Piece) (out : CarriedOut services (bytes_in runs) proposal) where
   -- one push more
   one_more : (ps : List Piece) (q : Piece) (qs : List Piece) → proposal ≡ ps ++ (q ∷ qs) → (packets : Packets) → Described services runs sequence ps packets
-      → (r : PacketAnswer) → Pushed (packets q.packet) (service_of services q.run) (bytes_in runs q) r
-      → (r.answer ≡ Accepted) × Described services runs sequence (ps ++ (q ∷ [])) (replaced packets q.packet r.packet)
+      → (r : Answer) (to : DTVCCPacket) → Pushed (packets q.packet) (service_of services q.run) (bytes_in runs q) r to
+      → (r ≡ Ok tt) × Described services runs sequence (ps ++ (q ∷ [])) (replaced packets q.packet to)
   unfolding replaced
-  one_more ps q qs e packets keeps r a =
+  one_more ps q qs e packets keeps r to a =
       let takes = out.taken ps q qs e (sequence q.packet) in
       let k = keeps q.packet in (
-        push_accepted _ _ k _ _ _ takes r a,
+        push_accepted _ _ k _ _ _ takes r to a,
         λ p. by_cond (λ (d : DTVCCPacket). Keeps d (record { sequence = sequence p; blocks = blocks_in services (bytes_in runs) (ps ++ (q ∷ [])) p })) (eqb p q.packet)
-            (λ t. let z : p ≡ q.packet = eqb-true p q.packet t in rw z (push_keeps _ _ k _ _ _ takes r a))
+            (λ t. let z : p ≡ q.packet = eqb-true p q.packet t in rw z (push_keeps _ _ k _ _ _ takes r to a))
             (λ f. rw (out.others ps q qs e p (λ z. eqb-false p q.packet f (sym z))) (keeps p)),
       )
 
@@ -107,8 +110,8 @@ module _ (services : List ℕ) (runs : List (List ℕ)) (sequence : ℕ → ℕ)
         as_described = λ p. rw all (keeps p).means;
         within_limits = λ p. (keeps p).valid;
       }
-  pushes_on ps (q ∷ qs) e packets keeps told end (push_piece κs code r is a rest) =
-      let t = one_more ps q qs e packets keeps r (rw is at a) in
+  pushes_on ps (q ∷ qs) e packets keeps told end (push_piece κs code before after r from is a rest) =
+      let t = one_more ps q qs e packets keeps r after.now (rw (from, is) at a) in
       let more = pushes_on (ps ++ (q ∷ [])) qs (e ∙ sym (append_assoc ps (q ∷ []) qs)) _ t.1 _ end rest in
       record {
         all_accepted = λ a i. first_or r t.0 more.all_accepted a i;
@@ -116,20 +119,20 @@ module _ (services : List ℕ) (runs : List (List ℕ)) (sequence : ℕ → ℕ)
         within_limits = more.within_limits;
       }
     where
-      first_or : (r : PacketAnswer) → r.answer ≡ Accepted → {l : List Answer} → ((a : Answer) → In a l → a ≡ Accepted) → (a : Answer) → In a (r.answer ∷ l) → a ≡ Accepted
+      first_or : (r : Answer) → r ≡ Ok tt → {l : List Answer} → ((a : Answer) → In a l → a ≡ Ok tt) → (a : Answer) → In a (r ∷ l) → a ≡ Ok tt
       first_or r z f a (here i) = i ∙ z
       first_or r z f a (there i) = f a i
 
   -- there are such calls
-  pushes_some : (κs : Lfts 1) (ps qs : List Piece) → proposal ≡ ps ++ qs → (packets : Packets) → Described services runs sequence ps packets
+  pushes_some : (κs : Lfts 2) (ps qs : List Piece) → proposal ≡ ps ++ qs → (packets : Packets) → Described services runs sequence ps packets
       → (told : List Answer) × (end : Packets) × Pushes services runs qs packets told end
   pushes_some κs ps [] e packets keeps = ([], packets, no_piece)
   pushes_some κs ps (q ∷ qs) e packets keeps =
-      let some = push_some _ _ (keeps q.packet) (service_of services q.run) (bytes_in runs q) _ (out.taken ps q qs e (sequence q.packet)) in
-      let r : PacketAnswer = some.0 in
-      let t = one_more ps q qs e packets keeps r some.1 in
-      let more = pushes_some κs (ps ++ (q ∷ [])) qs (e ∙ sym (append_assoc ps (q ∷ []) qs)) (replaced packets q.packet r.packet) t.1 in
-      (r.answer ∷ more.0, more.1, push_piece κs (lent (bytes_in runs q)) r refl some.1 more.2)
+      let takes = out.taken ps q qs e (sequence q.packet) in
+      let some = push_some _ _ (keeps q.packet) (service_of services q.run) (bytes_in runs q) _ takes in
+      let t = one_more ps q qs e packets keeps (Ok tt) _ some in
+      let more = pushes_some κs (ps ++ (q ∷ [])) qs (e ∙ sym (append_assoc ps (q ∷ []) qs)) (replaced packets q.packet _) t.1 in
+      (Ok tt ∷ more.0, more.1, push_piece κs (lent (bytes_in runs q)) (lent_packet (packets q.packet)) (lent_packet _) (Ok tt) refl refl some more.2)
 
 -- the packer's proposal, and packets made anew
 module _ (services : List ℕ) (runs : List (List ℕ)) (ok : packable services (map length runs) ≡ true) (sequence : ℕ → ℕ) (packets : Packets) (fresh : Fresh sequence packets) where
@@ -140,12 +143,12 @@ module _ (services : List ℕ) (runs : List (List ℕ)) (ok : packable services 
   out = pushed_as_proposed services (map length runs) ok (bytes_in runs) (piece_length services runs all (accepted_passes services (map length runs) all (passes services (map length runs) ok)))
 
   none_yet : Described services runs sequence [] packets
-  none_yet p = let m = fresh.made p in rw (m.2, out.begins p) (fresh_keeps (sequence p) (fresh.known p) m.0 m.1)
+  none_yet p = rw (out.begins p) (fresh_keeps (sequence p) (fresh.known p) (packets p) (fresh.made p))
 
   -- A proposal of the first-come packer is carried out by `push_code`, whatever the bytes of the runs and the sequence numbers of the packets are;
   pub proposal_pushed : (told : List Answer) (end : Packets) → Pushes services runs all packets told end → AllPushed services runs sequence all told end
   proposal_pushed told end calls = pushes_on services runs sequence all out [] all refl packets none_yet told end calls
 
   -- and there are calls that do so.
-  pub pushable : (κs : Lfts 1) → (told : List Answer) × (end : Packets) × Pushes services runs all packets told end
+  pub pushable : (κs : Lfts 2) → (told : List Answer) × (end : Packets) × Pushes services runs all packets told end
   pushable κs = pushes_some services runs sequence all out κs [] all refl packets none_yet

@@ -1,67 +1,68 @@
-// Proposals of packers: one that any packer made, checked, and the first-come packer, which makes one. It makes a piece of each run, pushed to the packet
-// that is being filled, or to the next one where that refuses it.
+//! Proposals of packers: one that any packer made, checked, and the first-come packer, which makes one. It makes a piece of each run, pushed to the packet
+//! that is being filled, or to the next one where that refuses it.
 #![tactic(auto)]
 
-ghost use Rattle.std.specs.Prelude.{◌≡◌, true, [], ◌∷◌, ◌≤◌, ◌<◌};
+ghost use Rattle.std.specs.Prelude.{◌≡◌, true, [], ◌∷◌, ◌≤◌, ◌<◌, OnErr};
 ghost use Rattle.std.proofs.lemmas.List.Edits.{sets};
-ghost use Rattle.model.specs.Packet.{latest};
-ghost use Rattle.packet.specs.Packet.{valid_dtvcc, packet_of};
-ghost use Rattle.caption.specs.Answers.{said_answer};
+ghost use Rattle.model.specs.Said.{says, is_given, mapped, after};
+ghost use Rattle.model.specs.Packet.{latest, push_run};
+ghost use Rattle.packet.specs.Packet.{valid_dtvcc, packet_of, blank};
+ghost use Rattle.caption.specs.Answers.{outcome};
 ghost use Rattle.model_packing.specs.Pieces.{pieces_of, numbers_of};
 ghost use Rattle.model_packing.specs.Proposals.{check_proposal};
-ghost use Rattle.model_packing.specs.FirstCome.{first_come, packets_filled, packable, place_or0};
-ghost use Rattle.packing.specs.Calls.{Proposes};
-ghost use Rattle.packing.specs.Fillings.{BeginsWith, PlacesRun};
+ghost use Rattle.model_packing.specs.FirstCome.{first_come, propose, packets_filled, packable, place_or0};
+ghost use Rattle.packing.specs.Calls.{told_of};
+ghost use Rattle.packing.specs.Fillings.{InPlaces, BeginsWith, PlacesRun};
 
 use basics::put_bytes;
-use caption::{Answer, Refusal};
+use caption::Refusal;
 use packet::DTVCCPacket;
-use packet_entries::Found;
 use packing_bytes::check_bytes;
 use packing_limits::within_limits;
 use packing_runs::{MOST_RUNS, PIECE, number_at, runs_fit};
 
-// A proposal: how many packets it fills, and how many bytes of the lent output are its pieces; or why there is none.
-#[derive(Clone, Copy)]
-pub enum Proposal {
-    Made { packets: usize, len: usize },
-    Refused(Refusal),
+/// A proposal that was made: how many packets it fills, and how many bytes of the lent output are its pieces.
+#[derive(Clone, Copy, Debug, PartialEq, Eq)]
+pub struct Made {
+    pub packets: usize,
+    pub len: usize,
 }
 
-// Checks a proposal for runs, five bytes a piece [Q1] to [Q7].
-pub fn check(services: &[u8], lengths: &[u8], pieces: &[u8]) -> Answer
-    ensures { said_answer result ≡ check_proposal services.now lengths.now (pieces_of pieces.now) }
+/// Checks a proposal for runs, five bytes a piece [Q1] to [Q7]. Refused, in this order: `OverLimit` for more than 256 runs, `BadCover`, `OutOfOrder`,
+/// `RunSplit`, and `OverLimit` where a limit of runs, blocks or packets is broken.
+pub fn check(services: &[u8], lengths: &[u8], pieces: &[u8]) -> Result<(), Refusal>
+    ensures { says (outcome result) ≡ check_proposal services.now lengths.now (pieces_of pieces.now) }
 {
-    let answer = check_bytes(services, lengths, pieces);
-    let Answer::Accepted = answer else {
-        return answer;
-    };
+    check_bytes(services, lengths, pieces)?;
     if within_limits(services, lengths, pieces) {
-        return Answer::Accepted;
+        return Ok(());
     }
-    Answer::Refused(Refusal::OverLimit)
+    Err(Refusal::OverLimit)
 }
 
-// Proposes pieces for runs, five bytes for each [Q8].
-pub fn propose(services: &[u8], lengths: &[u8], out: &mut [u8]) -> Proposal
-    ensures { Proposes services.now lengths.now out.old result out.new }
+/// Proposes pieces for runs, five bytes for each [Q8]. Refused with `OverLimit` where there are more than 256 runs or one does not fit, then with
+/// `OutShort`.
+pub fn propose(services: &[u8], lengths: &[u8], out: &mut [u8]) -> Result<Made, Refusal>
+    ensures answer { outcome result ≡ mapped told_of (propose services.now lengths.now out.old) }
+    ensures output { out.new ≡ after out.old (mapped (λ x. x.out) (propose services.now lengths.now out.old)) }
+    ensures kept { OnErr result (out.new ≡ out.old) }
 {
     let n = services.len();
     if MOST_RUNS < n {
-        return Proposal::Refused(Refusal::OverLimit);
+        return Err(Refusal::OverLimit);
     }
     if !runs_fit(services, lengths) {
-        return Proposal::Refused(Refusal::OverLimit);
+        return Err(Refusal::OverLimit);
     }
     let needed = PIECE * n;
     if out.len() < needed {
-        return Proposal::Refused(Refusal::OutShort { needed });
+        return Err(Refusal::OutShort { needed });
     }
     let packets = put_pieces(services, lengths, out);
-    Proposal::Made {
+    Ok(Made {
         packets,
         len: needed,
-    }
+    })
 }
 
 // The packet that is being filled, and how many there are before it.
@@ -71,48 +72,68 @@ struct Filling {
     packet: DTVCCPacket,
 }
 
-// Begins the next packet with a run.
-fn begin(before: usize, service: u8, run: &[u8]) -> Filling
-    requires { before ≤ 255 }
-    ensures { BeginsWith before service run.now result }
+// A packet without blocks, with sequence number 0.
+fn empty() -> DTVCCPacket
+    ensures { result ≡ blank }
 {
-    let new = DTVCCPacket::new(0);
-    let empty = new.packet;
-    let pushed = empty.push_code(service, run);
-    let packet = pushed.packet;
-    Filling {
-        before: before + 1,
-        packet,
+    DTVCCPacket {
+        seq_no: 0,
+        count: 0,
+        services: 0,
+        numbers: [0u8; 63],
+        sizes: [0u8; 63],
+        payload: [0u8; 127],
     }
 }
 
-// Pushes a run of so many bytes to the packet that is being filled, or begins the next one with it [Q8].
-fn place(at: Filling, service: u8, size: usize) -> Filling
-    requires size_bound { (size ≤ 31) × (at.before ≤ 255) }
-    requires packet_value { valid_dtvcc at.packet ≡ true }
-    ensures { PlacesRun service size at result }
+// Pushes a run to a packet, and tells whether it took it.
+fn take_run(packet: &mut DTVCCPacket, service: u8, run: &[u8]) -> bool
+    requires within { valid_dtvcc packet.old ≡ true }
+    requires places { InPlaces packet.old }
+    ensures answer { result ≡ is_given (push_run service run.now (packet_of packet.old)) }
+    ensures state { packet_of packet.new ≡
+        after (packet_of packet.old) (push_run service run.now (packet_of packet.old)) }
+    ensures within { valid_dtvcc packet.new ≡ true }
+    ensures places { InPlaces packet.new }
 {
-    let zeros = [0u8; 31];
-    let before = at.before;
-    let filled = at.packet;
-    let pushed = filled.push_code(service, &zeros[0..size]);
-    let answer = pushed.answer;
-    let packet = pushed.packet;
-    match answer {
-        Answer::Accepted => Filling { before, packet },
-        Answer::Refused(_) => begin(before, service, &zeros[0..size]),
-    }
+    packet.push_code(service, run).is_ok()
 }
 
 // The place of the latest block of a service.
-fn block_of(packet: DTVCCPacket, service: u8) -> usize
-    requires { valid_dtvcc packet ≡ true }
-    ensures { result ≡ place_or0 (latest service (packet_of packet)) }
+fn block_of(packet: &DTVCCPacket, service: u8) -> usize
+    requires { valid_dtvcc packet.now ≡ true }
+    ensures { result ≡ place_or0 (latest service (packet_of packet.now)) }
 {
-    let numbers = packet.numbers;
-    match packet_entries::latest(&numbers, packet.count, service) {
-        Found::At(place) => place,
-        Found::Nothing => 0,
+    match packet_entries::latest(&packet.numbers, packet.count, service) {
+        Some(place) => place,
+        None => 0,
+    }
+}
+
+impl Filling {
+    // Begins the next packet with a run.
+    fn begin(&mut self, service: u8, run: &[u8])
+        requires { self.old.before ≤ 255 }
+        ensures { BeginsWith self.old.before service run.now self.new }
+    {
+        self.before += 1;
+        self.packet = empty();
+        let _ = take_run(&mut self.packet, service, run);
+    }
+
+    // Pushes a run of so many bytes to the packet that is being filled, or begins the next one with it [Q8].
+    fn place(&mut self, service: u8, size: usize)
+        requires size_bound { size ≤ 31 }
+        requires before_bound { self.old.before ≤ 255 }
+        requires packet_value { valid_dtvcc self.old.packet ≡ true }
+        requires packet_places { InPlaces self.old.packet }
+        ensures { PlacesRun service size self.old self.new }
+    {
+        let zeros = [0u8; 31];
+        if take_run(&mut self.packet, service, &zeros[0..size]) {
+            return;
+        }
+        self.begin(service, &zeros[0..size]);
     }
 }
 
@@ -129,23 +150,20 @@ fn put_piece(out: &mut [u8], at: usize, run: usize, size: usize, packet: usize, 
 fn put_pieces(services: &[u8], lengths: &[u8], out: &mut [u8]) -> usize
     requires { packable services.now lengths.now ≡ true }
     ensures value { result ≡ packets_filled services.now lengths.now }
-    ensures out_after { out.new ≡ sets out.old 0 (numbers_of (first_come services.now lengths.now)) }
+    ensures output { out.new ≡ sets out.old 0 (numbers_of (first_come services.now lengths.now)) }
 {
     let n = services.len();
     if n == 0 {
         return 0;
     }
-    let new = DTVCCPacket::new(0);
-    let packet = new.packet;
+    let packet = empty();
     let mut at = Filling { before: 0, packet };
-    let mut i = 0;
-    while i < n {
+    for i in 0..n {
         let service = services[i];
         let size = number_at(lengths, i);
-        at = place(at, service, size);
-        let block = block_of(at.packet, service);
+        at.place(service, size);
+        let block = block_of(&at.packet, service);
         put_piece(out, PIECE * i, i, size, at.before, block);
-        i += 1;
     }
     at.before + 1
 }

@@ -105,8 +105,8 @@ module _ (services lengths l : List ℕ) where
     said_uncovered e = rw (le-ltb 256 (length services) few, e)
 
     -- more pieces than bytes
-    pub said_crowded : (n m : ℕ) → n ≡ length (bytes_of services lengths) → n < m → (n < m → n < length (pieces_of l)) → bad_cover ≡ bytes_said services lengths (pieces_of l)
-    said_crowded n m e h f = let g = f h in said_uncovered (crowded services lengths (pieces_of l) (omega arith))
+    pub said_crowded : (n m : ℕ) → n ≡ length (bytes_of services lengths) → m ≡ length (pieces_of l) → n < m → bad_cover ≡ bytes_said services lengths (pieces_of l)
+    said_crowded n m e f h = said_uncovered (crowded services lengths (pieces_of l) (omega arith))
 
   module _ (R : FewRuns services lengths) (t : List ℕ) (T : TellsHolders services lengths t 0 (pieces_of l))
       (a : Bool) (is : a ≡ every (has_holder t) (bytes_of services lengths))

@@ -1,16 +1,17 @@
-// What is asked of the bytes of a proposal: that each is in one piece, that those of a service keep their order, and that no run is split. The time is
-// linear in the input: a table tells of each byte which piece holds it.
+//! What is asked of the bytes of a proposal: that each is in one piece, that those of a service keep their order, and that no run is split. The time is
+//! linear in the input: a table tells of each byte which piece holds it.
 #![tactic(auto)]
 
 ghost use Rattle.std.specs.Prelude.{◌≡◌, true, ◌+◌, ◌-◌, ◌*◌, ◌≤◌, ◌<◌, length, replicate};
 ghost use Rattle.model.specs.Lists.{every};
-ghost use Rattle.caption.specs.Answers.{said_answer};
+ghost use Rattle.caption.specs.Answers.{outcome};
+ghost use Rattle.model.specs.Said.{says};
 ghost use Rattle.model_packing.specs.Pieces.{pieces_of, bytes_of};
 ghost use Rattle.model_packing.specs.Proposals.{inside};
 ghost use Rattle.packing_bytes.specs.Bytes.{bytes_said};
 ghost use Rattle.packing_bytes.specs.Table.{nth_piece, cell_of, LowPiece, Fills, Empty, TellsHolders, TellsOrNot, FewRuns, has_holder, one_block, beside_first, follows, follow};
 
-use caption::{Answer, Refusal};
+use caption::Refusal;
 use packing_runs::{MOST_NUMBERS, MOST_RUNS, PIECE, number_at};
 
 // How many cells of the table a run has.
@@ -27,12 +28,9 @@ fn count_bytes(services: &[u8], lengths: &[u8]) -> usize
     requires { length services.now ≤ 256 }
     ensures { (result ≡ length (bytes_of services.now lengths.now)) × (result ≤ 65280) }
 {
-    let n = services.len();
     let mut sum: usize = 0;
-    let mut i = 0;
-    while i < n {
-        sum += number_at(lengths, i);
-        i += 1;
+    for run in 0..services.len() {
+        sum += number_at(lengths, run);
     }
     sum
 }
@@ -42,6 +40,7 @@ fn count_pieces(pieces: &[u8], most: usize) -> usize
     requires { most ≤ 65280 }
     ensures { (result ≤ most → result ≡ length (pieces_of pieces.now)) × (most < result → most < length (pieces_of pieces.now)) }
 {
+    // Counted and not divided: some processors have no instruction for a division.
     let n = pieces.len();
     let mut o = 0;
     let mut count: usize = 0;
@@ -79,14 +78,11 @@ fn fill_cells(table: &mut Table, from: usize, size: usize, value: u16) -> bool
     requires { from + size ≤ 65536 }
     ensures { Fills size from value table.old table.new result }
 {
-    let end = from + size;
-    let mut at = from;
-    while at < end {
+    for at in from..from + size {
         if table[at] != 0 {
             return false;
         }
         table[at] = value;
-        at += 1;
     }
     true
 }
@@ -236,38 +232,39 @@ fn all_whole(services: &[u8], lengths: &[u8], pieces: &[u8], table: &Table) -> b
 }
 
 // The answer by a table that tells of all pieces.
-fn answer_told(services: &[u8], lengths: &[u8], pieces: &[u8], table: &Table) -> Answer
+fn answer_told(services: &[u8], lengths: &[u8], pieces: &[u8], table: &Table) -> Result<(), Refusal>
     requires { FewRuns services.now lengths.now × TellsHolders services.now lengths.now table.now 0 (pieces_of pieces.now) }
-    ensures { said_answer result ≡ bytes_said services.now lengths.now (pieces_of pieces.now) }
+    ensures { says (outcome result) ≡ bytes_said services.now lengths.now (pieces_of pieces.now) }
 {
     if !all_held(services, lengths, table) {
-        return Answer::Refused(Refusal::BadCover);
+        return Err(Refusal::BadCover);
     }
     if !all_follow(services, lengths, pieces, table) {
-        return Answer::Refused(Refusal::OutOfOrder);
+        return Err(Refusal::OutOfOrder);
     }
     if !all_whole(services, lengths, pieces, table) {
-        return Answer::Refused(Refusal::RunSplit);
+        return Err(Refusal::RunSplit);
     }
-    Answer::Accepted
+    Ok(())
 }
 
-// Whether the bytes of a proposal are covered, keep their order and are not split [Q2] [Q3] [Q4].
+/// Whether the bytes of a proposal are covered, keep their order and are not split [Q2] [Q3] [Q4]. Refused, in this order: `OverLimit` for more than
+/// 256 runs, `BadCover`, `OutOfOrder`, `RunSplit`.
 #[tactic(auto, using(crate::proofs::Told::said_many, crate::proofs::Told::said_crowded))]
-pub fn check_bytes(services: &[u8], lengths: &[u8], pieces: &[u8]) -> Answer
-    ensures { said_answer result ≡ bytes_said services.now lengths.now (pieces_of pieces.now) }
+pub fn check_bytes(services: &[u8], lengths: &[u8], pieces: &[u8]) -> Result<(), Refusal>
+    ensures { says (outcome result) ≡ bytes_said services.now lengths.now (pieces_of pieces.now) }
 {
     if MOST_RUNS < services.len() {
-        return Answer::Refused(Refusal::OverLimit);
+        return Err(Refusal::OverLimit);
     }
     let bytes = count_bytes(services, lengths);
     let count = count_pieces(pieces, bytes);
     if bytes < count {
-        return Answer::Refused(Refusal::BadCover);
+        return Err(Refusal::BadCover);
     }
     let mut table: Table = [0; CELLS];
     if !fill_table(services, lengths, pieces, count, &mut table) {
-        return Answer::Refused(Refusal::BadCover);
+        return Err(Refusal::BadCover);
     }
     answer_told(services, lengths, pieces, &table)
 }

@@ -1,5 +1,5 @@
-// Whether the pieces of a proposal keep the limits of blocks and packets: the service and the bytes of each block go into two tables of 256 places
-// for each packet, and each packet is summed up from there.
+//! Whether the pieces of a proposal keep the limits of blocks and packets: the service and the bytes of each block go into two tables of 256 places
+//! for each packet, and each packet is summed up from there.
 #![tactic(auto)]
 
 ghost use Rattle.std.specs.Prelude.{◌≡◌, true, [], ◌+◌, ◌%◌, ◌<◌, ◌≤◌, length};
@@ -9,7 +9,7 @@ ghost use Rattle.model_packing.specs.Pieces.{pieces_of, count_from};
 ghost use Rattle.model_packing.specs.Proposals.{limits, most_numbers};
 ghost use Rattle.packing_limits.specs.Tables.{piece_at, PlacedIn, agrees, Entered, EnteredPiece, all_join, Tables, block_at, packet_at, taken};
 
-use basics::{MOST_NUMBER, MOST_PACKET, MOST_PAYLOAD, wide};
+use basics::{MOST_NUMBER, MOST_PACKET, MOST_PAYLOAD};
 use packing_runs::{MOST_NUMBERS, PIECE, number_at, runs_fit};
 use service_headers::block_length;
 
@@ -17,6 +17,7 @@ use service_headers::block_length;
 fn pieces_end(pieces: &[u8]) -> usize
     ensures { (result % 5 ≡ 0) × (result ≤ length pieces.now) × (length pieces.now < result + 5) }
 {
+    // Counted and not divided: some processors have no instruction for a division.
     let n = pieces.len();
     let mut end = 0;
     while PIECE <= n - end {
@@ -30,7 +31,7 @@ fn place_of(pieces: &[u8], at: usize) -> usize
     requires { at + 5 ≤ length pieces.now }
     ensures { PlacedIn (piece_at pieces.now at) result }
 {
-    wide(pieces[at + 3]) * 256 + wide(pieces[at + 4])
+    pieces[at + 3] as usize * MOST_NUMBERS + pieces[at + 4] as usize
 }
 
 // Whether a block of this number takes a piece of that service; 0 is the number of a block without pieces.
@@ -38,10 +39,7 @@ fn place_of(pieces: &[u8], at: usize) -> usize
 fn admits(number: u8, service: u8) -> bool
     ensures { result ≡ agrees number service }
 {
-    if number == 0 {
-        return true;
-    }
-    number == service
+    number == 0 || number == service
 }
 
 // Enters a piece of this service and size into the tables, at the place of its block; not one that may not stand there.
@@ -60,7 +58,7 @@ fn enter(
         return false;
     }
     if admits(numbers[place], service) {
-        let used = wide(sizes[place]) + wide(size);
+        let used = sizes[place] as usize + size as usize;
         if used <= MOST_PAYLOAD {
             numbers[place] = service;
             sizes[place] = used as u8;
@@ -81,7 +79,7 @@ fn enter_piece(
     requires { at + 5 ≤ length pieces.now }
     ensures { EnteredPiece services.now (piece_at pieces.now at) numbers.old sizes.old result numbers.new sizes.new }
 {
-    let service = number_at(services, wide(pieces[at])) as u8;
+    let service = number_at(services, pieces[at] as usize) as u8;
     let place = place_of(pieces, at);
     enter(service, pieces[at + 2], place, numbers, sizes)
 }
@@ -123,7 +121,7 @@ fn length_at(numbers: &[u8; 65536], sizes: &[u8; 65536], place: usize) -> usize
     if size < 1 {
         return MOST_PACKET;
     }
-    if MOST_PAYLOAD < wide(size) {
+    if MOST_PAYLOAD < size as usize {
         return MOST_PACKET;
     }
     block_length(number, size)
@@ -135,13 +133,11 @@ fn packet_fits(numbers: &[u8; 65536], sizes: &[u8; 65536], packet: usize) -> boo
     ensures { result ≡ valid_packet (packet_at numbers.now sizes.now packet) }
 {
     let mut length: usize = 1;
-    let mut block = 0;
-    while block < MOST_NUMBERS {
-        length += length_at(numbers, sizes, packet * 256 + block);
+    for block in 0..MOST_NUMBERS {
+        length += length_at(numbers, sizes, packet * MOST_NUMBERS + block);
         if MOST_PACKET < length {
             return false;
         }
-        block += 1;
     }
     true
 }
@@ -150,17 +146,15 @@ fn packet_fits(numbers: &[u8; 65536], sizes: &[u8; 65536], packet: usize) -> boo
 fn packets_fit(numbers: &[u8; 65536], sizes: &[u8; 65536]) -> bool
     ensures { result ≡ every (λ p. valid_packet (packet_at numbers.now sizes.now p)) (count_from 0 most_numbers) }
 {
-    let mut packet = 0;
-    while packet < MOST_NUMBERS {
+    for packet in 0..MOST_NUMBERS {
         if !packet_fits(numbers, sizes, packet) {
             return false;
         }
-        packet += 1;
     }
     true
 }
 
-// Whether every run fits, every block is of one service, and every packet keeps its limits [Q6].
+/// Whether every run fits, every block is of one service, and every packet keeps its limits [Q6].
 pub fn within_limits(services: &[u8], lengths: &[u8], pieces: &[u8]) -> bool
     ensures { result ≡ limits services.now lengths.now (pieces_of pieces.now) }
 {
@@ -169,8 +163,5 @@ pub fn within_limits(services: &[u8], lengths: &[u8], pieces: &[u8]) -> bool
     }
     let mut numbers: [u8; 65536] = [0; 65536];
     let mut sizes: [u8; 65536] = [0; 65536];
-    if enter_pieces(services, pieces, &mut numbers, &mut sizes) {
-        return packets_fit(&numbers, &sizes);
-    }
-    false
+    enter_pieces(services, pieces, &mut numbers, &mut sizes) && packets_fit(&numbers, &sizes)
 }

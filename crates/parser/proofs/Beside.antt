@@ -1,5 +1,5 @@
 -- The packet beside a draw is within its limits, so that its set is that of its services. Assumes nothing.
-use mathlib.Core.Path.{◌≡◌, refl, ◌∙◌}
+use mathlib.Core.Path.{◌≡◌, refl, ap, ◌∙◌}
 use mathlib.Core.Bool.{true}
 use mathlib.Core.List.{List, [], ◌∷◌}
 use Prim.Native.Nat.{ℕ}
@@ -9,14 +9,17 @@ use Rattle.model.specs.Services.{services_of}
 use Rattle.model.specs.Frame.{Cea608}
 use Rattle.model.specs.Demux as model
 use Rattle.model.specs.Demux.{Demux, item_packet}
-use Rattle.model.proofs.Cases.{by_test, both}
+use Rattle.caption.proofs.Outcomes.{given_valid}
+use Rattle.model.specs.Said.{Outcome, gave, after}
+use Rattle.model.proofs.Cases.{both}
 use Rattle.model.proofs.Packets.{Valid, valid_facts}
 use Rattle.model.proofs.DemuxStates.{demux_facts}
 use Rattle.packet.specs.Packet.{packet_of, blank, laid, valid_dtvcc}
 use Rattle.packet.proofs.Holds.{blank_places, over_valid, services_held}
 use Rattle.parser.specs.Means.{means}
 use Rattle.parser.specs.Valid.{valid}
-use Rattle.parser.specs.Items.{Draws}
+use Rattle.parser.specs.After.{asked}
+use Rattle.parser.specs.Items.{drawn_of}
 use Rattle.parser.specs.declared.Drawn.{Drawn}
 use Rattle.parser.specs.declared.CCDataParser.{CCDataParser}
 use Rattle.parser.proofs.Valids.{valid_fine, fine_demux}
@@ -45,15 +48,16 @@ laid_valid : (p : Packet) → Valid p → valid_dtvcc (laid p) ≡ true
 laid_valid p v = over_valid blank blank_places p v
 
 -- whatever state is drawn from, and whatever the contract allows
-module _ (p : CCDataParser) (r : Drawn) (h : Draws p r) where
-  pub drawn_valid : valid_dtvcc r.packet ≡ true
-  drawn_valid =
-      by_test (valid p)
-      (λ v. let first : model.Item = (model.draw (means p)).item in
-      let here : r.packet ≡ laid (item_packet first) = h.packet ∙ rw v in
-      rw here (laid_valid (item_packet first) (first_holds (means p) (demux_facts (means p) (fine_demux p (valid_fine p v))).packets)))
-      (λ f. let here : r.packet ≡ laid no_packet = h.packet ∙ rw f in rw here (laid_valid no_packet none_holds))
+module _ (p : CCDataParser) (x : Drawn) (h : gave x ≡ asked p (λ d. drawn_of (model.draw d).item)) where
+  within : valid p ≡ true
+  within = given_valid (valid p) x (drawn_of (model.draw (means p)).item) h
+
+  here : x.packet ≡ laid (item_packet (model.draw (means p)).item)
+  here = ap (λ (o : Outcome Drawn). (after x o).packet) h ∙ rw within
+
+  pub drawn_valid : valid_dtvcc x.packet ≡ true
+  drawn_valid = rw here (laid_valid _ (first_holds (means p) (demux_facts (means p) (fine_demux p (valid_fine p within))).packets))
 
   -- The packet that is drawn has the set of its own services [P15].
-  pub drawn_set : r.packet.services ≡ services_of (packet_of r.packet)
-  drawn_set = services_held r.packet drawn_valid
+  pub drawn_set : x.packet.services ≡ services_of (packet_of x.packet)
+  drawn_set = services_held x.packet drawn_valid

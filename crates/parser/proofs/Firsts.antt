@@ -10,7 +10,7 @@ use lib.Dec.{eqb, leb}
 use borrow.Author.Tests.{ne_eqb, lt-ltb, le-ltb, eqb-true, eqb-false}
 use Rattle.model.specs.Lists.{every}
 use Rattle.caption.specs.declared.Cea608.TheVariants.{Field1, Field2}
-use Rattle.caption.specs.Pairs.{cea608_of}
+use Rattle.parser.specs.Items.{pair_of}
 use Rattle.model.specs.Said.{gave}
 use Rattle.model.specs.Packet.{Packet, read_packet, reads}
 use Rattle.model.specs.Frame.{Cea608, field1, field2, pair}
@@ -53,12 +53,12 @@ module _ (l : List ℕ) (k : ℕ) (some : k ≡ 0 → ⊥) where
       rw (placed_again (k - 1) (drop 3 l) f.1 room, sets_first l (take (3 * (k - 1)) (drop 3 l)) (omega (arith, some)), many)
 
 -- the pair is the one that the model draws
-pub pair_drawn : (l : List ℕ) → cea608_of (first_pair l) ≡ pair_at l
+pub pair_drawn : (l : List ℕ) → first_pair l ≡ pair_of (pair_at l)
 unfolding first_pair
 pair_drawn l = by (eqb (get_or l 0 0) 0)
   where
-    by : (b : Bool) → cea608_of (cond b (Field1 (get_or l 1 0) (get_or l 2 0)) (Field2 (get_or l 1 0) (get_or l 2 0)))
-        ≡ cond b (field1 (pair (get_or l 1 0) (get_or l 2 0))) (field2 (pair (get_or l 1 0) (get_or l 2 0)))
+    by : (b : Bool) → cond b (Field1 (get_or l 1 0) (get_or l 2 0)) (Field2 (get_or l 1 0) (get_or l 2 0))
+        ≡ pair_of (cond b (field1 (pair (get_or l 1 0) (get_or l 2 0))) (field2 (pair (get_or l 1 0) (get_or l 2 0))))
     by true = refl
     by false = refl
 

@@ -10,4 +10,3 @@ pub mod Calls
 pub mod Drawing
 pub mod Items
 pub mod Beside
-pub mod Same

@@ -23,7 +23,7 @@ unfolding placed_all
 listed_none l = refl
 
 -- those of a frame, with 608 on and off
-pub listed_by_lem : (on : Bool) (l f : List ℕ) → length f ≤ 95 → listed_by (true && on) l f ≡ listed l (cond on (pairs_in (seen_from 0 f)) [])
+pub listed_by_lem : (on : Bool) (l f : List ℕ) → length f ≤ 95 → listed_by on l f ≡ listed l (cond on (pairs_in (seen_from 0 f)) [])
 unfolding listed_by listing
 listed_by_lem true l f few = let z : 0 + length (pairs_in (seen_from 0 f)) ≡ length (pairs_in (seen_from 0 f)) = omega arith in rw (le-leb (length f) 95 few, z)
 listed_by_lem false l f few = listed_none l

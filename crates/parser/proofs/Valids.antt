@@ -2,7 +2,7 @@
 use mathlib.Core.Path.{◌≡◌, refl, sym, ◌∙◌}
 use mathlib.Core.List.{List, [], ◌∷◌, map}
 use mathlib.Core.Bool.{Bool, true, false, ◌&&◌, ◌||◌}
-use Prim.Native.Nat.{ℕ, ◌*◌, ◌≤◌}
+use Prim.Native.Nat.{◌*◌, ◌≤◌}
 use native.Mathlib.Omega.{arith}
 use lib.ListN.{length, take, length-append}
 use lib.Dec.{eqb, leb}
@@ -17,45 +17,17 @@ use Rattle.model.proofs.DemuxStates.{demux_facts, facts_demux, packets_valid}
 use Rattle.slots.specs.declared.Slot.{Slot}
 use Rattle.parser_lists.specs.Pairs.{placed_all, pairs_of}
 use Rattle.parser_rings.specs.Ring.{ring_from, slot_run, slot_fine}
-use Rattle.parser_rings.specs.Tests.{head_fine, front_of}
+use Rattle.parser_rings.specs.Tests.{ring_fine}
 use Rattle.parser_gather.specs.Tests.{pending_fine}
-use Rattle.parser_rings.specs.declared.Front.{Front}
 use Rattle.parser_lists.proofs.Fields.{placed_again, again_placed, list_facts, facts_list, pairs_length}
-use Rattle.parser_rings.proofs.Slots.{RingFine, ring_facts, facts_ring, ring_whole}
+use Rattle.parser_rings.proofs.Slots.{RingFine, ring_facts, facts_ring}
 use Rattle.parser_gather.proofs.Pending.{fine_pending}
 use Rattle.parser_rings.proofs.Rings.{ring_length}
 use Rattle.parser.specs.Means.{means, Shaped}
 use Rattle.parser.specs.Valid.{in_order, valid}
 use Rattle.parser_lists.specs.Listing.{list_fine}
-use Rattle.parser.specs.Tests.{counts_of, fine}
+use Rattle.parser.specs.Tests.{fine}
 use Rattle.parser.specs.declared.CCDataParser.{CCDataParser}
-use Rattle.parser.specs.declared.Counts.{Counts}
-
--- a state, by what was found of its ring: the slot at the head, and whether the ring but for it is within its limits
-module _ (c : Counts) (pairs pending : List ℕ) (slots : List Slot) (o : Front) (front : o ≡ front_of c.first c.waiting slots) where
-  -- the tests of a state, `ring` telling it of the waiting slots
-  abbrev tests : Bool → Bool
-  tests ring = list_fine c.on c.pairs pairs && (pending_fine c.pending pending && ring)
-
-  -- the whole ring is tested, and then the rest
-  pub tested_fine : (ring b : Bool) → ring ≡ (o.good && head_fine c.waiting o.slot) → b ≡ tests ring → b ≡ fine c pairs pending slots
-  unfolding fine
-  tested_fine ring b e q = q ∙ rw (e, ring_whole c.first c.waiting slots o front)
-
-  apart : (x y z h : Bool) → (x && (y && z)) && h ≡ x && (y && (z && h))
-  apart false y z h = refl
-  apart true false z h = refl
-  apart true true z h = refl
-
-  -- all but the slot at the head is tested, and then that slot
-  pub rest_fine_tested : (b : Bool) → b ≡ tests o.good → b && head_fine c.waiting o.slot ≡ fine c pairs pending slots
-  unfolding fine
-  rest_fine_tested b q =
-      rw (
-        q,
-        apart (list_fine c.on c.pairs pairs) (pending_fine c.pending pending) o.good (head_fine c.waiting o.slot),
-        ring_whole c.first c.waiting slots o front,
-      )
 
 -- the facts of a state within the limits
 pub record Fine (p : CCDataParser) : Type 0 where
@@ -126,35 +98,54 @@ same_tests true b f g = sym (f refl)
 same_tests false false f g = refl
 same_tests false true f g = g refl
 
--- a state that is tested by its numbers
-pub tested_valid : (p : CCDataParser) (c : Counts) (b : Bool) → Shaped p → c ≡ counts_of p → b ≡ fine c p.pairs p.pending p.waiting → b ≡ valid p
-unfolding fine
-tested_valid p c b shaped counted tested = (rw counted at tested) ∙ same_tests _ _ there back
-  where
-    pending : pending_fine p.pending_len p.pending ≡ leb p.pending_len 128 && valid_pending (take p.pending_len p.pending)
-    pending = fine_pending p.pending_len p.pending shaped.pending
+-- the tests of a state whose arrays have their lengths
+module _ (p : CCDataParser) (shaped : Shaped p) where
+  pending : pending_fine p.pending_len p.pending ≡ leb p.pending_len 128 && valid_pending (take p.pending_len p.pending)
+  pending = fine_pending p.pending_len p.pending shaped.pending
 
-    room : p.pair_count ≤ 31 → 3 * p.pair_count ≤ length p.pairs
-    room few = omega (arith, shaped.pairs)
+  room : p.pair_count ≤ 31 → 3 * p.pair_count ≤ length p.pairs
+  room few = omega (arith, shaped.pairs)
 
-    there : fine (counts_of p) p.pairs p.pending p.waiting ≡ true → valid p ≡ true
-    there e =
-        let u = both (list_fine p.cea608_on p.pair_count p.pairs) _ e in
-        let r = both (pending_fine p.pending_len p.pending) _ u.1 in
-        let w = both (leb p.pending_len 128) _ (sym pending ∙ r.0) in
-        let f = list_facts p.cea608_on p.pair_count p.pairs u.0 in
-        fine_valid p
-        (record {
-          few = f.0;
-          stand = placed_again p.pair_count p.pairs f.1 (room f.0);
-          listed = f.2;
-          short = leb-true _ _ w.0;
-          waits = w.1;
-          ring = ring_facts _ _ _ r.1;
-        })
+  there : fine p ≡ true → valid p ≡ true
+  unfolding fine
+  there e =
+      let u = both (list_fine p.cea608_on p.pair_count p.pairs) _ e in
+      let r = both (pending_fine p.pending_len p.pending) _ u.1 in
+      let w = both (leb p.pending_len 128) _ (sym pending ∙ r.0) in
+      let f = list_facts p.cea608_on p.pair_count p.pairs u.0 in
+      fine_valid p
+      (record {
+        few = f.0;
+        stand = placed_again p.pair_count p.pairs f.1 (room f.0);
+        listed = f.2;
+        short = leb-true _ _ w.0;
+        waits = w.1;
+        ring = ring_facts _ _ _ r.1;
+      })
 
-    back : valid p ≡ true → fine (counts_of p) p.pairs p.pending p.waiting ≡ true
-    back e =
-        let v = valid_fine p e in
-        let fields = again_placed p.pair_count p.pairs v.stand (room v.few) in
-        rw (facts_list p.cea608_on p.pair_count p.pairs v.few fields v.listed, pending, le-leb _ _ v.short, v.waits) (facts_ring _ _ _ v.ring)
+  back : valid p ≡ true → fine p ≡ true
+  unfolding fine
+  back e =
+      let v = valid_fine p e in
+      let fields = again_placed p.pair_count p.pairs v.stand (room v.few) in
+      rw (facts_list p.cea608_on p.pair_count p.pairs v.few fields v.listed, pending, le-leb _ _ v.short, v.waits) (facts_ring _ _ _ v.ring)
+
+  -- they are the test of what it means
+  tested : fine p ≡ valid p
+  tested = same_tests _ _ there back
+
+  -- the list breaks a limit,
+  pub bad_list : false ≡ list_fine p.cea608_on p.pair_count p.pairs → false ≡ valid p
+  unfolding fine
+  bad_list e = (rw (← e)) ∙ tested
+
+  module _ (listed : true ≡ list_fine p.cea608_on p.pair_count p.pairs) where
+    -- or the pending bytes do,
+    pub bad_pending : false ≡ pending_fine p.pending_len p.pending → false ≡ valid p
+    unfolding fine
+    bad_pending e = (rw (← listed, ← e)) ∙ tested
+
+    -- or it is as the ring is
+    pub by_ring : true ≡ pending_fine p.pending_len p.pending → (b : Bool) → b ≡ ring_fine p.waiting_first p.waiting_count p.waiting → b ≡ valid p
+    unfolding fine
+    by_ring e b q = (rw (← listed, ← e) q) ∙ tested

@@ -1,17 +1,12 @@
--- What the calls of a demultiplexer answer, what the state that comes back means, and where it stands in its places. Assumes nothing.
-use Rattle.std.specs.Prelude.{List, [], true, cond, ◌≡◌, ℕ, ◌+◌, ◌%◌, length, replicate, eqb, ltb}
+-- Where a call leaves a demultiplexer in its places. Assumes nothing.
+use Rattle.std.specs.Prelude.{List, [], cond, ℕ, ◌+◌, ◌%◌, length, replicate, eqb, ltb}
 use Rattle.std.proofs.lemmas.List.Edits.{sets}
-use Rattle.caption.specs.Answers.{said_answer}
-use Rattle.model.specs.Said.{bad_value}
 use Rattle.model.specs.Demux.{Demux, Taken, fresh_demux}
 use Rattle.slots.specs.Slot.{slot_with}
 use Rattle.slots.specs.declared.Slot.{Slot}
 use Rattle.parser_lists.specs.Pairs.{placed_all}
 use Rattle.parser_rings.specs.Ring.{with_runs}
-use Rattle.parser.specs.Means.{means}
-use Rattle.parser.specs.Valid.{valid}
 use Rattle.parser.specs.declared.CCDataParser.{CCDataParser}
-use Rattle.parser.specs.declared.ParserAnswer.{ParserAnswer}
 
 -- a demultiplexer of the model in places: its pairs and pending bytes over those that stand there, and the ring's head and slots
 unfoldable pub laid_in : List ℕ → List ℕ → ℕ → List Slot → Demux → CCDataParser
@@ -40,9 +35,3 @@ unfoldable pub laid_after : CCDataParser → Taken → CCDataParser
 laid_after p t =
     laid_in p.pairs p.pending (head_after p.waiting_first p.waiting_count (length t.next.waiting))
     (with_runs p.waiting_first p.waiting_count p.waiting t.runs) t.next
-
--- a call answers what the model's answers and leaves what that leaves, in the places that it is given; [A4] 11 comes first, and then all stays
-pub record Answers (t : Taken) (placed : Taken → CCDataParser) (p : CCDataParser) (r : ParserAnswer) : Type 0 where
-  pub answer : said_answer r.answer ≡ cond (valid p) t.answer bad_value
-  pub means : valid p ≡ true → means r.parser ≡ t.next
-  pub places : r.parser ≡ cond (valid p) (placed t) p

@@ -5,4 +5,3 @@ pub mod Items
 pub mod After
 pub mod Tests
 pub mod Push
-pub mod Take

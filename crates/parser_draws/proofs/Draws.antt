@@ -1,38 +1,24 @@
 -- Laws of taking an item, one for each way out of a function. Assumes nothing.
 use mathlib.Core.Path.{◌≡◌, refl, sym, ap, ◌∙◌}
 use mathlib.Core.List.{List, ◌∷◌, ◌++◌}
-use mathlib.Core.Bool.{Bool, true, false, ◌&&◌, true≢false}
-use Prim.Native.Nat.{ℕ, suc, ◌+◌, ◌-◌, ◌*◌, ◌%◌, ◌≤◌, ◌<◌}
+use mathlib.Core.Bool.{Bool, true, false, true≢false}
+use Prim.Native.Nat.{ℕ, suc, ◌+◌, ◌-◌, ◌%◌, ◌≤◌, ◌<◌}
 use native.Mathlib.Numerals.{add-one}
 use native.Mathlib.Omega.{arith}
 use lib.ListN.{length, get_or, take, drop, set, length-take, length-drop}
-use lib.Dec.{eqb, leb}
 use lib.Seq.{drop-cons, take-suc, append_snoc, set_at, get_or-drop, get_or-append-add}
-use borrow.Author.Tests.{eq-eqb, ne_eqb, le-leb, lt-leb, leb-true}
-use Rattle.caption.specs.declared.Cea608.{Cea608}
+use borrow.Author.Tests.{eq-eqb, ne_eqb, le-leb, lt-leb}
+use Rattle.std.specs.Prelude.{Option, Some, None, cond, is_none, unwrap_or}
+use Rattle.model.proofs.Cases.{by_test}
 use Rattle.caption.specs.declared.Cea608.TheVariants.{Field1, Field2}
-use Rattle.caption.specs.declared.Answer.TheVariants as answer
-use Rattle.caption.specs.declared.Refusal.{Refusal}
-use Rattle.model.specs.Said.{Outcome, gave, refused, is_given, mapped, after}
-use Rattle.model.specs.Packet as model
-use Rattle.model.specs.Packet.{no_packet, read_packet, reads}
-use Rattle.model.proofs.Cases.{by_test, both}
-use Rattle.packet.specs.Packet.{laid, blank}
-use Rattle.packet.specs.Packet as packet
+use Rattle.model.specs.Said.{Said, Outcome, gave, refused, is_given, mapped, after}
+use Rattle.model.specs.Packet.{Packet, read_packet, reads}
+use Rattle.packet.specs.Packet.{blank, laid}
 use Rattle.packet.specs.declared.DTVCCPacket.{DTVCCPacket}
-use Rattle.packet.specs.declared.PacketAnswer.{PacketAnswer}
-use Rattle.packet.proofs.Keeps.{none_laid}
-use Rattle.packet.proofs.Refusals.{accepted_reads, refused_reads}
 use Rattle.slots.specs.declared.Slot.{Slot}
 use Rattle.parser_rings.specs.Ring.{slot_run, slot_fine}
-use Rattle.parser_rings.specs.Tests.{head_fine}
 use Rattle.parser_rings.proofs.Slots.{slot_long, slot_within}
-use Rattle.parser_draws.specs.Take.{slid, first_pair, packet_at, read_of, next_head, pair_left, packet_left, Taking, took_by, take_pair, take_head, take_none, none_took, take_packet, take_item, fits, Fits}
-use Rattle.parser_draws.specs.declared.Waits.{Waits}
-use Rattle.parser_draws.specs.declared.Next.{Next}
-use Rattle.parser_draws.specs.declared.Next.TheVariants.{Pair, Packet, Nothing, Refused}
-use Rattle.parser_draws.specs.declared.Took.{Took}
-use Rattle.parser_draws.specs.declared.Read.{Read}
+use Rattle.parser_draws.specs.Take.{slid, first_pair, packet_at, next_head, has_pair, has_packet, head_slot, head_run}
 
 -- the pair at the head
 module _ (l : List ℕ) where
@@ -100,144 +86,118 @@ slid_none k l = refl
 pub slid_done : {A : Type 0} (k : ℕ) (l a : List A) (i n : ℕ) → a ≡ slid k i l → i ≤ n → n ≤ i → a ≡ slid k n l
 slid_done k l a i n e h j = let q : i ≡ n = omega arith in rw q at e
 
--- bytes that do not read leave no packet
-unread_blank : (o : Outcome model.Packet) → is_given o ≡ false → after blank (mapped laid o) ≡ laid no_packet
-unread_blank (gave p) e = absurd (true≢false e)
-unread_blank (refused why) e = sym none_laid
+-- what is given where a test holds
+module _ {A : Type 0} (b : Bool) (x : A) (o : Option A) (e : o ≡ cond b (Some x) None) where
+  -- something
+  pub some_given : (y : A) → o ≡ Some y → (b ≡ true) × (y ≡ x)
+  some_given y q =
+      by_test b
+      (λ t. let w : Some y ≡ Some x = sym q ∙ e ∙ rw t in (t, ap (λ (z : Option A). unwrap_or z y) w))
+      (λ t. let w : Some y ≡ None = sym q ∙ e ∙ rw t in absurd (true≢false (sym (ap is_none w))))
+
+  -- nothing
+  pub not_given : ((y : A) → o ≡ Some y → ⊥) → b ≡ false
+  not_given n = by_test b (λ t. absurd (n x (e ∙ rw t))) (λ t. t)
+
+  pub none_given : o ≡ None → b ≡ false
+  none_given q = by_test b (λ t. let w : None ≡ Some x = sym q ∙ e ∙ rw t in absurd (true≢false (ap is_none w))) (λ t. t)
+
+-- what reading gives
+outcome_some : (o : Outcome Packet) (x : DTVCCPacket) → gave x ≡ mapped laid o → (is_given o ≡ true) × (x ≡ after blank (mapped laid o))
+outcome_some (gave p) x e = (refl, ap (after blank) e)
+outcome_some (refused why) x e = absurd (true≢false (ap is_given e))
+
+outcome_none : (o : Outcome Packet) (why : Said) → refused why ≡ mapped laid o → is_given o ≡ false
+outcome_none (gave p) why e = absurd (true≢false (sym (ap is_given e)))
+outcome_none (refused other) why e = refl
 
 -- a slot, read
 module _ (s : Slot) where
+  -- what a slot is read as
+  abbrev pub ReadAs : Option DTVCCPacket → Type 0
+  ReadAs o = o ≡ cond (slot_fine s) (Some (packet_at (slot_run s))) None
+
   -- longer than its places
-  pub read_long : 128 < s.len → (p : DTVCCPacket) → p ≡ laid no_packet → record { good = false; packet = p } ≡ read_of s
-  unfolding read_of
-  read_long h p e = rw (← slot_long s h, e)
+  pub read_long : 128 < s.len → ReadAs None
+  read_long h = rw (← slot_long s h)
 
   -- within them, by what reading it answers
-  module _ (h : s.len ≤ 128) (r : PacketAnswer) (read : packet.Answers (read_packet (slot_run s)) blank r) where
+  module _ (h : s.len ≤ 128) where
     -- a packet
-    pub read_packet_accepted : r.answer ≡ answer.Accepted → record { good = true; packet = r.packet } ≡ read_of s
-    unfolding read_of packet_at
-    read_packet_accepted t = rw (← slot_within s true h (sym (accepted_reads _ r read t)), read.places)
+    pub read_some : (x : DTVCCPacket) → gave x ≡ mapped laid (read_packet (slot_run s)) → ReadAs (Some x)
+    unfolding packet_at reads
+    read_some x e = let g = outcome_some (read_packet (slot_run s)) x e in rw (← slot_within s true h (sym g.0), g.1)
 
     -- none
-    pub read_none : (why : Refusal) → r.answer ≡ answer.Refused why → record { good = false; packet = r.packet } ≡ read_of s
-    unfolding read_of reads
-    read_none why t =
-        let f = refused_reads _ r why t read in
-        rw (← slot_within s false h (sym f), read.places, unread_blank (read_packet (slot_run s)) f)
+    pub read_none : (why : Said) → refused why ≡ mapped laid (read_packet (slot_run s)) → ReadAs None
+    unfolding reads
+    read_none why e = rw (← slot_within s false h (sym (outcome_none (read_packet (slot_run s)) why e)))
 
--- the numbers without the packet at the head
-module _ (w : Waits) where
-  -- the last
-  pub left_none : w.packets ≡ 1 → record { pairs = w.pairs; first = 0; packets = w.packets - 1 } ≡ packet_left w
+-- whether the list has a pair
+module _ (n : ℕ) where
+  -- none
+  pub pair_none : n ≡ 0 → has_pair n ≡ false
+  unfolding has_pair
+  pair_none z = rw (eq-eqb _ _ z)
+
+  -- more than there are places for
+  pub pair_over : 31 < n → has_pair n ≡ false
+  unfolding has_pair
+  pair_over h = rw (ne_eqb n 0 (λ z. omega arith), lt-leb n 31 h)
+
+  -- one
+  pub pair_some : (n ≡ 0 → ⊥) → n ≤ 31 → has_pair n ≡ true
+  unfolding has_pair
+  pair_some z h = rw (ne_eqb n 0 z, le-leb n 31 h)
+
+  -- so there is one
+  pub has_some : has_pair n ≡ true → n ≡ 0 → ⊥
+  has_some e z = true≢false (sym e ∙ pair_none z)
+
+-- whether the ring has a packet
+module _ (f n : ℕ) (l : List Slot) where
+  -- none waits
+  pub packet_none : n ≡ 0 → has_packet f n l ≡ false
+  unfolding has_packet
+  packet_none z = rw (eq-eqb _ _ z)
+
+  module _ (some : n ≡ 0 → ⊥) where
+    -- the head is at no place
+    pub packet_nowhere : 31 < f → has_packet f n l ≡ false
+    unfolding has_packet
+    packet_nowhere h = rw (ne_eqb n 0 some, lt-leb f 31 h)
+
+    -- the slot there reads
+    pub packet_some : f ≤ 31 → slot_fine (head_slot f l) ≡ true → has_packet f n l ≡ true
+    unfolding has_packet
+    packet_some h e = rw (ne_eqb n 0 some, le-leb f 31 h) e
+
+    -- the slot there, read
+    module _ (within : f ≤ 31) (o : Option DTVCCPacket) (read : ReadAs (head_slot f l) o) where
+      by_slot : (b : Bool) → slot_fine (head_slot f l) ≡ b → has_packet f n l ≡ b
+      unfolding has_packet
+      by_slot b e = rw (ne_eqb n 0 some, le-leb f 31 within) e
+
+      -- it is no packet
+      pub packet_unread : o ≡ None → has_packet f n l ≡ false
+      packet_unread e = by_slot false (none_given _ _ o read e)
+
+      -- it is one
+      pub packet_reads : (x : DTVCCPacket) → o ≡ Some x → (has_packet f n l ≡ true) × (x ≡ packet_at (head_run f l))
+      packet_reads x e = let g = some_given _ _ o read x e in (by_slot true g.0, g.1)
+
+  -- so one waits
+  pub has_waiting : has_packet f n l ≡ true → n ≡ 0 → ⊥
+  has_waiting e z = true≢false (sym e ∙ packet_none z)
+
+-- the place of the head afterwards
+module _ (f n : ℕ) (some : n ≡ 0 → ⊥) where
+  -- the last was taken
+  pub head_last : n - 1 ≡ 0 → 0 ≡ next_head f n
   unfolding next_head
-  left_none e = rw (eq-eqb _ _ e)
+  head_last z = rw (eq-eqb n 1 (omega (arith, some)))
 
-  -- not the last
-  pub left_some : (w.packets ≡ 1 → ⊥) → record { pairs = w.pairs; first = (w.first + 1) % 32; packets = w.packets - 1 } ≡ packet_left w
+  -- others are left
+  pub head_next : (n - 1 ≡ 0 → ⊥) → (f + 1) % 32 ≡ next_head f n
   unfolding next_head
-  left_some e = rw (ne_eqb _ _ e)
-
--- what is taken
-module _ (w : Waits) (l : List ℕ) where
-  -- nothing
-  none_taken : (next : Next) (t : Took) → t ≡ none_took next w → took_by t l ≡ take_none next w l
-  none_taken next t e = rw e
-
-  -- a pair
-  pub pair_taken : (x : Cea608) (k : List ℕ) (p : DTVCCPacket) → x ≡ first_pair l → k ≡ slid 3 (3 * (w.pairs - 1)) l → p ≡ laid no_packet
-      → took_by (record { next = Pair x; packet = p; left = pair_left w }) k ≡ take_pair w l
-  unfolding take_pair
-  pair_taken x k p e q z = rw (e, q, z)
-
-  -- what comes once no pair is left
-  module _ (slot : Slot) where
-    -- nothing
-    pub packet_nothing : w.packets ≡ 0 → (t : Took) → t ≡ none_took Nothing w → took_by t l ≡ take_packet w l slot
-    unfolding take_packet
-    packet_nothing z t e = rw (eq-eqb _ _ z) (none_taken Nothing t e)
-
-    -- or what the slot at the head is read as
-    module _ (some : w.packets ≡ 0 → ⊥) (r : Read) (read : r ≡ read_of slot) where
-      -- it reads so
-      reads_so : r.good ≡ slot_fine slot
-      unfolding read_of
-      reads_so = ap (λ (x : Read). x.good) read
-
-      -- what it gives then
-      packet_read : slot_fine slot ≡ true → r.packet ≡ packet_at (slot_run slot)
-      unfolding read_of
-      packet_read f = ap (λ (x : Read). x.packet) read ∙ rw f
-
-      -- a packet
-      pub packet_head : r.good ≡ true → (k : Waits) → k ≡ packet_left w → took_by (record { next = Packet; packet = r.packet; left = k }) l ≡ take_packet w l slot
-      unfolding take_packet take_head
-      packet_head t k e = let f : slot_fine slot ≡ true = sym reads_so ∙ t in rw (ne_eqb _ _ some, f, e, packet_read f)
-
-      -- none
-      pub packet_unread : r.good ≡ false → (t : Took) → t ≡ none_took Refused w → took_by t l ≡ take_packet w l slot
-      unfolding take_packet
-      packet_unread f t e = let g : slot_fine slot ≡ false = sym reads_so ∙ f in rw (ne_eqb _ _ some, g) (none_taken Refused t e)
-
--- what comes next, the numbers being within their limits
-module _ (w : Waits) (l : List ℕ) (slot : Slot) where
-  -- the item
-  abbrev item : Taking
-  item = take_item (head_fine w.packets slot) w l slot
-
-  -- no pair waits
-  pub next_packet : w.pairs ≡ 0 → (t : Taking) → t ≡ take_packet w l slot → t ≡ item
-  unfolding take_item take_packet head_fine
-  next_packet z t q = q ∙ by_test (eqb w.packets 0) (λ e. rw (e, eq-eqb _ _ z)) (λ e. rw (e, eq-eqb _ _ z))
-
-  module _ (h : Bool) (head : h ≡ head_fine w.packets slot) where
-    -- pairs wait
-    pub next_pair : (w.pairs ≡ 0 → ⊥) → h ≡ true → (t : Taking) → t ≡ take_pair w l → t ≡ item
-    unfolding take_item
-    next_pair some f t q = rw (← head, f, ne_eqb _ _ some) q
-
-    -- and the slot does not read
-    pub next_unread : h ≡ false → (t : Took) → t ≡ none_took Refused w → took_by t l ≡ item
-    unfolding take_item
-    next_unread f t q = rw (← head, f) (none_taken w l Refused t q)
-
--- whether all but the slot at the head is within its limits
-module _ (rest : Bool) (w : Waits) where
-  -- too many pairs
-  pub pairs_over : 31 < w.pairs → false ≡ fits rest w
-  unfolding fits
-  pairs_over h = rw (lt-leb _ _ h)
-
-  module _ (p : w.pairs ≤ 31) where
-    -- a head at no place
-    pub first_over : 31 < w.first → false ≡ fits rest w
-    unfolding fits
-    first_over h = rw (le-leb _ _ p, lt-leb _ _ h)
-
-    -- the numbers are
-    pub numbers_fit : w.first ≤ 31 → rest ≡ fits rest w
-    unfolding fits
-    numbers_fit h = rw (le-leb _ _ p, le-leb _ _ h)
-
-  module _ (b : Bool) (tested : b ≡ fits rest w) where
-    -- the numbers that a taker asks for
-    pub fits_facts : b ≡ true → Fits w
-    unfolding fits
-    fits_facts e =
-        let f = both (leb w.pairs 31) (leb w.first 31 && rest) (sym tested ∙ e) in
-        let g = both (leb w.first 31) rest f.1 in
-        record { pairs = leb-true _ _ f.0; first = leb-true _ _ g.0 }
-
-    -- what comes next, by that
-    module _ (l : List ℕ) (slot : Slot) where
-      abbrev whole : Taking
-      whole = take_item (fits rest w && head_fine w.packets slot) w l slot
-
-      -- all is
-      pub item_next : b ≡ true → (t : Taking) → t ≡ take_item (head_fine w.packets slot) w l slot → t ≡ whole
-      item_next e t f = rw (← tested, e) f
-
-      -- something is not
-      pub item_bad : b ≡ false → (t : Took) → t ≡ none_took Refused w → took_by t l ≡ whole
-      unfolding take_item
-      item_bad e t f = rw (← tested, e) (none_taken w l Refused t f)
+  head_next z = rw (ne_eqb n 1 (λ o. z (omega (arith, o))))

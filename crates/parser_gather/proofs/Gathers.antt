@@ -18,9 +18,9 @@ use Rattle.slots.specs.Slot.{slot_with}
 use Rattle.slots.specs.declared.Slot.{Slot}
 use Rattle.parser_triples.specs.Walk.{seen_from}
 use Rattle.parser_triples.proofs.Walks.{seen_next, seen_none, sees_void, sees_608, sees_more, sees_start}
-use Rattle.parser_rings.specs.Ring.{set_round, cleared_for}
+use Rattle.parser_rings.specs.Ring.{set_round, cleared_for, with_runs}
 use Rattle.parser_gather.specs.Tests.{pending_fine}
-use Rattle.parser_gather.specs.Gather.{Left, left_of, triple_at, Held, held_by, put_two, Holds, Sized, put, closes_by}
+use Rattle.parser_gather.specs.Gather.{Left, left_of, triple_at, Held, held_by, put_two, Holds, Sized, put, closes_by, kept_slots}
 use Rattle.parser_gather.specs.declared.Run.{Run}
 use Rattle.parser_gather.specs.declared.Triple.{Triple}
 use Rattle.parser_rings.proofs.Places.{sets_append, take_sets, zeros}
@@ -254,15 +254,22 @@ pub record Going (a : Left) (f : ℕ) (l : List ℕ) (n : ℕ) (t : List Slot) (
   pub holds : Holds (held_by s k) held
   pub rest : a ≡ left_of f n t l (ended (gather held ts))
 
+-- runs behind one that was laid
+with_more : (f n : ℕ) (u : List Slot) (gs : List (List ℕ)) → set_round (f + n + 1) u gs ≡ with_runs f (n + 1) u gs
+unfolding with_runs set_round cleared_for
+with_more f n u [] = refl
+with_more f n u (g ∷ gs) =
+    let w : f + n + 1 ≡ f + (n + 1) = omega arith in
+    rw (w, ne_eqb (n + 1) 0 (λ z. omega arith))
+
 -- `a` is what the whole frame leaves
 module _ (f : ℕ) (l : List ℕ) (a : Left) (n : ℕ) (t : List Slot) where
   -- one run is a slot
-  left_one : (g : List ℕ) (o : Gathered) → left_of f n t l (delivered (g ∷ []) o) ≡ left_of f (n + 1) (set t ((f + n) % 32) (slot_with (length g) g)) l o
-  unfolding set_round
+  left_one : (g : List ℕ) (o : Gathered) → left_of f n t l (delivered (g ∷ []) o) ≡ left_of f (n + 1) (set (cleared_for n t) ((f + n) % 32) (slot_with (length g) g)) l o
+  unfolding with_runs set_round
   left_one g o =
       let z : n + suc (length o.runs) ≡ n + 1 + length o.runs = omega arith in
-      let w : f + n + 1 ≡ f + (n + 1) = omega arith in
-      rw (z, ← w)
+      rw (z, with_more f n (set (cleared_for n t) ((f + n) % 32) (slot_with (length g) g)) o.runs)
 
   module _ (g : List ℕ) (s : Run) (k : List ℕ) (h : Holds (held_by s k) g) where
     -- a turn
@@ -286,7 +293,7 @@ module _ (f : ℕ) (l : List ℕ) (a : Left) (n : ℕ) (t : List Slot) where
           closes_here = rw (held_run h) at (asked w.x w.y)
 
           -- it delivers
-          pub turn_delivers : b ≡ true → u ≡ set t ((f + n) % 32) (record { len = s.len; bytes = k }) → m ≡ n + 1
+          pub turn_delivers : b ≡ true → u ≡ kept_slots f n t s.len k → m ≡ n + 1
               → a ≡ left_of f m u l (ended (gather (put here g) (seen_from (i + 1) d)))
           turn_delivers y p q = rw (p, q, held_slot h) ((rw (← closes_here, y) at turned) ∙ left_one g (ended (gather (put here g) (seen_from (i + 1) d))))
 
@@ -332,11 +339,11 @@ module _ (f : ℕ) (l : List ℕ) (a : Left) (n : ℕ) (t : List Slot) where
         module _ (u : List Slot) (c : ℕ) where
           -- a slot behind the others, and no run more
           none_more : (r : List Slot) → left_of f (n + 1) r l (record { runs = []; bytes = [] }) ≡ record { pending = 0; bytes = l; count = n + 1; slots = r }
-          unfolding set_round
+          unfolding with_runs
           none_more r = let w : n + 1 + 0 ≡ n + 1 = omega arith in rw w
 
           -- it delivers
-          pub end_delivers : b ≡ true → u ≡ set t ((f + n) % 32) (record { len = s.len; bytes = k }) → c ≡ n + 1 → record { pending = p; bytes = m; count = c; slots = u } ≡ a
+          pub end_delivers : b ≡ true → u ≡ kept_slots f n t s.len k → c ≡ n + 1 → record { pending = p; bytes = m; count = c; slots = u } ≡ a
           unfolding kept
           end_delivers y q v =
               by_test (eqb (wants g) 0)
@@ -347,7 +354,7 @@ module _ (f : ℕ) (l : List ℕ) (a : Left) (n : ℕ) (t : List Slot) where
 
           -- it does not
           pub end_keeps : b ≡ false → u ≡ t → c ≡ n → record { pending = p; bytes = m; count = c; slots = u } ≡ a
-          unfolding kept set_round
+          unfolding kept with_runs
           end_keeps y q v =
               let w : n + 0 ≡ n = omega arith in
               by_test (eqb (wants g) 0)
@@ -366,7 +373,3 @@ module _ (n : ℕ) (t l : List Slot) where
   pub cleared_some : t ≡ l → (n ≡ 0 → ⊥) → t ≡ cleared_for n l
   unfolding cleared_for
   cleared_some e z = rw (ne_eqb n 0 z) e
-
--- what is left over one ring is left over the same
-pub left_over : (f n : ℕ) (t u : List Slot) (l : List ℕ) (o : Gathered) (a : Left) → t ≡ u → a ≡ left_of f n t l o → a ≡ left_of f n u l o
-left_over f n t u l o a e q = rw (← e) q

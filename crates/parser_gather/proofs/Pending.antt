@@ -9,14 +9,12 @@ use lib.Seq.{get_or-take, length-take-le}
 use lib.Dec.{eqb, leb, ltb}
 use borrow.Author.Tests.{eq-eqb, ne_eqb, eqb-true, eqb-false, le-ltb, lt-leb, le-leb, leb-true, leb-false}
 use Rattle.model.specs.Packet.{packet_size}
-use Rattle.model.specs.Demux.{valid_pending, gather, ended}
+use Rattle.model.specs.Demux.{valid_pending}
 use Rattle.model.proofs.Cases.{by_test, both}
 use Rattle.model.proofs.Limits.{size_most}
 use Rattle.slots.specs.declared.Slot.{Slot}
-use Rattle.parser_triples.specs.Walk.{seen_from}
-use Rattle.parser_rings.specs.Ring.{cleared_for}
 use Rattle.parser_gather.specs.Tests.{pending_fine, ready_for}
-use Rattle.parser_gather.specs.Gather.{Left, left_of, left_after}
+use Rattle.parser_gather.specs.Gather.{Left, left_gathered, left_after}
 
 module _ (n : ℕ) (l : List ℕ) where
   -- no bytes
@@ -84,20 +82,14 @@ module _ (f count n : ℕ) (l : List ℕ) where
     pub ready_fine : pending_fine n l ≡ true
     ready_fine = (both (leb count 32) (pending_fine n l) ready_facts.1).1
 
--- gathering, if asked
-module _ (gathers : Bool) (f count : ℕ) (slots : List Slot) (n : ℕ) (l frame : List ℕ) where
-  -- not asked
-  pub gather_not : gathers ≡ false → record { pending = n; bytes = l; count = count; slots = slots } ≡ left_after gathers f count slots n l frame
+-- gathering a frame
+module _ (f count : ℕ) (slots : List Slot) (n : ℕ) (l frame : List ℕ) (b : Bool) (tested : b ≡ ready_for f count n l) where
+  -- outside the limits
+  pub gather_unready : b ≡ false → record { pending = n; bytes = l; count = count; slots = slots } ≡ left_after f count slots n l frame
   unfolding left_after
-  gather_not e = rw e
+  gather_unready e = rw (← tested, e)
 
-  module _ (asked : gathers ≡ true) (b : Bool) (tested : b ≡ ready_for f count n l) where
-    -- outside the limits
-    pub gather_unready : b ≡ false → record { pending = n; bytes = l; count = count; slots = slots } ≡ left_after gathers f count slots n l frame
-    unfolding left_after
-    gather_unready e = rw (asked, ← tested, e)
-
-    -- packets are gathered
-    pub gather_asked : (g : Left) → b ≡ true → g ≡ left_of f count (cleared_for count slots) l (ended (gather (take n l) (seen_from 0 frame))) → g ≡ left_after gathers f count slots n l frame
-    unfolding left_after
-    gather_asked g e q = rw (asked, ← tested, e) q
+  -- packets are gathered
+  pub gather_ready : (g : Left) → b ≡ true → g ≡ left_gathered f count slots n l frame → g ≡ left_after f count slots n l frame
+  unfolding left_after
+  gather_ready g e q = rw (← tested, e) q

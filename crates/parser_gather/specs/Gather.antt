@@ -1,5 +1,5 @@
 -- What gathering leaves in places, and its steps. No public contract of `parser` reaches this file. Assumes nothing.
-use Rattle.std.specs.Prelude.{◌≡◌, List, [], ◌∷◌, ◌++◌, Bool, false, cond, ◌&&◌, ℕ, ◌+◌, ◌-◌, ◌*◌, ◌%◌, ◌≤◌, length, get_or, set, take, replicate, eqb}
+use Rattle.std.specs.Prelude.{◌≡◌, List, [], ◌∷◌, ◌++◌, Bool, false, cond, ℕ, ◌+◌, ◌-◌, ◌*◌, ◌%◌, ◌≤◌, length, get_or, set, take, replicate, eqb}
 use Rattle.std.proofs.lemmas.List.Edits.{sets}
 use Rattle.model.specs.Frame.{Seen, first, second, start, more, void608, void708}
 use Rattle.model.specs.Packet.{packet_size, reads}
@@ -9,7 +9,7 @@ use Rattle.parser_triples.specs.Walk.{seen_from}
 use Rattle.parser_gather.specs.declared.Run.{Run}
 use Rattle.parser_gather.specs.declared.Triple.{Triple}
 use Rattle.parser_gather.specs.declared.Remains.{Remains}
-use Rattle.parser_rings.specs.Ring.{set_round, cleared_for}
+use Rattle.parser_rings.specs.Ring.{cleared_for, with_runs}
 use Rattle.parser_gather.specs.Tests.{ready_for}
 
 -- what a frame leaves: pending bytes in their places, and the waiting slots
@@ -19,23 +19,27 @@ pub record Left : Type 0 where
   pub count : ℕ
   pub slots : List Slot
 
--- what the code gives, with the places of the pending bytes
-abbrev pub left_in : Remains → List ℕ → Left
-left_in g l = record { pending = g.pending; bytes = l; count = g.waiting; slots = g.slots }
+-- what the code gives, with the places of the pending bytes and the slots
+abbrev pub left_in : Remains → List ℕ → List Slot → Left
+left_in g l slots = record { pending = g.pending; bytes = l; count = g.waiting; slots = slots }
+
+-- bytes laid into the slot behind the n that wait from f on; cleared ones where none does
+abbrev pub kept_slots : ℕ → ℕ → List Slot → ℕ → List ℕ → List Slot
+kept_slots f n slots len bytes = set (cleared_for n slots) ((f + n) % 32) (record { len = len; bytes = bytes })
 
 -- what is gathered: its bytes laid over the places, and its runs behind the slots that wait
 abbrev pub left_of : ℕ → ℕ → List Slot → List ℕ → Gathered → Left
 left_of f n slots l o =
-    record { pending = length o.bytes; bytes = sets l 0 o.bytes; count = n + length o.runs; slots = set_round (f + n) slots o.runs }
+    record { pending = length o.bytes; bytes = sets l 0 o.bytes; count = n + length o.runs; slots = with_runs f n slots o.runs }
 
--- what a frame leaves whose triples are all gathered, of n pending bytes and count slots, cleared ones if there are none
+-- what a frame leaves whose triples are all gathered, of n pending bytes and count slots
 abbrev pub left_gathered : ℕ → ℕ → List Slot → ℕ → List ℕ → List ℕ → Left
-left_gathered f count slots n l frame = left_of f count (cleared_for count slots) l (ended (gather (take n l) (seen_from 0 frame)))
+left_gathered f count slots n l frame = left_of f count slots l (ended (gather (take n l) (seen_from 0 frame)))
 
--- the frame is gathered where that is asked and the places are within their limits; else all stays
-unfoldable pub left_after : Bool → ℕ → ℕ → List Slot → ℕ → List ℕ → List ℕ → Left
-left_after gathers f count slots n l frame =
-    cond (gathers && ready_for f count n l) (left_gathered f count slots n l frame)
+-- the frame is gathered where the places are within their limits; else all stays
+unfoldable pub left_after : ℕ → ℕ → List Slot → ℕ → List ℕ → List ℕ → Left
+left_after f count slots n l frame =
+    cond (ready_for f count n l) (left_gathered f count slots n l frame)
     (record { pending = n; bytes = l; count = count; slots = slots })
 
 -- the triple at a place of a frame

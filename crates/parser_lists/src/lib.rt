@@ -1,7 +1,7 @@
 // The list of the pairs of a frame: pairs listed, and a list tested.
 #![tactic(auto)]
 
-ghost use Rattle.std.specs.Prelude.{◌≡◌, ◌&&◌, List, ◌∷◌, ◌+◌, ◌%◌, ◌≤◌, ◌<◌, length};
+ghost use Rattle.std.specs.Prelude.{◌≡◌, List, ◌∷◌, ◌+◌, ◌%◌, ◌≤◌, ◌<◌, length};
 ghost use Rattle.model.specs.Frame.{Seen, seen, tri};
 ghost use Rattle.parser_triples.specs.Walk.{seen_from};
 ghost use Rattle.parser_lists.specs.Listing.{listing, listed_by, fields_fine, list_fine};
@@ -10,11 +10,12 @@ use basics::MOST_FRAME;
 
 const MOST_PAIRS: usize = 31;
 
-// Lays the pair of a triple of the 608 part, if it is valid, behind the n that are there; gives how many there are then.
+// Lays the pair of a triple of the 608 part, if it is valid, behind the n that are there; answers how many there are then.
 fn put_pair(pairs: &mut [u8; 93], n: usize, c: u8, x: u8, y: u8) -> usize
     requires n_bound { n < 31 }
     requires c_bound { c % 4 < 2 }
-    ensures ts_value { (ts : List Seen) → listing n pairs.old (seen (tri c x y) ∷ ts) ≡ listing result pairs.new ts }
+    ensures ts_value { (ts : List Seen) →
+        listing n pairs.old (seen (tri c x y) ∷ ts) ≡ listing result pairs.new ts }
     ensures upper_bound { result ≤ n + 1 }
 {
     if c % 8 < 4 {
@@ -26,7 +27,7 @@ fn put_pair(pairs: &mut [u8; 93], n: usize, c: u8, x: u8, y: u8) -> usize
     n + 1
 }
 
-// Lists the pairs of a frame's 608 part; gives how many there are.
+// Lists the pairs of a frame's 608 part; answers how many there are.
 fn list_pairs(pairs: &mut [u8; 93], frame: &[u8]) -> usize
     requires { length frame.now ≤ 95 }
     ensures { record { count = result; places = pairs.new } ≡ listing 0 pairs.old (seen_from 0 frame.now) }
@@ -44,18 +45,17 @@ fn list_pairs(pairs: &mut [u8; 93], frame: &[u8]) -> usize
     n
 }
 
-// Lists the pairs of a frame of at most 31 triples where that is asked and 608 is on, and else none; gives how many there are.
-pub fn list_by(lists: bool, on: bool, pairs: &mut [u8; 93], frame: &[u8]) -> usize
-    ensures { record { count = result; places = pairs.new } ≡ listed_by (lists && on) pairs.old frame.now }
+/// Lists the pairs of a frame of at most 31 triples where 608 is on, and else none; answers how many there are [F1] [F7].
+pub fn list_frame(on: bool, pairs: &mut [u8; 93], frame: &[u8]) -> usize
+    ensures { record { count = result; places = pairs.new } ≡ listed_by on pairs.old frame.now }
 {
-    if lists {
-        if on {
-            if frame.len() <= MOST_FRAME {
-                return list_pairs(pairs, frame);
-            }
-        }
+    if !on {
+        return 0;
     }
-    0
+    if MOST_FRAME < frame.len() {
+        return 0;
+    }
+    list_pairs(pairs, frame)
 }
 
 // Whether each of the first pairs is of field 1 or 2.
@@ -63,17 +63,15 @@ fn fields_good(pairs: &[u8; 93], n: usize) -> bool
     requires { n ≤ 31 }
     ensures { result ≡ fields_fine n pairs.now }
 {
-    let mut i = 0;
-    while i < n {
+    for i in 0..n {
         if 1 < pairs[3 * i] {
             return false;
         }
-        i += 1;
     }
     true
 }
 
-// Whether the list has at most 31 pairs, each of field 1 or 2, and none while 608 is off.
+/// Whether the list has at most 31 pairs, each of field 1 or 2, and none while 608 is off.
 pub fn list_good(on: bool, pairs: &[u8; 93], n: usize) -> bool
     ensures { result ≡ list_fine on n pairs.now }
 {

@@ -1,5 +1,4 @@
 pub mod Walks
 pub mod Scans
-pub mod Heads
-pub mod Found
 pub mod Plans
+pub mod Found

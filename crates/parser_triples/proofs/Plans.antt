@@ -1,73 +1,81 @@
--- Laws of the plan of a frame, one for each way out of a function. Assumes nothing.
-use mathlib.Core.Path.{◌≡◌, ◌∙◌}
+-- Laws of the plan of a frame, one for each way out. Assumes nothing.
+use mathlib.Core.Path.{◌≡◌, refl, sym, ap}
 use mathlib.Core.List.{List}
-use mathlib.Core.Bool.{true, false}
-use Prim.Native.Nat.{ℕ, ◌+◌, ◌*◌}
+use mathlib.Core.Bool.{Bool, true, false, true≢false}
+use mathlib.Core.Option.{Option, none, some}
+use Prim.Native.Nat.{ℕ, ◌+◌, ◌*◌, ◌/◌, ◌%◌, ◌≤◌, ◌<◌}
+use native.Mathlib.Omega.{arith}
 use lib.ListN.{length, get_or}
+use borrow.Author.Tests.{eq-eqb, ne_eqb, lt-ltb, le-ltb, eqb-true}
 use lib.Dec.{eqb}
-use Rattle.caption.specs.declared.Answer.TheVariants.{Accepted, Refused}
-use Rattle.caption.specs.declared.Refusal.TheVariants.{FrameLengthWrong, Cea608AfterCea708}
-use Rattle.model.specs.Frame.{count_in}
-use Rattle.model.specs.Demux.{unread}
+use Rattle.model.specs.Frame.{flagged, count_in}
+use Rattle.model.specs.Demux.{unread, late_from, carries708}
 use Rattle.model.proofs.Cases.{by_test}
 use Rattle.parser_triples.specs.Walk.{seen_from}
-use Rattle.parser_triples.specs.Scan.{scanned}
-use Rattle.parser_triples.specs.Plan.{head_of, plan, plan_walked, plan_of}
-use Rattle.parser_triples.specs.declared.Head.{Head}
-use Rattle.parser_triples.specs.declared.Head.TheVariants as head
-use Rattle.parser_triples.specs.declared.Scan.{Scan}
-use Rattle.parser_triples.specs.declared.Scan.TheVariants as scan
+use Rattle.parser_triples.specs.Plan.{plan_found, plan_walked, plan_of}
 use Rattle.parser_triples.specs.declared.Plan.{Plan}
-use Rattle.parser_triples.proofs.Found.{plan_scanned, scan_found}
+use Rattle.parser_triples.specs.declared.Plan.TheVariants.{Unread, LengthWrong, Late, Pairs, Packets}
 
--- the plan of a frame with triples, by what the search found
-module _ (f : List ℕ) (s : Scan) (found : s ≡ scanned f) where
-  -- the plan is that of what the search came to
-  found_plan : plan_scanned s ≡ plan_walked f
-  found_plan = rw found (scan_found 0 (seen_from 0 f))
+module _ (d : List ℕ) where
+  -- under 5 bytes
+  pub plan_short : length d < 5 → Unread ≡ plan_of d
+  unfolding plan_of unread
+  plan_short h = simp (lt-ltb _ _ h)
 
-  -- a late triple
-  pub plan_late : (at : ℕ) → s ≡ scan.Late at → plan (Refused (Cea608AfterCea708 at)) true false ≡ plan_walked f
-  plan_late at e = rw e at found_plan
+  module _ (l : 5 ≤ length d) where
+    -- flag 0x40 clear
+    pub plan_off : (get_or d 0 0 / 64 % 2 ≡ 1 → ⊥) → Unread ≡ plan_of d
+    unfolding plan_of unread flagged
+    plan_off h = simp (le-ltb _ _ l, ne_eqb _ _ h)
 
-  -- a valid 708 triple
-  pub plan_carries : s ≡ scan.Carries → plan Accepted true true ≡ plan_walked f
-  plan_carries e = rw e at found_plan
+    module _ (on : get_or d 0 0 / 64 % 2 ≡ 1) where
+      -- count 0
+      pub plan_none : get_or d 0 0 % 32 ≡ 0 → Unread ≡ plan_of d
+      unfolding plan_of unread flagged
+      plan_none h = simp (le-ltb _ _ l, eq-eqb _ _ on, eq-eqb _ _ h)
 
-  -- 708 triples, none valid
-  pub plan_ended : s ≡ scan.Ended → plan Accepted true false ≡ plan_walked f
-  plan_ended e = rw e at found_plan
+      module _ (some : get_or d 0 0 % 32 ≡ 0 → ⊥) where
+        -- length 3n+2
+        pub plan_walk : (q : Plan) → length d ≡ 3 * (get_or d 0 0 % 32) + 2 → q ≡ plan_walked d → q ≡ plan_of d
+        unfolding plan_of unread flagged
+        plan_walk q h e = simp (le-ltb _ _ l, eq-eqb _ _ on, ne_eqb _ _ some, eq-eqb _ _ h, e)
 
-  -- no 708 triple
-  pub plan_only : s ≡ scan.Only608 → plan Accepted true false ≡ plan_walked f
-  plan_only e = rw e at found_plan
+        -- any other length
+        pub plan_wrong : (length d ≡ 3 * (get_or d 0 0 % 32) + 2 → ⊥) → LengthWrong (3 * (get_or d 0 0 % 32) + 2) (length d) ≡ plan_of d
+        unfolding plan_of unread flagged
+        plan_wrong h = simp (le-ltb _ _ l, eq-eqb _ _ on, ne_eqb _ _ some, ne_eqb _ _ h)
 
--- the plan by the header
-abbrev plan_headed : Head → List ℕ → Plan
-plan_headed head.Unread f = plan Accepted false false
-plan_headed (head.LengthWrong expected actual) f = plan (Refused (FrameLengthWrong expected actual)) false false
-plan_headed head.Walk f = plan_walked f
+pub ruleset plan_laws = (plan_short, plan_off, plan_none, plan_walk, plan_wrong)
 
--- the header decides as the model does
-headed_plan : (f : List ℕ) → plan_headed (head_of f) f ≡ plan_of f
-unfolding head_of plan_of
-headed_plan f =
-    by_test (unread f) (λ e. rw e)
-    (λ e. by_test (eqb (length f) (3 * count_in (get_or f 0 0) + 2)) (λ d. rw (e, d)) (λ d. rw (e, d)))
+-- whether bytes are gathered
+abbrev gathers : Plan → Bool
+gathers Unread = false
+gathers (LengthWrong expected actual) = false
+gathers (Late at) = false
+gathers Pairs = false
+gathers Packets = true
 
-module _ (f : List ℕ) (h : Head) (found : h ≡ head_of f) where
-  -- so it does for the header that was read
-  header_plan : plan_headed h f ≡ plan_of f
-  header_plan = rw found (headed_plan f)
+-- bytes are gathered of a frame with a valid triple of type 2 or 3 alone
+pub packets_carry : (f : List ℕ) → plan_of f ≡ Packets → carries708 (seen_from 0 f) ≡ true
+unfolding plan_of
+packets_carry f e =
+    by_test (unread f)
+    (λ t. let q : Unread ≡ Packets = rw t at e in absurd (true≢false (sym (ap gathers q))))
+    (λ t. by_test (eqb (length f) (3 * count_in (get_or f 0 0) + 2))
+    (λ d. let q : plan_walked f ≡ Packets = rw (t, d) at e in found (late_from 0 (seen_from 0 f)) (carries708 (seen_from 0 f)) q)
+    (λ d. let q : LengthWrong (3 * count_in (get_or f 0 0) + 2) (length f) ≡ Packets = rw (t, d) at e in absurd (true≢false (sym (ap gathers q)))))
+  where
+    found : (o : Option ℕ) (b : Bool) → plan_found o b ≡ Packets → b ≡ true
+    found (some at) b q = absurd (true≢false (sym (ap gathers q)))
+    found none true q = refl
+    found none false q = absurd (true≢false (sym (ap gathers q)))
 
-  -- nothing to read
-  pub plan_unread : h ≡ head.Unread → plan Accepted false false ≡ plan_of f
-  plan_unread e = rw e at header_plan
-
-  -- a wrong length
-  pub plan_wrong : (x y : ℕ) → h ≡ head.LengthWrong x y → plan (Refused (FrameLengthWrong x y)) false false ≡ plan_of f
-  plan_wrong x y e = rw e at header_plan
-
-  -- triples
-  pub plan_triples : (q : Plan) → h ≡ head.Walk → q ≡ plan_walked f → q ≡ plan_of f
-  plan_triples q e r = r ∙ (rw e at header_plan)
+-- and of one that is as long as its count asks: at most 95 bytes
+pub packets_short : (f : List ℕ) → plan_of f ≡ Packets → length f ≤ 95
+unfolding plan_of
+packets_short f e =
+    by_test (unread f)
+    (λ t. let q : Unread ≡ Packets = rw t at e in absurd (true≢false (sym (ap gathers q))))
+    (λ t. by_test (eqb (length f) (3 * count_in (get_or f 0 0) + 2))
+    (λ d. omega (arith, eqb-true (length f) (3 * count_in (get_or f 0 0) + 2) d))
+    (λ d. let q : LengthWrong (3 * count_in (get_or f 0 0) + 2) (length f) ≡ Packets = rw (t, d) at e in absurd (true≢false (sym (ap gathers q)))))

@@ -1,104 +1,103 @@
--- Laws of the search for a late pair, one for each way out. Assumes nothing.
-use mathlib.Core.Path.{◌≡◌, refl, sym, ap, ◌∙◌}
-use mathlib.Core.Bool.{Bool, true, false}
+-- Laws of the search for a late pair and for a valid 708 triple, one for each way out. Assumes nothing.
+use mathlib.Core.Path.{◌≡◌, refl, sym, ◌∙◌}
+use mathlib.Core.Bool.{Bool, true, false, ◌||◌}
+use mathlib.Core.List.{List, ◌∷◌}
+use mathlib.Core.Option.{none}
 use Prim.Native.Nat.{ℕ, ◌+◌, ◌*◌, ◌%◌, ◌≤◌, ◌<◌}
+use native.Mathlib.Numerals.{add-one}
 use native.Mathlib.Omega.{arith}
-use mathlib.Core.List.{List, [], ◌∷◌}
 use lib.ListN.{length, get_or}
 use lib.Dec.{ltb}
 use borrow.Author.Tests.{ltb-true, ltb-false}
-use Rattle.model.specs.Frame.{tri, seen, Seen}
+use Rattle.model.specs.Frame.{Seen}
+use Rattle.model.specs.Demux.{late_from, late_after, carries708}
 use Rattle.model.proofs.Cases.{by_test}
-use Rattle.parser_triples.specs.Scan.{found, scan_first, scan_after, scan_turn}
-use Rattle.parser_triples.specs.declared.Scan.{Scan}
-use Rattle.parser_triples.specs.declared.Scan.TheVariants.{Only608, Ended, Carries, Late}
-use Rattle.parser_triples.specs.Walk.{fold_from, seen_from}
-use Rattle.parser_triples.proofs.Walks.{walk_again, walk_done, seen_next, sees_void608, sees_void708, sees_void, sees_608, sees_708}
+use Rattle.parser_triples.specs.Walk.{seen_from}
+use Rattle.parser_triples.specs.Plan.{plan_found}
+use Rattle.parser_triples.specs.declared.Plan.{Plan}
+use Rattle.parser_triples.specs.declared.Plan.TheVariants.{Late, Pairs}
+use Rattle.parser_triples.proofs.Walks.{seen_next, seen_none, sees_void608, sees_void708, sees_void, sees_608, sees_708}
 
-module _ (c x y : ℕ) where
-  -- a triple of type 0 or 1, within the 608 part
-  first_stays : c % 4 < 2 → Only608 ≡ scan_first (seen (tri c x y))
-  first_stays h =
-      by_test (ltb (c % 8) 4)
-      (λ e. let k = ltb-true (c % 8) 4 e in sees_void608 c x y (λ t. Only608 ≡ scan_first t) (omega arith) refl)
-      (λ e. let k = ltb-false (c % 8) 4 e in sees_608 c x y (λ t. Only608 ≡ scan_first t) (omega arith) (omega arith) refl refl)
+-- the plan within the 608 part, from the i-th triple on
+abbrev pub within : ℕ → List Seen → Plan
+within i ts = plan_found (late_from i ts) (carries708 ts)
 
-  -- one of type 2 or 3 ends it, and is then as one after it
-  first_ends : (at : ℕ) → 2 ≤ c % 4 → scan_first (seen (tri c x y)) ≡ scan_after Ended at (seen (tri c x y))
-  first_ends at h =
-      by_test (ltb (c % 8) 4)
-      (λ e. let k = ltb-true (c % 8) 4 e in sees_void708 c x y (λ t. scan_first t ≡ scan_after Ended at t) (omega arith) (omega arith) refl)
-      (λ e. let k = ltb-false (c % 8) 4 e in sees_708 c x y (λ t. scan_first t ≡ scan_after Ended at t) (omega arith) refl refl)
+-- and past it, where a valid 708 triple was there or not
+abbrev pub beyond : Bool → ℕ → List Seen → Plan
+beyond carries i ts = plan_found (late_after i ts) (carries || carries708 ts)
 
-  -- after the 608 part
-  module _ (s : Scan) (at : ℕ) where
-    -- one that is not valid
-    after_void : c % 8 < 4 → s ≡ scan_after s at (seen (tri c x y))
-    after_void h = sees_void c x y (λ t. s ≡ scan_after s at t) h refl refl
+-- For the loops: `a` is the plan by all triples, and stays the plan by those that are left.
+module _ (a : Plan) (f : List ℕ) (i : ℕ) where
+  abbrev c : ℕ
+  c = get_or f (3 * i + 2) 0
 
-    -- a valid one of type 0 or 1
-    after_late : 4 ≤ c % 8 → c % 8 < 6 → Late at ≡ scan_after s at (seen (tri c x y))
-    after_late h k = sees_608 c x y (λ t. Late at ≡ scan_after s at t) h k refl refl
+  abbrev x : ℕ
+  x = get_or f (3 * i + 3) 0
 
-    -- a valid one of type 2 or 3
-    after_carries : 6 ≤ c % 8 → Carries ≡ scan_after s at (seen (tri c x y))
-    after_carries h = sees_708 c x y (λ t. Carries ≡ scan_after s at t) h refl refl
+  abbrev y : ℕ
+  y = get_or f (3 * i + 4) 0
 
--- past the 608 part every triple is one after it
-found_after : (b : Bool) (i : ℕ) (t : Seen) → scan_turn (found b) i t ≡ scan_after (found b) (3 * i) t
-unfolding scan_turn
-found_after true i t = refl
-found_after false i t = refl
-
--- a late one stays found
-pub late_stays : (at i : ℕ) (ts : List Seen) → fold_from scan_turn (Late at) i ts ≡ Late at
-unfolding fold_from scan_turn
-late_stays at i [] = refl
-late_stays at i (t ∷ ts) = late_stays at (i + 1) ts
-
--- the search from a triple that ends the 608 part is the search after it
-ends_same : (i : ℕ) (t : Seen) (ts : List Seen) → scan_first t ≡ scan_after Ended (3 * i) t
-    → fold_from scan_turn Only608 i (t ∷ ts) ≡ fold_from scan_turn (found false) i (t ∷ ts)
-unfolding fold_from scan_turn
-ends_same i t ts e = ap (λ (s : Scan). fold_from scan_turn s (i + 1) ts) e
-
--- For the loops: `a` is the search over the whole, and stays the search over what is left.
-module _ (a : Scan) (f : List ℕ) (i : ℕ) where
   -- within the 608 part
-  module _ (e : a ≡ fold_from scan_turn Only608 i (seen_from i f)) (h : 3 * i + 4 < length f) where
-    -- a triple of type 0 or 1
-    pub part_again : get_or f (3 * i + 2) 0 % 4 < 2 → a ≡ fold_from scan_turn Only608 (i + 1) (seen_from (i + 1) f)
-    unfolding scan_turn
-    part_again k = walk_again scan_turn a f Only608 Only608 i e h (first_stays _ _ _ k)
+  module _ (e : a ≡ within i (seen_from i f)) where
+    -- no triple is left
+    pub part_done : length f ≤ 3 * i + 4 → Pairs ≡ a
+    unfolding late_from carries708
+    part_done h = sym (rw (seen_none f i h) at e)
 
-    -- one of type 2 or 3: the rest is searched
-    pub part_ends : (r : Scan) → 2 ≤ get_or f (3 * i + 2) 0 % 4 → r ≡ fold_from scan_turn (found false) i (seen_from i f) → r ≡ a
-    part_ends r k q = q ∙ rw (seen_next f i h) (sym (ends_same i _ _ (first_ends _ _ _ (3 * i) k))) ∙ sym e
+    module _ (h : 3 * i + 4 < length f) where
+      -- a triple of type 0 or 1
+      pub part_again : c % 4 < 2 → a ≡ within (i + 1) (seen_from (i + 1) f)
+      unfolding late_from carries708
+      part_again k =
+          (rw (seen_next f i h) at e)
+          ∙ by_test (ltb (c % 8) 4)
+          (λ t. let v = ltb-true (c % 8) 4 t in sees_void608 c x y Stays (omega arith) (rw add-one))
+          (λ t. let v = ltb-false (c % 8) 4 t in sees_608 c x y Stays (omega arith) (omega arith) (rw add-one) (rw add-one))
+        where
+          Stays : Seen → Type 0
+          Stays t = within i (t ∷ seen_from (i + 1) f) ≡ within (i + 1) (seen_from (i + 1) f)
 
-  -- after it
-  module _ (b : Bool) (e : a ≡ fold_from scan_turn (found b) i (seen_from i f)) where
+      -- one of type 2 or 3 ends it, and is as one past it
+      pub part_ends : 2 ≤ c % 4 → a ≡ beyond false i (seen_from i f)
+      unfolding late_from late_after carries708
+      part_ends k =
+          e ∙ rw (seen_next f i h)
+          (by_test (ltb (c % 8) 4)
+          (λ t. let v = ltb-true (c % 8) 4 t in sees_void708 c x y Ends (omega arith) (omega arith) refl)
+          (λ t. let v = ltb-false (c % 8) 4 t in sees_708 c x y Ends (omega arith) refl refl))
+        where
+          Ends : Seen → Type 0
+          Ends t = within i (t ∷ seen_from (i + 1) f) ≡ beyond false i (t ∷ seen_from (i + 1) f)
+
+  -- past it
+  module _ (carries : Bool) (e : a ≡ beyond carries i (seen_from i f)) where
+    -- no triple is left
+    pub past_done : (b : Bool) → carries ≡ b → length f ≤ 3 * i + 4 → plan_found none b ≡ a
+    unfolding late_after carries708
+    past_done b q h = sym (rw (seen_none f i h, q) at e ∙ or_none b)
+      where
+        or_none : (b : Bool) → plan_found none (b || false) ≡ plan_found none b
+        or_none true = refl
+        or_none false = refl
+
     module _ (h : 3 * i + 4 < length f) where
       -- one that is not valid
-      pub found_void : get_or f (3 * i + 2) 0 % 8 < 4 → a ≡ fold_from scan_turn (found b) (i + 1) (seen_from (i + 1) f)
-      found_void k = walk_again scan_turn a f (found b) (found b) i e h (after_void _ _ _ (found b) (3 * i) k ∙ sym (found_after b i _))
-
-      -- a valid one of type 2 or 3
-      pub found_more : 6 ≤ get_or f (3 * i + 2) 0 % 8 → a ≡ fold_from scan_turn (found true) (i + 1) (seen_from (i + 1) f)
-      found_more k = walk_again scan_turn a f (found b) Carries i e h (after_carries _ _ _ (found b) (3 * i) k ∙ sym (found_after b i _))
+      pub past_void : c % 8 < 4 → a ≡ beyond carries (i + 1) (seen_from (i + 1) f)
+      unfolding late_after carries708
+      past_void k = (rw (seen_next f i h) at e) ∙ sees_void c x y (λ t. beyond carries i (t ∷ seen_from (i + 1) f) ≡ beyond carries (i + 1) (seen_from (i + 1) f)) k (rw add-one) (rw add-one)
 
       -- a valid one of type 0 or 1
-      pub found_late : 4 ≤ get_or f (3 * i + 2) 0 % 8 → get_or f (3 * i + 2) 0 % 8 < 6 → Late (3 * i) ≡ a
-      found_late k m =
-          sym (walk_again scan_turn a f (found b) (Late (3 * i)) i e h (after_late _ _ _ (found b) (3 * i) k m ∙ sym (found_after b i _)) ∙ late_stays (3 * i) (i + 1) _)
+      pub past_late : 4 ≤ c % 8 → c % 8 < 6 → Late (3 * i) ≡ a
+      unfolding late_after carries708
+      past_late k m = sees_608 c x y (λ t. Late (3 * i) ≡ beyond carries i (t ∷ seen_from (i + 1) f)) k m refl refl ∙ sym (rw (seen_next f i h) at e)
 
-    -- the end
-    pub found_done : length f ≤ 3 * i + 4 → found b ≡ a
-    found_done h = walk_done scan_turn a f (found b) i e h
-
-    -- with a valid 708 triple
-    pub found_carries : length f ≤ 3 * i + 4 → b ≡ true → Carries ≡ a
-    found_carries h t = rw t at (found_done h)
-
-    -- with none
-    pub found_none : length f ≤ 3 * i + 4 → b ≡ false → Ended ≡ a
-    found_none h t = rw t at (found_done h)
+      -- a valid one of type 2 or 3
+      pub past_carries : 6 ≤ c % 8 → a ≡ beyond true (i + 1) (seen_from (i + 1) f)
+      unfolding late_after carries708
+      past_carries k =
+          (rw (seen_next f i h) at e)
+          ∙ sees_708 c x y (λ t. beyond carries i (t ∷ seen_from (i + 1) f) ≡ beyond true (i + 1) (seen_from (i + 1) f)) k (rw (add-one, or_true carries)) (rw (add-one, or_true carries))
+        where
+          or_true : (b : Bool) → b || true ≡ true
+          or_true true = refl
+          or_true false = refl

@@ -1,6 +1,5 @@
--- The walk over the triples of a frame: one law for a turn and one for the end, whatever the walk does; and what a triple's first byte
--- says. Assumes nothing.
-use mathlib.Core.Path.{◌≡◌, refl, sym, ap, ◌∙◌}
+-- The walk over the triples of a frame: one law for the next and one for the end; and what a triple's first byte says. Assumes nothing.
+use mathlib.Core.Path.{◌≡◌, refl, ap, ◌∙◌}
 use mathlib.Core.List.{List, [], ◌∷◌}
 use Prim.Native.Nat.{ℕ, zero, suc, ◌+◌, ◌*◌, ◌%◌, ◌≤◌, ◌<◌}
 use native.Mathlib.Omega.{arith}
@@ -10,7 +9,7 @@ use lib.Dec.{eqb, ltb}
 use borrow.Author.Tests.{eqb-true, eqb-false, ltb-true, ltb-false}
 use Rattle.model.proofs.Cases.{by_test}
 use Rattle.model.specs.Frame.{tri, Seen, first, second, start, more, void608, void708, seen, seen_all, triples_in}
-use Rattle.parser_triples.specs.Walk.{seen_from, fold_from}
+use Rattle.parser_triples.specs.Walk.{seen_from}
 
 -- what a reader sees, by the first byte's low three bits
 abbrev seen_as : ℕ → ℕ → ℕ → Seen
@@ -140,17 +139,3 @@ short_none (a ∷ b ∷ c ∷ r) h = absurd (omega arith)
 -- past the last triple none is left
 pub seen_none : (l : List ℕ) (i : ℕ) → length l ≤ 3 * i + 4 → seen_from i l ≡ []
 seen_none l i h = short_none (drop (3 * i + 2) l) (simp length-drop (omega arith))
-
--- For a loop: `a` is the walk over the whole, and stays the walk over what is left.
-module _ {S : Type 0} (turn : S → ℕ → Seen → S) where
-  -- a turn
-  pub walk_again : (a : S) (l : List ℕ) (s t : S) (i : ℕ) → a ≡ fold_from turn s i (seen_from i l) → 3 * i + 4 < length l
-      → t ≡ turn s i (seen (tri (get_or l (3 * i + 2) 0) (get_or l (3 * i + 3) 0) (get_or l (3 * i + 4) 0)))
-      → a ≡ fold_from turn t (i + 1) (seen_from (i + 1) l)
-  unfolding fold_from
-  walk_again a l s t i e h r = rw r (rw (seen_next l i h) at e)
-
-  -- the end
-  pub walk_done : (a : S) (l : List ℕ) (s : S) (i : ℕ) → a ≡ fold_from turn s i (seen_from i l) → length l ≤ 3 * i + 4 → s ≡ a
-  unfolding fold_from
-  walk_done a l s i e h = sym (rw (seen_none l i h) at e)

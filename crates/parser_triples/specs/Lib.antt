@@ -1,3 +1,2 @@
 pub mod Walk
-pub mod Scan
 pub mod Plan

@@ -1,25 +1,26 @@
 -- What is told of an answer says it again: no answer carries more than three values. Assumes nothing.
-use mathlib.Core.Path.{◌≡◌, refl, sym, ap, ◌∙◌}
-use mathlib.Core.List.{List, [], ◌∷◌}
+use mathlib.Core.Path.{◌≡◌, refl}
+use mathlib.Core.List.{List, [], ◌∷◌, ◌++◌}
 use Prim.Native.Nat.{ℕ, ◌≤◌}
 use native.Mathlib.Omega.{arith}
-use lib.ListN.{length, take, get_or}
+use lib.ListN.{length, take, drop, get_or, replicate}
+use Rattle.std.specs.Prelude.{Result, Ok, Err}
 use Rattle.model.specs.Said.{Said}
-use Rattle.caption.specs.Answers.{said_refusal, said_answer, said_counted}
+use Rattle.caption.specs.Answers.{said, said_refusal}
 use Rattle.caption.specs.declared.Refusal.{Refusal}
 use Rattle.caption.specs.declared.Refusal.TheVariants as refusal
-use Rattle.caption.specs.declared.Answer.{Answer}
-use Rattle.caption.specs.declared.Answer.TheVariants as answer
-use Rattle.caption.specs.declared.Counted.{Counted}
-use Rattle.caption.specs.declared.Counted.TheVariants as counted
 use Rattle.program_answers.specs.declared.Numbers.{Numbers}
 use Rattle.program_answers.specs.Telling.{told_by, said_by}
 
--- an answer that is known says what its row of the table says
-pub told_as : {A : Type 0} (said : A → Said) (t : Numbers) (x row : A) → x ≡ row → t ≡ told_by (said row) → t ≡ told_by (said x)
-told_as said t x row e s = s ∙ sym (ap (λ (y : _). told_by (said y)) e)
+-- at most three values, laid into three places
+pub three_laid : (vs three : List ℕ) → length vs ≤ 3 → three ≡ vs ++ drop (length vs) (replicate 3 0) → three ≡ get_or vs 0 0 ∷ get_or vs 1 0 ∷ get_or vs 2 0 ∷ []
+three_laid [] three h e = e
+three_laid (v ∷ []) three h e = e
+three_laid (v ∷ w ∷ []) three h e = e
+three_laid (v ∷ w ∷ x ∷ []) three h e = e
+three_laid (v ∷ w ∷ x ∷ y ∷ vs) three h e = absurd (omega arith)
 
--- at most three values are told whole
+-- and told whole
 told_values : (vs : List ℕ) → length vs ≤ 3 → take (length vs) (get_or vs 0 0 ∷ get_or vs 1 0 ∷ get_or vs 2 0 ∷ []) ≡ vs
 told_values [] h = refl
 told_values (v ∷ []) h = refl
@@ -58,11 +59,14 @@ few_refusal refusal.OutOfOrder = omega arith
 few_refusal refusal.RunSplit = omega arith
 few_refusal refusal.OverLimit = omega arith
 
--- so no answer does
-pub few_answer : (a : Answer) → length (said_answer a).values ≤ 3
-few_answer answer.Accepted = omega arith
-few_answer (answer.Refused why) = few_refusal why
+-- so no answer does,
+pub few_said : {A : Type 0} (values : A → List ℕ) → ((x : A) → length (values x) ≤ 3) → (r : Result A Refusal) → length (said values r).values ≤ 3
+few_said values few (Ok x) = few x
+few_said values few (Err why) = few_refusal why
 
-pub few_counted : (c : Counted) → length (said_counted c).values ≤ 3
-few_counted (counted.Count n) = omega arith
-few_counted (counted.Refused why) = few_refusal why
+-- one that gives nothing, and one that gives a number
+pub few_done : (r : Result (Unit {0}) Refusal) → length (said (λ _. []) r).values ≤ 3
+few_done r = few_said (λ _. []) (λ x. omega arith) r
+
+pub few_count : (r : Result ℕ Refusal) → length (said (λ n. n ∷ []) r).values ≤ 3
+few_count r = few_said (λ n. n ∷ []) (λ x. omega arith) r

@@ -1,63 +1,41 @@
 -- What an answer says, laid. Assumes nothing.
-use mathlib.Core.Path.{◌≡◌, ap, ◌∙◌}
-use mathlib.Core.List.{List, [], ◌∷◌, ◌++◌, append-nil}
-use Prim.Native.Nat.{ℕ, ◌≤◌}
+use mathlib.Core.Path.{◌≡◌, refl, sym, ap, ◌∙◌}
+use mathlib.Core.List.{List, [], ◌∷◌, ◌++◌, append-nil, append_assoc}
+use Prim.Native.Nat.{ℕ, ◌+◌, ◌≤◌, ◌<◌, min}
 use native.Mathlib.Omega.{arith}
-use lib.ListN.{length}
-use lib.Seq.{take_all}
+use lib.ListN.{length, take, get_or}
 use borrow.Author.Tests.{eq-eqb, ne_eqb}
+use Rattle.std.proofs.lemmas.List.{take_more}
 use Rattle.model.specs.Said.{Said}
 use Rattle.program_answers.specs.declared.Numbers.{Numbers}
 use Rattle.program_answers.specs.Telling.{said_by, told_by}
 use Rattle.program_answers.proofs.Tellings.{told_back}
 use Rattle.program_text.specs.Laid.{Laid}
 use Rattle.program_text.specs.Text.{word, decimal}
-use Rattle.program_lines.specs.Lines.{value_text, values_text, answer_text, frame_line}
+use Rattle.program_lines.specs.Lines.{value_text, values_text, number_text, answer_text, frame_line}
 use Rattle.program_text.proofs.Layings.{laid_append}
 
--- one value, two, and three
-values_one : (v : ℕ) → values_text (v ∷ []) ≡ value_text v
+-- one more behind others
+pub values_more : (ns : List ℕ) (n : ℕ) → values_text ns ++ value_text n ≡ values_text (ns ++ (n ∷ []))
 unfolding values_text
-values_one v = append-nil (value_text v)
+values_more [] n = sym (append-nil (value_text n))
+values_more (m ∷ ns) n = append_assoc (value_text m) (values_text ns) (value_text n) ∙ ap (λ (l : List ℕ). value_text m ++ l) (values_more ns n)
 
-values_two : (v w : ℕ) → values_text (v ∷ w ∷ []) ≡ value_text v ++ value_text w
+-- several numbers laid one behind another: none at first,
+pub laid_none : (out : List ℕ) (at p : ℕ) → p ≡ min at (length out) → Laid (values_text []) out at p out
 unfolding values_text
-values_two v w = rw append-nil
+laid_none out at p e = record { place = omega (arith, e); bytes = refl }
 
-values_three : (v w x : ℕ) → values_text (v ∷ w ∷ x ∷ []) ≡ value_text v ++ (value_text w ++ value_text x)
-unfolding values_text
-values_three v w x = rw append-nil
+-- and one more at each turn
+pub laid_more : (ns : List ℕ) (i : ℕ) {out mid after : List ℕ} {at p q : ℕ} → i < length ns → Laid (values_text (take i ns)) out at p mid
+    → Laid (value_text (get_or ns i 0)) mid p q after → Laid (values_text (take (i + 1) ns)) out at q after
+laid_more ns i h f v = rw (take_more ns i 0 h, ← values_more (take i ns) (get_or ns i 0)) (laid_append f v)
 
--- the values, by how many there are
-module _ (t : Numbers) {out after : List ℕ} {at r : ℕ} where
-  pub no_values : t.count ≡ 0 → Laid [] out at r after → Laid (values_text (said_by t).values) out at r after
-  unfolding values_text
-  no_values z w = rw z w
-
-  pub one_value : t.count ≡ 1 → Laid (value_text t.first) out at r after → Laid (values_text (said_by t).values) out at r after
-  one_value z w = rw (z, values_one) w
-
-  pub two_values : {mid : List ℕ} {p : ℕ} → t.count ≡ 2 → Laid (value_text t.first) out at p mid → Laid (value_text t.second) mid p r after
-      → Laid (values_text (said_by t).values) out at r after
-  two_values z f s = rw (z, values_two) (laid_append f s)
-
-  pub three_values : {mid more : List ℕ} {p q : ℕ} → (t.count ≡ 0 → ⊥) → (t.count ≡ 1 → ⊥) → (t.count ≡ 2 → ⊥) → Laid (value_text t.first) out at p mid
-      → Laid (value_text t.second) mid p q more → Laid (value_text t.third) more q r after → Laid (values_text (said_by t).values) out at r after
-  three_values x y z f s l =
-      let three : 3 ≤ t.count = omega arith in
-      rw (take_all t.count (t.first ∷ t.second ∷ t.third ∷ []) three, values_three) (laid_append f (laid_append s l))
-
--- an answer: accepted, and refused
-module _ (t : Numbers) {out mid after : List ℕ} {at p r : ℕ} where
-  pub told_ok : t.number ≡ 0 → Laid (word "ok") out at p mid → Laid (values_text (said_by t).values) mid p r after
-      → Laid (answer_text (said_by t)) out at r after
-  unfolding answer_text
-  told_ok e f v = rw (eq-eqb _ _ e) (laid_append f v)
-
-  pub told_refused : (t.number ≡ 0 → ⊥) → Laid (word "refused " ++ decimal t.number) out at p mid
-      → Laid (values_text (said_by t).values) mid p r after → Laid (answer_text (said_by t)) out at r after
-  unfolding answer_text
-  told_refused e f v = rw (ne_eqb _ _ e) (laid_append f v)
+-- an answer: whether it accepts, and its values behind
+pub laid_answer : (t : Numbers) {out mid after : List ℕ} {at p r : ℕ} → Laid (number_text t.number) out at p mid
+    → Laid (values_text (take t.count t.values)) mid p r after → Laid (answer_text (said_by t)) out at r after
+unfolding answer_text
+laid_answer t f v = laid_append f v
 
 -- what is told of an answer is the answer's
 pub laid_told : {out after : List ℕ} {at r : ℕ} (t : Numbers) (s : Said) → t ≡ told_by s → length s.values ≤ 3 → Laid (answer_text (said_by t)) out at r after

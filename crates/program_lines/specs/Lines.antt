@@ -20,9 +20,13 @@ unfoldable pub values_text : List ℕ → List ℕ
 values_text [] = []
 values_text (v ∷ vs) = value_text v ++ values_text vs
 
--- an answer: `ok`, or `refused` and its number, and then the values that it carries
+-- whether an answer accepts: `ok`, or `refused` and its number,
+abbrev pub number_text : ℕ → List ℕ
+number_text n = cond (eqb n 0) (word "ok") (word "refused " ++ decimal n)
+
+-- an answer, with the values that it carries
 unfoldable pub answer_text : Said → List ℕ
-answer_text s = cond (eqb s.number 0) (word "ok") (word "refused " ++ decimal s.number) ++ values_text s.values
+answer_text s = number_text s.number ++ values_text s.values
 
 -- a pair, as `field1 942C` [C2]
 unfoldable pub pair_text : Cea608 → List ℕ

@@ -2,24 +2,35 @@
 // answers the place behind what it laid.
 #![tactic(auto)]
 
-ghost use Rattle.std.specs.Prelude.{[], ◌∷◌, ◌++◌};
-ghost use Rattle.caption.specs.Answers.{said_refusal, said_answer, said_counted};
+ghost use Rattle.std.specs.Prelude.{◌≤◌, [], ◌∷◌, ◌++◌};
+ghost use Rattle.caption.specs.Answers.{said, said_refusal};
 ghost use Rattle.caption.specs.Pairs.{cea608_of};
 ghost use Rattle.program_text.specs.Laid.{Laid};
 ghost use Rattle.program_text.specs.Text.{run, decimal, hex};
 ghost use Rattle.program_answers.specs.Telling.{said_by};
-ghost use Rattle.program_lines.specs.Lines.{value_text, values_text, run_text, block_text, answer_text, pair_text, packet_text, frame_line, block_line, end_line, stopped_line};
+ghost use Rattle.program_lines.specs.Lines.{value_text, values_text, run_text, block_text, number_text, answer_text, pair_text, packet_text, frame_line, block_line, end_line, stopped_line};
 
-use caption::{Answer, Cea608, Counted, Refusal};
-use program_answers::{Numbers, tell_answer, tell_counted, tell_refusal};
+use caption::{Cea608, Refusal};
+use program_answers::{Numbers, tell_count, tell_done, tell_refusal};
 use program_text::{put_byte, put_decimal, put_hex, put_hex_byte, put_newline, put_word};
 
-// A number, after a space.
+/// A number, after a space.
 pub fn put_value(out: &mut [u8], at: usize, n: u64) -> usize
     ensures { Laid (value_text n) out.old at result out.new }
 {
     let p = put_byte(out, at, b' ');
     put_decimal(out, p, n)
+}
+
+/// Several numbers, each after a space.
+pub fn put_numbers(out: &mut [u8], at: usize, numbers: &[usize]) -> usize
+    ensures { Laid (values_text numbers.now) out.old at result out.new }
+{
+    let mut p = at.min(out.len());
+    for &n in numbers {
+        p = put_value(out, p, n as u64);
+    }
+    p
 }
 
 // Bytes in hex, `-` for none.
@@ -32,7 +43,7 @@ fn put_hex_or_dash(out: &mut [u8], at: usize, bytes: &[u8]) -> usize
     put_hex(out, at, bytes)
 }
 
-// The same, after a space.
+/// The same, after a space.
 pub fn put_run(out: &mut [u8], at: usize, bytes: &[u8]) -> usize
     ensures { Laid (run_text bytes.now) out.old at result out.new }
 {
@@ -40,7 +51,7 @@ pub fn put_run(out: &mut [u8], at: usize, bytes: &[u8]) -> usize
     put_hex_or_dash(out, p, bytes)
 }
 
-// A block, after a space: its number, a colon and its payload.
+/// A block, after a space: its number, a colon and its payload.
 pub fn put_block(out: &mut [u8], at: usize, number: u8, payload: &[u8]) -> usize
     ensures { Laid (block_text number payload.now) out.old at result out.new }
 {
@@ -57,55 +68,45 @@ fn put_numbered(out: &mut [u8], at: usize, word: &[u8], n: u64) -> usize
     put_decimal(out, p, n)
 }
 
-// The values of an answer.
-fn put_values(out: &mut [u8], at: usize, told: Numbers) -> usize
-    ensures { Laid (values_text (said_by told).values) out.old at result out.new }
+// Whether an answer accepts: `ok`, or `refused` and its number.
+fn put_number(out: &mut [u8], at: usize, number: u64) -> usize
+    ensures { Laid (number_text number) out.old at result out.new }
 {
-    if told.count == 0 {
-        return put_word(out, at, b"");
+    if number == 0 {
+        return put_word(out, at, b"ok");
     }
-    let p = put_value(out, at, told.first as u64);
-    if told.count == 1 {
-        return p;
-    }
-    let q = put_value(out, p, told.second as u64);
-    if told.count == 2 {
-        return q;
-    }
-    put_value(out, q, told.third as u64)
+    put_numbered(out, at, b"refused ", number)
 }
 
 // An answer: `ok` or its number as a refusal, and its values.
 fn put_told(out: &mut [u8], at: usize, told: Numbers) -> usize
+    requires { told.count ≤ 3 }
     ensures { Laid (answer_text (said_by told)) out.old at result out.new }
 {
-    if told.number == 0 {
-        let p = put_word(out, at, b"ok");
-        return put_values(out, p, told);
-    }
-    let p = put_numbered(out, at, b"refused ", told.number);
-    put_values(out, p, told)
+    let p = put_number(out, at, told.number);
+    let values = &told.values[..];
+    put_numbers(out, p, &values[..told.count])
 }
 
-// A refusal: the word, its number and the values that it carries.
+/// A refusal: the word, its number and the values that it carries.
 pub fn put_refusal(out: &mut [u8], at: usize, why: Refusal) -> usize
     ensures { Laid (answer_text (said_refusal why)) out.old at result out.new }
 {
     put_told(out, at, tell_refusal(why))
 }
 
-// The answer of a call that only accepts or refuses.
-pub fn put_answer(out: &mut [u8], at: usize, answer: Answer) -> usize
-    ensures { Laid (answer_text (said_answer answer)) out.old at result out.new }
+/// The answer of a call that only accepts or refuses.
+pub fn put_done(out: &mut [u8], at: usize, answer: Result<(), Refusal>) -> usize
+    ensures { Laid (answer_text (said (λ _. []) answer)) out.old at result out.new }
 {
-    put_told(out, at, tell_answer(answer))
+    put_told(out, at, tell_done(answer))
 }
 
-// The answer of a call that gives a number.
-pub fn put_counted(out: &mut [u8], at: usize, counted: Counted) -> usize
-    ensures { Laid (answer_text (said_counted counted)) out.old at result out.new }
+/// The answer of a call that gives a number.
+pub fn put_count(out: &mut [u8], at: usize, answer: Result<usize, Refusal>) -> usize
+    ensures { Laid (answer_text (said (λ n. n ∷ []) answer)) out.old at result out.new }
 {
-    put_told(out, at, tell_counted(counted))
+    put_told(out, at, tell_count(answer))
 }
 
 // A word, and the two bytes of a pair in hex.
@@ -117,7 +118,7 @@ fn put_field(out: &mut [u8], at: usize, word: &[u8], a: u8, b: u8) -> usize
     put_hex_byte(out, q, b)
 }
 
-// A pair: its field, and its bytes in hex.
+/// A pair: its field, and its bytes in hex.
 pub fn put_pair(out: &mut [u8], at: usize, pair: Cea608) -> usize
     ensures { Laid (pair_text (cea608_of pair)) out.old at result out.new }
 {
@@ -127,18 +128,18 @@ pub fn put_pair(out: &mut [u8], at: usize, pair: Cea608) -> usize
     }
 }
 
-// A packet's sequence number.
+/// A packet's sequence number.
 pub fn put_packet(out: &mut [u8], at: usize, sequence: u8) -> usize
     ensures { Laid (packet_text sequence) out.old at result out.new }
 {
     put_numbered(out, at, b"packet ", sequence as u64)
 }
 
-// The line of a record's frame: the record's number, and what the frame was answered.
-pub fn put_frame_line(out: &mut [u8], at: usize, number: u64, answer: Answer) -> usize
-    ensures { Laid (frame_line number (said_answer answer)) out.old at result out.new }
+/// The line of a record's frame: the record's number, and what the frame was answered.
+pub fn put_frame_line(out: &mut [u8], at: usize, number: u64, answer: Result<(), Refusal>) -> usize
+    ensures { Laid (frame_line number (said (λ _. []) answer)) out.old at result out.new }
 {
-    let told = tell_answer(answer);
+    let told = tell_done(answer);
     let p = put_numbered(out, at, b"frame ", number);
     if told.number == 0 {
         return put_word(out, p, b" ok\n");
@@ -147,7 +148,7 @@ pub fn put_frame_line(out: &mut [u8], at: usize, number: u64, answer: Answer) ->
     put_newline(out, q)
 }
 
-// The line of a block of a packet.
+/// The line of a block of a packet.
 pub fn put_block_line(out: &mut [u8], at: usize, number: u8, payload: &[u8]) -> usize
     ensures { Laid (block_line number payload.now) out.old at result out.new }
 {
@@ -157,7 +158,7 @@ pub fn put_block_line(out: &mut [u8], at: usize, number: u8, payload: &[u8]) -> 
     put_newline(out, s)
 }
 
-// The last line of input that is records to its end.
+/// The last line of input that is records to its end.
 pub fn put_end_line(out: &mut [u8], at: usize, records: u64) -> usize
     ensures { Laid (end_line records) out.old at result out.new }
 {
@@ -165,7 +166,7 @@ pub fn put_end_line(out: &mut [u8], at: usize, records: u64) -> usize
     put_newline(out, p)
 }
 
-// The last line of input with a wrong mark or a short record, which begins at byte `start`.
+/// The last line of input with a wrong mark or a short record, which begins at byte `start`.
 pub fn put_stopped_line(out: &mut [u8], at: usize, start: u64) -> usize
     ensures { Laid (stopped_line start) out.old at result out.new }
 {

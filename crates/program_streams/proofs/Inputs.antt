@@ -7,7 +7,11 @@ use Rattle.program_records.specs.declared.Found.{Found}
 use Rattle.program_records.specs.declared.Found.TheVariants as found
 use Rattle.program_streams.specs.Ends.{left_at, goes_on}
 use Rattle.program_streams.specs.Ahead.{nothing_read}
-use Rattle.program_streams.specs.Walk.{Told, Walked, before, if_record, walked, told, resumed, Kept, Stepped, ToldSoFar, Follow}
+use Rattle.program_streams.specs.Walk.{Told, Walked, before, if_record, walked, told, resumed, Kept, Follow}
+use Rattle.program_streams.specs.Driven.{TakenIn, Turned, Driven}
+use Rattle.std.specs.Prelude.{Option}
+use Rattle.std.specs.Io.KnownBytes.{Consumes}
+use Rattle.program_streams.proofs.Known.{appends_none, appends_both, consumes_none, consumes_both}
 use Rattle.program_streams.specs.declared.Held.{Held}
 use Rattle.program_streams.specs.declared.Left.{Left}
 use Rattle.program_streams.specs.declared.Left.TheVariants.{More, Stopped, Ended}
@@ -62,63 +66,75 @@ module _ {S : Type 0} (mark : List (List ℕ)) (tell : ℕ → S → ℕ → Lis
   ends_in (suc k) s b n x h = ends_by s b n x (λ r a m y l. ends_in k r a m y (omega arith)) (found_in mark true 0 s) refl (no_more mark s)
 
   -- a program that has read nothing
-  pub starts : (buf : List ℕ) (x : S) → ToldSoFar mark tell false x buf nothing_read x
+  pub starts : (buf : List ℕ) (x : S) (given out : Option (List ℕ)) → Driven mark tell false x given given out out buf nothing_read x
   unfolding told walked found_in left_at
-  starts buf x = ([], record { count = refl; within = omega arith; bytes = refl; reached = refl; number = refl; state = refl; goes = refl })
+  starts buf x given out = (
+    [],
+    consumes_none given,
+    record {
+      text = appends_none out;
+      kept = record { count = refl; within = omega arith; bytes = refl; reached = refl; number = refl; state = refl; goes = refl };
+    },
+  )
 
   -- what is told stays so while the bytes that wait stay at the front of the buffer
-  pub still_told : (ended : Bool) (x : S) {buf after : List ℕ} {h : Held} {y : S} → ToldSoFar mark tell ended x buf h y → take h.have after ≡ take h.have buf
-      → ToldSoFar mark tell ended x after h y
-  still_told ended x {buf} {after} {h} i e =
-      let k = i.1 in (
-        i.0,
-        record {
-          count = k.count;
-          within = omega (arith, k.within, length-take h.have after, length-take h.have buf, ap length e);
-          bytes = e ∙ k.bytes;
-          reached = k.reached;
-          number = k.number;
-          state = k.state;
-          goes = k.goes;
-        },
-      )
+  pub still_told : {w : Walked S} {buf after : List ℕ} {h : Held} {y : S} → Kept w buf h y → take h.have after ≡ take h.have buf → Kept w after h y
+  still_told {w} {buf} {after} {h} k e =
+      record {
+        count = k.count;
+        within = omega (arith, k.within, length-take h.have after, length-take h.have buf, ap length e);
+        bytes = e ∙ k.bytes;
+        reached = k.reached;
+        number = k.number;
+        state = k.state;
+        goes = k.goes;
+      }
 
   -- one read after another: the program stands where the bytes read so far leave it
-  module _ (short : length mark ≤ 3) (x : S) {buf after : List ℕ} {h k : Held} {y z : S}
-      (i : ToldSoFar mark tell false x buf h y) (going : h.going ≡ true) (g : Stepped mark tell buf h y after k z) where
+  module _ (short : length mark ≤ 3) (x : S) (given left rest out now then : Option (List ℕ)) {buf after : List ℕ} {h k : Held} {y z : S}
+      (i : Driven mark tell false x given left out now buf h y) (going : h.going ≡ true) (g : Turned mark tell buf h y left rest now then after k z) where
     -- what all of them tell
-    all_read : Kept (told mark tell (eqb (length g.0) 0) (i.0 ++ g.0) 0 0 x) after k z
+    all_read : TakenIn (told mark tell (eqb (length g.0) 0) (i.0 ++ g.0) 0 0 x) out then after k z
     all_read =
         let w = told mark tell false i.0 0 0 x in
-        let m : w.left ≡ More = only_more w.left (sym i.1.goes ∙ going) in
+        let j = i.2.kept in
+        let m : w.left ≡ More = only_more w.left (sym j.goes ∙ going) in
+        let v = told mark tell (eqb (length g.0) 0) (w.rest ++ g.0) w.place w.number w.state in
+        let e : TakenIn v now then after k z = rw (j.bytes, j.reached, j.number, j.state) at g.2 in
         rw (cut_anywhere mark tell (eqb (length g.0) 0) g.0 short i.0 0 0 x, m)
-        (kept_before w.text (told mark tell (eqb (length g.0) 0) (w.rest ++ g.0) w.place w.number w.state)
-        (rw (i.1.bytes, i.1.reached, i.1.number, i.1.state) at g.1))
+        (record { text = appends_both out now then w.text v.text i.2.text e.text; kept = kept_before w.text v e.kept })
       where
         only_more : (l : Left) → goes_on l ≡ true → l ≡ More
         only_more More e = refl
         only_more Stopped e = absurd (false≢true e)
         only_more Ended e = absurd (false≢true e)
 
-    goes_further : k.going ≡ true → (ended : Bool) (input : List ℕ) → Kept (told mark tell ended input 0 0 x) after k z → ToldSoFar mark tell false x after k z
-    goes_further e false input q = (input, q)
-    goes_further e true input q = absurd (false≢true (sym (ends_in (length input) input 0 0 x (omega arith)) ∙ sym q.goes ∙ e))
+    goes_further : k.going ≡ true → (ended : Bool) (input : List ℕ) → Consumes given rest input → TakenIn (told mark tell ended input 0 0 x) out then after k z
+        → Driven mark tell false x given rest out then after k z
+    goes_further e false input c q = (input, c, q)
+    goes_further e true input c q = absurd (false≢true (sym (ends_in (length input) input 0 0 x (omega arith)) ∙ sym q.kept.goes ∙ e))
 
-    is_told : k.going ≡ false → (ended : Bool) (input : List ℕ) → Kept (told mark tell ended input 0 0 x) after k z → ToldSoFar mark tell true x after k z
-    is_told e true input q = (input, q)
-    is_told e false input q =
+    is_told : k.going ≡ false → (ended : Bool) (input : List ℕ) → Consumes given rest input → TakenIn (told mark tell ended input 0 0 x) out then after k z
+        → Driven mark tell true x given rest out then after k z
+    is_told e true input c q = (input, c, q)
+    is_told e false input c q =
         let w = told mark tell false input 0 0 x in
-        (input ++ [], rw (cut_anywhere mark tell true [] short input 0 0 x) (nothing_follows w q w.left (sym q.goes ∙ e)))
+        let r : TakenIn (told mark tell true (input ++ []) 0 0 x) out then after k z =
+        rw (cut_anywhere mark tell true [] short input 0 0 x) (nothing_follows w q w.left (sym q.kept.goes ∙ e)) in
+        (input, c, rw (append-nil input) at r)
       where
-        nothing_follows : (w : Walked S) → Kept w after k z → (l : Left) → goes_on l ≡ false → Kept (resumed mark tell true [] w l) after k z
+        nothing_follows : (w : Walked S) → TakenIn w out then after k z → (l : Left) → goes_on l ≡ false → TakenIn (resumed mark tell true [] w l) out then after k z
         nothing_follows w q More e = absurd (false≢true (sym e))
         nothing_follows w q Stopped e = rw (append-nil w.rest) q
         nothing_follows w q Ended e = rw (append-nil w.rest) q
 
+    taken : Consumes given rest (i.0 ++ g.0)
+    taken = consumes_both given left rest i.0 g.0 i.1 g.1
+
     -- more is to be read
-    pub reads_on : k.going ≡ true → ToldSoFar mark tell false x after k z
-    reads_on e = goes_further e (eqb (length g.0) 0) (i.0 ++ g.0) all_read
+    pub reads_on : k.going ≡ true → Driven mark tell false x given rest out then after k z
+    reads_on e = goes_further e (eqb (length g.0) 0) (i.0 ++ g.0) taken all_read
 
     -- the input is told whole
-    pub reads_all : k.going ≡ false → ToldSoFar mark tell true x after k z
-    reads_all e = is_told e (eqb (length g.0) 0) (i.0 ++ g.0) all_read
+    pub reads_all : k.going ≡ false → Driven mark tell true x given rest out then after k z
+    reads_all e = is_told e (eqb (length g.0) 0) (i.0 ++ g.0) taken all_read

@@ -1,26 +1,31 @@
 -- The pieces that a buffer is told in, one after another, and what is kept of it. Assumes nothing.
-use Rattle.std.proofs.Common.{◌≡◌, ℕ, suc, ◌-◌, ◌<◌, ◌≤◌, Bool, true, false, cond, List, length, take, drop, sym, refl, ap, ◌∙◌, arith, length-append, take_at}
+use Rattle.std.proofs.Common.{◌≡◌, ℕ, Bool, true, false, cond, List, ◌++◌, append-nil, length, take, drop, sym, refl, ap, ◌∙◌, arith, length-append, take_at}
 use Rattle.program_records.specs.Moved.{Moved, between}
 use Rattle.program_streams.specs.Ahead.{held_at}
 use Rattle.program_streams.specs.Ends.{goes_on}
-use Rattle.program_streams.specs.Walk.{Walked, silent, done_at, Kept}
+use Rattle.std.specs.Prelude.{Option}
+use Rattle.std.specs.Io.KnownBytes.{Appends}
+use Rattle.program_streams.specs.Driven.{HandedOut, TakenIn}
+use Rattle.program_streams.specs.Walk.{Walked, before, silent, done_at, Kept}
+use Rattle.program_streams.proofs.Known.{appends_both}
 use Rattle.program_streams.specs.declared.Ahead.{Ahead}
 use Rattle.program_streams.specs.declared.Held.{Held}
-use Rattle.program_streams.proofs.Stands.{rest_between}
+use Rattle.program_streams.proofs.Stands.{before_before, rest_between}
 
--- while there is no room, what is left of the buffer falls
-pub left_falls : (full on : Bool) (n at to : ℕ) → full ≡ true → (on ≡ true → (at < to) × (to ≤ n))
-    → cond on (suc (n - to)) 0 < cond full (suc (n - at)) 0
-left_falls full true n at to e h = rw e (let k = h refl in omega arith)
-left_falls full false n at to e h = rw e (omega arith)
+-- one piece more is handed out,
+module _ {S : Type 0} {all : Walked S} (out mid now : Option (List ℕ)) where
+  pub one_piece : (text : List ℕ) {more rest : Walked S} → HandedOut out mid all more → Appends mid now text → more ≡ before text rest
+      → HandedOut out now all rest
+  one_piece text {more} {rest} i f e =
+      (i.0 ++ text, appends_both out mid now i.0 text i.1 f, i.2 ∙ ap (before i.0) e ∙ before_before i.0 text rest)
 
--- behind one piece the next one is told, and behind the last one nothing
-module _ {S : Type 0} {w : Walked S} (full : Bool) (more none : Walked S) (inv : w ≡ silent (cond full more none)) where
-  pub next_piece : {v : Walked S} → full ≡ true → silent more ≡ v → w ≡ v
-  next_piece e h = (rw e at inv) ∙ h
+-- and behind it the next one is told, or nothing
+module _ {S : Type 0} {all : Walked S} (out now : Option (List ℕ)) (full : Bool) (more none : Walked S) (i : HandedOut out now all (cond full more none)) where
+  pub next_piece : full ≡ true → HandedOut out now all more
+  next_piece e = rw e at i
 
-  pub last_piece : full ≡ false → w ≡ silent none
-  last_piece e = rw e at inv
+  pub last_piece : full ≡ false → HandedOut out now all none
+  last_piece e = rw e at i
 
 -- what is kept is what is behind the last whole record
 pub moved_kept : {S : Type 0} {w : Walked S} (buf : List ℕ) (more : ℕ) {exit : List ℕ} {h : Held} {x : S} (a : Ahead)
@@ -39,3 +44,11 @@ moved_kept {S} {w} buf more {exit} {h} a e m g =
       state = sym (ap (λ (v : Walked S). v.state) e);
       goes = ap (λ (v : Held). v.going) g ∙ ap goes_on (sym (ap (λ (v : Walked S). v.left) e));
     }
+
+-- so that all of it is taken in
+pub all_taken : {S : Type 0} {w : Walked S} {out now : Option (List ℕ)} (buf : List ℕ) (more : ℕ) {exit : List ℕ} {h : Held} {x : S} (a : Ahead)
+    → HandedOut out now w (done_at (take more buf) a x) → Moved (between a.place.at more buf) buf h.have exit → h ≡ held_at h.have a
+    → TakenIn w out now exit h x
+all_taken {S} {w} buf more a i m g =
+    let t : w.text ≡ i.0 = ap (λ (v : Walked S). v.text) i.2 ∙ append-nil i.0 in
+    record { text = rw t i.1; kept = moved_kept buf more a (ap silent i.2) m g }

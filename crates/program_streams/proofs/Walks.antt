@@ -1,5 +1,5 @@
 -- What some bytes tell, by what is found at their front. Assumes nothing.
-use Rattle.std.proofs.Common.{◌≡◌, ℕ, zero, suc, ◌≤◌, Bool, true, false, cond, eqb, ltb, List, [], ◌∷◌, length, drop, sym, refl, ap, ◌∙◌, arith, length-drop, eq-eqb}
+use Rattle.std.proofs.Common.{◌≡◌, ℕ, zero, suc, ◌≤◌, Bool, true, false, cond, eqb, ltb, List, length, drop, sym, refl, ap, ◌∙◌, arith, length-drop, eq-eqb}
 use Rattle.program_records.proofs.Cuts.{whole}
 use Rattle.program_records.proofs.Readings.{is_record}
 use Rattle.program_records.specs.Reading.{can_be, record_length, missing, found_in}

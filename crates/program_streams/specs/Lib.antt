@@ -1,3 +1,4 @@
 pub mod Ends
 pub mod Ahead
 pub mod Walk
+pub mod Driven

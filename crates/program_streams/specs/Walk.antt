@@ -1,5 +1,5 @@
 -- What a program tells of an input of records, one after another, and where it stands behind the last whole one. Assumes nothing.
-use Rattle.std.specs.Prelude.{◌≡◌, ℕ, zero, suc, ◌+◌, ◌%◌, ◌^◌, ◌≤◌, Bool, cond, List, [], ◌++◌, length, take, drop, ◌==◌, slice_index}
+use Rattle.std.specs.Prelude.{◌≡◌, ℕ, zero, suc, ◌+◌, ◌%◌, ◌^◌, ◌≤◌, Bool, cond, List, [], ◌++◌, length, take, drop, slice_index}
 use Rattle.program_records.specs.Reading.{record_length, found_in}
 use Rattle.program_records.specs.declared.Found.{Found}
 use Rattle.program_records.specs.declared.Found.TheVariants as found
@@ -103,15 +103,6 @@ pub record Kept {S : Type 0} (w : Walked S) (buf : List ℕ) (h : Held) (x : S) 
   pub number : h.records ≡ w.number
   pub state : x ≡ w.state
   pub goes : h.going ≡ goes_on w.left
-
-module _ {S : Type 0} (mark : List (List ℕ)) (tell : ℕ → S → ℕ → List ℕ → Told S) where
-  -- some bytes follow those that wait, none only at the end of the input, and all that they complete is told
-  abbrev pub Stepped : List ℕ → Held → S → List ℕ → Held → S → Type 0
-  Stepped buf h x after k y = (got : List ℕ) × Kept (told mark tell (length got == 0) (take h.have buf ++ got) h.passed h.records x) after k y
-
-  -- an input is told from a state on, and the program stands behind it
-  abbrev pub ToldSoFar : Bool → S → List ℕ → Held → S → Type 0
-  ToldSoFar ended x buf h y = (input : List ℕ) × Kept (told mark tell ended input 0 0 x) buf h y
 
 -- r bytes follow the first `have` of a buffer, which stay
 pub record Follow (before : List ℕ) (have r : ℕ) (after : List ℕ) : Type 0 where

@@ -2,14 +2,47 @@
 // of the records is in `specs/Walk.antt`.
 #![tactic(auto)]
 
-ghost use Rattle.std.specs.Prelude.{◌≡◌, ◌+◌, ◌^◌, ◌<◌, [], ◌∷◌, drop};
+ghost use Rattle.std.specs.Prelude.{◌≡◌, true, false, ℕ, ◌+◌, ◌^◌, ◌<◌, ◌≤◌, List, [], ◌∷◌, ◌++◌, length, take, drop, IfOk, OnErr};
+ghost use Rattle.std.specs.Io.KnownBytes.{Consumes};
 ghost use Rattle.program_records.specs.Moved.{Moved, between};
 ghost use Rattle.program_text.specs.Laid.{Laid};
 ghost use Rattle.program_streams.specs.Ends.{left_at, goes_on, last_line};
 ghost use Rattle.program_streams.specs.Ahead.{past_record, waiting, ahead_of, reached, with_laid, front_of, held_at, nothing_read};
-ghost use Rattle.program_streams.specs.Walk.{kind, body};
+ghost use Rattle.program_streams.specs.Walk.{Told, kind, body, before, told, told_from, left_to_tell, done_at, Follow};
+ghost use Rattle.program_streams.specs.Driven.{mark_of, HandedOut, TakenIn, Turned, Driven, Broken};
 
-use program_records::{Found, byte_at, part};
+use program_records::{Found, behind, byte_at, part};
+use std::io;
+use std::io::{Read, Write};
+
+// The last line has at most 64 bytes.
+const LAST_LINE: usize = 64;
+
+/// What a program tells of its records, and what it has from one to the next.
+pub trait Teller {
+    // Which bytes stand second in a record's mark, behind CC [C1].
+    ghost kinds: { List ℕ };
+
+    // The room that it wants for a record.
+    ghost ROOM: { ℕ };
+
+    // The room that there is has a place for that, and for the last line.
+    ghost fits: { ROOM + 64 ≤ 65536 };
+
+    // What it tells of a record, by its number, its kind and its bytes, and what it has then.
+    ghost telling: { ℕ → Self → ℕ → List ℕ → Told Self };
+
+    const ROOM: usize;
+
+    fn kinds(&self) -> &[u8]
+        ensures { result.now ≡ kinds };
+
+    fn tell(&mut self, out: &mut [u8], at: usize, number: u64, kind: u8, bytes: &[u8]) -> usize
+        requires { at + ROOM ≤ length out.old }
+        ensures text { take result out.new
+            ≡ take at out.old ++ (telling number self.old kind bytes.now).text }
+        ensures state { self.new ≡ (telling number self.old kind bytes.now).next };
+}
 
 // Where the records of a buffer end.
 #[derive(Clone, Copy)]
@@ -153,16 +186,15 @@ pub fn look(buf: &[u8], place: Place, ended: bool, kinds: &[u8], most: usize) ->
 pub fn kind_at(buf: &[u8], at: usize) -> u8
     ensures { result ≡ kind (drop at buf.now) }
 {
-    let rest = part(buf, at, buf.len());
-    byte_at(rest, 1)
+    byte_at(behind(buf, at), 1)
 }
 
 // The bytes of the record at a place, as far as they are there.
 pub fn body_at(buf: &[u8], at: usize) -> &[u8]
     ensures { result.now ≡ body (drop at buf.now) }
 {
-    let rest = part(buf, at, buf.len());
-    part(rest, 3, byte_at(rest, 2) as usize)
+    let rest = behind(buf, at);
+    part(rest, 3, usize::from(byte_at(rest, 2)))
 }
 
 // Lays the last line, if the input ends here.
@@ -232,4 +264,143 @@ pub fn keep(buf: &mut [u8], more: usize, ahead: Ahead) -> Held
         records: place.records,
         going,
     }
+}
+
+// Lays what the records that are whole in the buffer tell, as long as there is room for one more,
+// and the last line.
+fn drain<T: Teller>(buf: &[u8], ended: bool, out: &mut [u8], from: Place, teller: &mut T) -> Ahead
+    requires { T.ROOM + 64 ≤ length out.old }
+    ensures text { told_from (mark_of T.kinds) T.telling ended buf.now from teller.old
+        ≡ before (take result.place.laid out.new)
+        (left_to_tell (mark_of T.kinds) T.telling ended buf.now result teller.new) }
+    ensures onward { result.full ≡ true
+        → (from.at < result.place.at) × (result.place.at ≤ length buf.now) }
+{
+    let most = out.len() - (T::ROOM + LAST_LINE);
+    let mut place = Place {
+        at: from.at,
+        passed: from.passed,
+        records: from.records,
+        laid: 0,
+    };
+    loop {
+        let ahead = look(buf, place, ended, teller.kinds(), most);
+        if !ahead.whole {
+            return put_last(out, ahead);
+        }
+        let end = teller.tell(
+            out,
+            place.laid,
+            place.records,
+            kind_at(buf, place.at),
+            body_at(buf, place.at),
+        );
+        place = onward(ahead, end);
+    }
+}
+
+// Hands out what every record that is whole in the buffer tells, in as many pieces as the room
+// makes of it.
+fn tell_all<T: Teller, W: Write>(
+    output: &mut W,
+    buf: &[u8],
+    ended: bool,
+    out: &mut [u8],
+    held: Held,
+    teller: &mut T,
+) -> io::Result<Ahead>
+    requires { T.ROOM + 64 ≤ length out.old }
+    ensures ok { IfOk result (λ to. HandedOut (W.contents output.old) (W.contents output.new)
+        (told (mark_of T.kinds) T.telling ended buf.now held.passed held.records teller.old)
+        (done_at buf.now to teller.new)) }
+{
+    let mut place = front(held).place;
+    loop {
+        let to = drain(buf, ended, out, place, teller);
+        output.write_all(part(out, 0, to.place.laid))?;
+        if !to.full {
+            return Ok(to);
+        }
+        place = to.place;
+    }
+}
+
+// Takes in the first `more` bytes of the buffer, and keeps those behind the last whole record.
+fn take_in<T: Teller, W: Write>(
+    output: &mut W,
+    buf: &mut [u8],
+    more: usize,
+    ended: bool,
+    out: &mut [u8],
+    held: Held,
+    teller: &mut T,
+) -> io::Result<Held>
+    requires { T.ROOM + 64 ≤ length out.old }
+    ensures ok { IfOk result (λ to. TakenIn
+        (told (mark_of T.kinds) T.telling ended (take more buf.old) held.passed held.records teller.old)
+        (W.contents output.old) (W.contents output.new) buf.new to teller.new) }
+    ensures err { OnErr result (buf.new ≡ buf.old) }
+{
+    let to = tell_all(output, part(buf, 0, more), ended, out, held, teller)?;
+    Ok(keep(buf, more, to))
+}
+
+// One read of the input, behind the bytes that wait: how many bytes it gave.
+fn read_more<R: Read>(input: &mut R, buf: &mut [u8], have: usize) -> io::Result<usize>
+    requires { have ≤ length buf.old }
+    ensures follow { IfOk result (λ n. Follow buf.old have n buf.new) }
+    ensures taken { IfOk result (λ n.
+        Consumes (R.remaining input.old) (R.remaining input.new) (take n (drop have buf.new))) }
+    ensures err { OnErr result (take have buf.new ≡ take have buf.old) }
+{
+    input.read(&mut buf[have..])
+}
+
+// One read of the input, and what it completes.
+fn step<T: Teller, R: Read, W: Write>(
+    input: &mut R,
+    output: &mut W,
+    buf: &mut [u8],
+    out: &mut [u8],
+    held: Held,
+    teller: &mut T,
+) -> io::Result<Held>
+    requires within { held.have ≤ length buf.old }
+    requires room { T.ROOM + 64 ≤ length out.old }
+    ensures ok { IfOk result (λ to. Turned (mark_of T.kinds) T.telling buf.old held teller.old
+        (R.remaining input.old) (R.remaining input.new)
+        (W.contents output.old) (W.contents output.new) buf.new to teller.new) }
+    ensures err { OnErr result (take held.have buf.new ≡ take held.have buf.old) }
+{
+    let have = held.have;
+    let got = read_more(input, buf, have)?;
+    take_in(output, buf, have + got, got == 0, out, held, teller)
+}
+
+/// Reads the input to its end, hands out what it tells, and leaves where the program stands then.
+/// Where a read or a write fails, that is where it stood before that step: of what the step
+/// completes a part may be told, and the teller may be behind it.
+pub fn run<T: Teller, R: Read, W: Write>(
+    input: &mut R,
+    output: &mut W,
+    buf: &mut [u8],
+    out: &mut [u8; 65536],
+    held: &mut Held,
+    teller: &mut T,
+) -> io::Result<()>
+    ensures ok { IfOk result (λ _. held.new.going ≡ false
+        → Driven (mark_of T.kinds) T.telling true teller.old
+        (R.remaining input.old) (R.remaining input.new)
+        (W.contents output.old) (W.contents output.new) buf.new held.new teller.new) }
+    ensures err { OnErr result (Broken (mark_of T.kinds) T.telling teller.old buf.new held.new) }
+{
+    let room = &mut out[..];
+    *held = unread();
+    for _ in 0..u64::MAX {
+        *held = step(input, output, buf, room, *held, teller)?;
+        if !held.going {
+            return Ok(());
+        }
+    }
+    Ok(())
 }

@@ -1,15 +1,15 @@
 -- The digits of a number: how they go on, how many they are, and that reading them back gives the number. Assumes nothing.
 use mathlib.Core.Path.{◌≡◌, refl, sym, ap, ◌∙◌}
-use mathlib.Core.List.{List, [], ◌∷◌, ◌++◌, append_assoc}
-use Prim.Native.Nat.{ℕ, zero, suc, ◌+◌, ◌-◌, ◌*◌, ◌/◌, ◌%◌, ◌^◌, ◌≤◌, ◌<◌}
+use mathlib.Core.List.{List, [], ◌∷◌, ◌++◌}
+use Prim.Native.Nat.{ℕ, zero, suc, ◌+◌, ◌*◌, ◌/◌, ◌%◌, ◌^◌, ◌≤◌, ◌<◌}
 use native.Mathlib.Nat.{pow-suc}
 use native.Mathlib.Omega.{arith}
 use lib.Dec.{ltb}
-use lib.ListN.{length, take, drop, get_or, set, length-append, length-drop, length-set, get_or-append}
-use lib.Seq.{drop-cons, drop-set-lt, get_or-set_same, take_all}
+use lib.ListN.{length, get_or, length-append, get_or-append}
 use borrow.Author.Tests.{lt-ltb, le-ltb, ltb-true, ltb-false}
 use Rattle.model.proofs.Cases.{by_test}
 use Rattle.program_text.specs.Laid.{Laid}
+use Rattle.program_text.proofs.Layings.{laid_append}
 use Rattle.program_text.specs.Text.{digit, hex_byte, decimal_in, decimal, worth, value_from}
 
 -- two counts of places that suffice give the same digits
@@ -46,24 +46,6 @@ digits_most zero n h = omega (arith, length_small n h)
 digits_most (suc k) n h =
     by_test (ltb n 10) (λ t. omega (arith, length_small n (ltb-true n 10 t)))
     (λ t. let r = digits_most k (n / 10) (omega (arith, pow-suc 10 (suc k))) in omega (arith, r, length_large n (ltb-false n 10 t)))
-
--- a loop that stores the digits of n from the last to the first: those of what is left and those stored are the whole
-module _ (bytes : List ℕ) (from rest d : ℕ) (some : 1 ≤ from) (in_it : from ≤ length bytes) where
-  -- one digit stored in front of the others
-  stored : drop (from - 1) (set bytes (from - 1) d) ≡ d ∷ drop from bytes
-  stored =
-      let k : suc (from - 1) ≡ from = omega arith in
-      let j : from - 1 < length (set bytes (from - 1) d) = rw length-set (omega arith) in
-      drop-cons (set bytes (from - 1) d) (from - 1) 0 j
-      ∙ rw (get_or-set_same bytes (from - 1) d 0 (omega arith), k, drop-set-lt from bytes (from - 1) d (omega arith))
-
-  pub digit_more : {whole : List ℕ} → 10 ≤ rest → d ≡ digit (rest % 10) → decimal rest ++ drop from bytes ≡ whole
-      → decimal (rest / 10) ++ drop (from - 1) (set bytes (from - 1) d) ≡ whole
-  digit_more h q e =
-      rw (stored, q) (sym (append_assoc (decimal (rest / 10)) (digit (rest % 10) ∷ []) (drop from bytes)) ∙ rw (← decimal_large rest h) e)
-
-  pub digit_last : {whole : List ℕ} → rest < 10 → d ≡ digit rest → decimal rest ++ drop from bytes ≡ whole → drop (from - 1) (set bytes (from - 1) d) ≡ whole
-  digit_last h q e = rw (stored, q) (rw (decimal_small rest h) at e)
 
 -- Reading back: a digit is worth what it stands for,
 worth_digit : (d : ℕ) → d < 16 → worth (digit d) ≡ d
@@ -111,12 +93,11 @@ leads (suc f) n h k e =
 pub decimal_leads : (n : ℕ) → 1 ≤ n → get_or (decimal n) 0 0 ≡ digit 0 → ⊥
 decimal_leads n k e = leads (suc n) n (omega arith) k e
 
--- the digits of a number laid: one, or those that were stored
-module _ (n : ℕ) {out after : List ℕ} {at r : ℕ} where
-  pub laid_digit : (d : ℕ) → n < 10 → d ≡ digit n → Laid (d ∷ []) out at r after → Laid (decimal n) out at r after
-  laid_digit d h e w = rw (decimal_small n h, ← e) w
+-- the digits of a number laid: one, or those of its tenth and one behind them
+module _ (n : ℕ) {out after : List ℕ} {at r d : ℕ} where
+  pub laid_digit : n < 10 → d ≡ digit n → Laid (d ∷ []) out at r after → Laid (decimal n) out at r after
+  laid_digit h e w = rw (decimal_small n h, ← e) w
 
-  pub laid_digits : (bytes : List ℕ) (from : ℕ) → drop from bytes ≡ decimal n → length bytes ≡ 20
-      → Laid (take (20 - from) (drop from bytes)) out at r after → Laid (decimal n) out at r after
-  laid_digits bytes from e k w =
-      let all : length (drop from bytes) ≤ 20 - from = rw (length-drop, k) (omega arith) in rw (take_all (20 - from) (drop from bytes) all, e) at w
+  pub laid_tenth : {mid : List ℕ} {p : ℕ} → 10 ≤ n → Laid (decimal (n / 10)) out at p mid → d ≡ digit (n % 10) → Laid (d ∷ []) mid p r after
+      → Laid (decimal n) out at r after
+  laid_tenth h f e w = rw (decimal_large n h, ← e) (laid_append f w)

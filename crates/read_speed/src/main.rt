@@ -6,7 +6,7 @@
 
 ghost use Rattle.std.specs.Prelude.{◌≡◌, ◌≤◌, length, IfOk, OnErr};
 
-use basics::{MOST_PACKET, wide};
+use basics::MOST_PACKET;
 use packet::DTVCCPacket;
 use parser::{CCDataParser, Item};
 use std::io;
@@ -18,12 +18,11 @@ const READINGS: usize = 1000000;
 // No frame leaves more to draw than 31 pairs and 32 packets, and once nothing is drawn.
 const MOST_DRAWS: usize = 64000001;
 
-// The items drawn, the sum over their blocks and sets, and the demultiplexer.
-#[derive(Drop)]
+// The items drawn, and the sum over their blocks and sets.
+#[derive(Clone, Copy)]
 struct Totals {
     items: u64,
     sum: u64,
-    parser: CCDataParser,
 }
 
 // 31 times the sum and x, without the carry.
@@ -57,61 +56,57 @@ fn with_blocks(
         }
         let size = sizes[i];
         sum = mix(sum, worth(numbers[i], payload[at], size));
-        at += wide(size);
+        at += usize::from(size);
         i += 1;
     }
     sum
 }
 
 // The sum with a packet.
-fn with_packet(packet: DTVCCPacket, before: u64) -> u64 {
-    let numbers = packet.numbers;
-    let sizes = packet.sizes;
-    let payload = packet.payload;
-    let sum = with_blocks(packet.count, &numbers, &sizes, &payload, before);
+fn with_packet(packet: &DTVCCPacket, before: u64) -> u64 {
+    let sum = with_blocks(
+        packet.count,
+        &packet.numbers,
+        &packet.sizes,
+        &packet.payload,
+        before,
+    );
     mix(sum, packet.services)
 }
 
-// The totals of every frame: items are drawn until none is left, and then the next frame is read. One loop over one demultiplexer: a
-// demultiplexer that a function takes and gives back is copied.
-fn read_frames(frames: &[u8], before: Totals) -> Totals
+// The totals of every frame: items are drawn until none is left, and then the next frame is read.
+fn read_frames(frames: &[u8], parser: &mut CCDataParser) -> Totals
     requires { length frames.now ≡ 95000 }
 {
-    let mut parser = before.parser;
-    let mut items = before.items;
-    let mut sum = before.sum;
+    let mut items: u64 = 0;
+    let mut sum: u64 = 0;
     let mut i: usize = 0;
     let mut n: usize = 0;
     while n < MOST_DRAWS {
         n += 1;
-        let drawn = parser.draw();
-        parser = drawn.parser;
-        let item = drawn.item;
-        match item {
+        let Ok(drawn) = parser.draw() else {
+            return Totals { items, sum };
+        };
+        match drawn.item {
             Item::Pair(_) => {
                 items = items.wrapping_add(1);
             }
             Item::Packet => {
-                let packet = drawn.packet;
                 items = items.wrapping_add(1);
-                sum = with_packet(packet, sum);
+                sum = with_packet(&drawn.packet, sum);
             }
             Item::Nothing => {
                 if READINGS <= i {
-                    return Totals { items, sum, parser };
+                    return Totals { items, sum };
                 }
                 let at = i % 1000 * 95;
                 let end = at + 95;
-                let pushed = parser.push(&frames[at..end]);
-                parser = pushed.parser;
+                let _ = parser.push(&frames[at..end]);
                 i += 1;
-            }
-            Item::Refused(_) => {
-                return Totals { items, sum, parser };
             }
         }
     }
-    Totals { items, sum, parser }
+    Totals { items, sum }
 }
 
 // The header with another sequence number, so that no two readings in a row are of the same bytes.
@@ -128,8 +123,10 @@ fn read_packets(data: &mut [u8; 95000], n: usize) -> u64
     while i < READINGS {
         data[0] = turned(data[0], i);
         let whole = &data[..];
-        let answer = DTVCCPacket::parse(&whole[0..n]);
-        sum = with_packet(answer.packet, sum);
+        sum = match DTVCCPacket::parse(&whole[0..n]) {
+            Ok(packet) => with_packet(&packet, sum),
+            Err(_) => mix(sum, 0),
+        };
         i += 1;
     }
     sum
@@ -162,15 +159,8 @@ fn main(rt: HostRuntime) -> io::Result<()> {
     if n <= MOST_PACKET {
         return tell(&rt, READINGS as u64, read_packets(&mut bytes, n));
     }
-    let on = CCDataParser::new().handle_cea608();
-    let parser = on.parser;
-    let t = read_frames(
-        &bytes,
-        Totals {
-            items: 0,
-            sum: 0,
-            parser,
-        },
-    );
+    let mut parser = CCDataParser::new();
+    let _ = parser.handle_cea608();
+    let t = read_frames(&bytes, &mut parser);
     tell(&rt, t.items, t.sum)
 }

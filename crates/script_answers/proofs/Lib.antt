@@ -1,5 +1,4 @@
 pub mod Parts
-pub mod Measured
 pub mod Steps
 pub mod Rows
 pub mod Lent

@@ -1,34 +1,31 @@
--- A row is found by its letter and the number of argument bytes. Assumes nothing.
-use mathlib.Core.Path.{◌≡◌, refl, sym, ◌∙◌}
-use mathlib.Core.Bool.{Bool, true, false, ◌&&◌}
-use mathlib.Core.List.{List, [], ◌∷◌}
+-- What is told of an operation that was tried. Assumes nothing.
+use mathlib.Core.Path.{◌≡◌, refl, sym, ap, ◌∙◌}
+use mathlib.Core.List.{List}
 use Prim.Native.Nat.{ℕ}
-use lib.Dec.{eqb}
-use lib.ListN.{length, take, drop}
-use lib.Seq.{take_all}
-use native.Mathlib.Omega.{arith}
-use Rattle.script_answers.specs.Steps.{Runs}
-use Rattle.script_answers.specs.Rows.{Row, sought, Asked}
+use Rattle.std.specs.Prelude.{Option, Some, None}
+use Rattle.program_text.proofs.Layings.{laid_settled}
+use Rattle.script_answers.specs.Steps.{Effect, Did}
+use Rattle.script_answers.specs.Rows.{Sought, one, none, Tried}
 
--- A letter and its argument bytes go down the rows: past one that is not asked for,
-module _ {S : Type 0} (old next : S) (before now a : List ℕ) (op at laid : ℕ) (ran : Bool) where
-  pub passes : (r : Row S) (rows : List (Row S)) (t : Bool) → t ≡ (eqb op r.letter && r.takes (length a)) → t ≡ false
-      → Asked (sought rows op a) old before at ran laid next now → Asked (sought (r ∷ rows) op a) old before at ran laid next now
-  unfolding sought
-  passes r rows t p q d = rw (sym p ∙ q) d
+-- For callers: a place that is answered is behind the line of what was found,
+pub tried_ran : {S : Type 0} (w : Sought S) (old next : S) (before now : List ℕ) (at laid : ℕ) → Tried w old before at (Some laid) next now
+    → (e : Effect S) × (w ≡ one e) × Did e before at laid next now
+tried_ran (one e) old next before now at laid d = (e, refl, d)
+tried_ran none old next before now at laid d = absurd d
 
-  -- to the one that is, which runs,
-  pub finds : (r : Row S) (rows : List (Row S)) (t : Bool) → t ≡ (eqb op r.letter && r.takes (length a)) → t ≡ true
-      → Runs (r.does a) before at ran laid next now → Asked (sought (r ∷ rows) op a) old before at ran laid next now
-  unfolding sought
-  finds r rows t p q d = rw (sym p ∙ q) d
+-- and where none is answered nothing was found, and all is as it was.
+pub tried_rests : {S : Type 0} (w : Sought S) (old next : S) (before now : List ℕ) (at : ℕ) → Tried w old before at None next now
+    → (w ≡ none) × (next ≡ old) × (now ≡ before)
+tried_rests (one e) old next before now at d = absurd d
+tried_rests none old next before now at d = (refl, d.0, d.1)
 
--- or to the end.
-pub ends : {S : Type 0} (old : S) (before a : List ℕ) (op at : ℕ) → Asked (sought [] op a) old before at false at old before
-unfolding sought
-ends old before a op at = record { says = refl; place = refl; left = refl; same = refl }
-
--- the bytes behind the first
-pub all_but_first : (l : List ℕ) → take (length l) (drop 1 l) ≡ drop 1 l
-all_but_first [] = refl
-all_but_first (x ∷ l) = take_all (length (x ∷ l)) l (omega arith)
+-- What was found, or nothing, settles what is answered, what is laid and what is left.
+pub tried_settled : {S : Type 0} (w : Sought S) (old x y : S) (before l m : List ℕ) (at : ℕ) (r q : Option ℕ) → Tried w old before at r x l
+    → Tried w old before at q y m → (r ≡ q) × ((l ≡ m) × (x ≡ y))
+tried_settled (one e) old x y before l m at (Some j) (Some k) f g =
+    let s = laid_settled f.told g.told in (ap Some s.0, (s.1, f.left ∙ sym g.left))
+tried_settled (one e) old x y before l m at None q f g = absurd f
+tried_settled (one e) old x y before l m at (Some j) None f g = absurd g
+tried_settled none old x y before l m at None None f g = (refl, (f.1 ∙ sym g.1, f.0 ∙ sym g.0))
+tried_settled none old x y before l m at (Some j) q f g = absurd f
+tried_settled none old x y before l m at None (Some k) f g = absurd g

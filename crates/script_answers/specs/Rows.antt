@@ -1,7 +1,7 @@
 -- The table of a script's operations: a row is an operation on one part of what a script works on. Assumes nothing.
-use Rattle.std.specs.Prelude.{Bool, true, cond, ◌&&◌, List, [], ◌∷◌, ℕ, eqb, leb, length, get_or}
+use Rattle.std.specs.Prelude.{◌≡◌, Option, Some, None, Bool, true, cond, ◌&&◌, List, [], ◌∷◌, ℕ, eqb, leb, length, get_or}
 use Prim.Native.Char.{Char, code}
-use Rattle.script_answers.specs.Steps.{Effect, Runs, Rests}
+use Rattle.script_answers.specs.Steps.{Effect, Did}
 
 -- an operation: its letter, whether it takes so many argument bytes, and what it does with these bytes
 pub record Row (S : Type 0) : Type 0 where
@@ -39,8 +39,11 @@ module _ {S : Type 0} where
   sought [] op a = none
   sought (r ∷ rows) op a = cond (eqb op r.letter && r.takes (length a)) (one (r.does a)) (sought rows op a)
 
-  -- What becomes of an operation that one part is asked for: what was found runs,
-  abbrev pub Asked : Sought S → S → List ℕ → ℕ → Bool → ℕ → S → List ℕ → Type 0
-  Asked (one e) s before at ran laid next now = Runs e before at ran laid next now
-  -- or nothing was found, and nothing is done.
-  Asked none s before at ran laid next now = Rests s before at ran laid next now
+  -- What becomes of an operation that one part is asked for, where the place behind the line is answered, or that there was nothing to run: what was
+  -- found runs,
+  abbrev pub Tried : Sought S → S → List ℕ → ℕ → Option ℕ → S → List ℕ → Type 0
+  Tried (one e) s before at (Some laid) next now = Did e before at laid next now
+  Tried (one e) s before at None next now = ⊥
+  -- or nothing was found, and all is as it was.
+  Tried none s before at (Some laid) next now = ⊥
+  Tried none s before at None next now = (next ≡ s) × (now ≡ before)

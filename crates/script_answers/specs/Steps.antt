@@ -1,6 +1,6 @@
 -- What an operation of a script does: the line that it lays, and what it leaves. Assumes nothing.
-use Rattle.std.specs.Prelude.{◌≡◌, Bool, true, false, cond, List, [], ◌∷◌, ℕ, eqb, length, replicate}
-use Rattle.model.specs.Said.{Said, Outcome, says, after, says_with, mapped, checked, put_into}
+use Rattle.std.specs.Prelude.{◌≡◌, Bool, List, [], ◌∷◌, ℕ, length, replicate}
+use Rattle.model.specs.Said.{Said, Outcome, gave, refused, says, after, says_with, mapped, checked, put_into}
 use Rattle.program_text.specs.Laid.{Laid}
 use Rattle.program_text.specs.Text.{word}
 use Rattle.script_answers.specs.Script.{answer_line, lent_line}
@@ -15,18 +15,6 @@ pub record Did {S : Type 0} (e : Effect S) (before : List ℕ) (at laid : ℕ) (
   pub told : Laid e.line before at laid now
   pub left : state ≡ e.next
 
--- the same of an operation that is run, and that says so
-pub record Runs {S : Type 0} (e : Effect S) (before : List ℕ) (at : ℕ) (ran : Bool) (laid : ℕ) (state : S) (now : List ℕ) : Type 0 where
-  pub did : Did e before at laid state now
-  pub says : ran ≡ true
-
--- nothing is run or laid, and `old` is what there is
-pub record Rests {S : Type 0} (old : S) (before : List ℕ) (at : ℕ) (ran : Bool) (laid : ℕ) (state : S) (now : List ℕ) : Type 0 where
-  pub says : ran ≡ false
-  pub place : laid ≡ at
-  pub left : state ≡ old
-  pub same : now ≡ before
-
 module _ {S : Type 0} where
   -- an answer is told
   abbrev pub tells : Said → S → Effect S
@@ -36,18 +24,18 @@ module _ {S : Type 0} where
   abbrev pub lays : {M : Type 0} → (S → M → S) → S → Outcome M → Effect S
   lays over old o = tells (says o) (after old (mapped (over old) o))
 
-  -- by what an answer says, the new one or the old one
-  abbrev pub chosen : Said → S → S → S
-  chosen said new old = cond (eqb said.number 0) new old
+  -- a call that makes a new one, which takes the place of the old one: a refusal leaves that
+  abbrev pub renews : Outcome S → S → Effect S
+  renews made old = tells (says made) (after old made)
 
-  -- a call that makes a new one, laid over `blank`, which stands beside a refusal
-  abbrev pub makes : {M : Type 0} → (S → M → S) → S → S → Outcome M → Effect S
-  makes over blank old o = tells (says o) (chosen (says o) (after blank (mapped (over blank) o)) old)
+  -- the line that tells of what was made, or of why it was not
+  abbrev pub line_made : (S → List ℕ) → Outcome S → List ℕ
+  line_made line (gave made) = line made
+  line_made line (refused why) = answer_line why
 
-  -- the same where a line tells of what was made
-  abbrev pub reads : {M : Type 0} → (Said → S → List ℕ) → (S → M → S) → S → S → Outcome M → Effect S
-  reads line_of over blank old o =
-      record { line = line_of (says o) (after blank (mapped (over blank) o)); next = chosen (says o) (after blank (mapped (over blank) o)) old }
+  -- a call that makes a new one, where the line tells of it
+  abbrev pub takes : (S → List ℕ) → Outcome S → S → Effect S
+  takes line made old = record { line = line_made line made; next = after old made }
 
   -- a line is printed, and nothing changes
   abbrev pub stays : S → List ℕ → Effect S
@@ -67,8 +55,3 @@ written_line valid bytes len =
     let lent = lent_out len in
     let put = checked valid (put_into lent bytes) in
     lent_line (says_with (λ _. length bytes ∷ []) put) (after lent put)
-
--- bytes are written to a lent output, which is then told whole
-pub record Lends (valid : Bool) (bytes lent lent' before : List ℕ) (at laid : ℕ) (now : List ℕ) : Type 0 where
-  pub told : Laid (lent_line (says_with (λ _. length bytes ∷ []) (checked valid (put_into lent bytes))) lent') before at laid now
-  pub output : lent' ≡ after lent (checked valid (put_into lent bytes))

@@ -8,26 +8,23 @@ use native.Mathlib.Omega.{arith}
 use lib.ListN.{length, get_or, take, drop}
 use lib.Seq.{take_all}
 use Rattle.model.specs.Lists.{every}
-use Rattle.model.specs.Said.{gave, says, says_with, checked}
+use Rattle.model.specs.Said.{gave, refused, says, mapped, checked}
 use Rattle.model.specs.Block.{Block}
 use Rattle.model.specs.Codes.{codes_of, codes_of_each, codes_of_blocks}
 use Rattle.model.proofs.Cases.{both, given_is}
-use Rattle.model.proofs.Codes.{codes_numbered}
 use Rattle.model.proofs.CodedPackets.{is_cut, all_cut}
-use Rattle.caption.specs.declared.Counted.{Counted}
-use Rattle.caption.specs.declared.Counted.TheVariants as counted
-use Rattle.caption.specs.declared.Answer.{Answer}
-use Rattle.caption.specs.declared.Answer.TheVariants as answer
+use Rattle.std.specs.Prelude.{is_ok}
 use Rattle.caption.specs.declared.Refusal.{Refusal}
-use Rattle.caption.specs.Answers.{said_refusal, said_answer, said_counted}
-use Rattle.caption.proofs.Answers.{refused_with, given_with}
+use Rattle.caption.specs.Answers.{said_refusal}
+use Rattle.caption.proofs.Answers.{refused_with}
+use Rattle.codes_cuts.proofs.Outcomes.{told_gave, told_refused}
 use Rattle.service.specs.declared.Service.{Service}
 use Rattle.service.specs.Service.{block_of}
 use Rattle.packet.specs.declared.DTVCCPacket.{DTVCCPacket}
 use Rattle.packet.specs.Packet.{packet_of, valid_dtvcc}
 use Rattle.codes_cuts.specs.Cuts.{how_many, cut_of}
 use Rattle.codes_cuts.proofs.Cuts.{cut_length}
-use Rattle.codes.proofs.Exactly.{packet_exactly}
+use Rattle.codes.proofs.Exactly.{Answer, CheckPacket, packet_exactly}
 use Rattle.program_text.specs.Laid.{Laid}
 use Rattle.program_text.specs.Text.{word}
 use Rattle.program_text.proofs.Layings.{laid_within, laid_append}
@@ -37,12 +34,12 @@ use Rattle.script_packets.specs.Lines.{each_text, blocks_in}
 use Rattle.script_codes.specs.Lines.{lengths_of, cut_line, counted_line, given_line, count_text, counts_line}
 
 -- how many codes there are, by what was counted
-module _ (d : List ℕ) (r : Counted) (told : said_counted r ≡ says_with how_many (codes_of d)) where
-  pub count_given : (n : ℕ) → r ≡ counted.Count n → n ≡ length (cut_of d)
-  count_given n e = sym (cut_length d r told n e)
+module _ (d : List ℕ) where
+  pub count_given : (n : ℕ) → gave n ≡ mapped how_many (codes_of d) → n ≡ length (cut_of d)
+  count_given n e = sym (cut_length d n e)
 
-  pub count_none : (why : Refusal) → r ≡ counted.Refused why → 0 ≡ length (cut_of d)
-  count_none why e = rw (refused_with how_many why (codes_of d) (sym (ap said_counted e) ∙ told))
+  pub count_none : (why : Refusal) → refused (said_refusal why) ≡ mapped how_many (codes_of d) → 0 ≡ length (cut_of d)
+  count_none why e = rw (told_refused how_many (codes_of d) (said_refusal why) e)
 
 -- the same of the payload of a block, which is a part of its places
 pub block_count : (s : Service) (d : List ℕ) (n : ℕ) → d ≡ take s.len (drop 0 s.payload) → n ≡ length (cut_of d) → n ≡ length (cut_of (block_of s).payload)
@@ -80,16 +77,14 @@ module _ {out after : List ℕ} {at r : ℕ} where
   given_parts ns a b c = laid_append (laid_append a b) c
 
   -- the lengths of the codes of some bytes, by what was counted
-  module _ (d : List ℕ) (k : Counted) (told : said_counted k ≡ says_with how_many (codes_of d)) where
-    pub lengths_told : (n : ℕ) → k ≡ counted.Count n → Laid (given_line (lengths_of (cut_of d))) out at r after → Laid (cut_line d) out at r after
+  module _ (d : List ℕ) where
+    pub lengths_told : (n : ℕ) → gave n ≡ mapped how_many (codes_of d) → Laid (given_line (lengths_of (cut_of d))) out at r after → Laid (cut_line d) out at r after
     unfolding cut_line given_line answer_line answer_text
-    lengths_told n e l =
-        let g = given_with how_many (n ∷ []) (codes_of d) (codes_numbered d) (sym (ap said_counted e) ∙ told) in
-        rw g.1 (rw g.1 at l)
+    lengths_told n e l = let g = told_gave how_many (codes_of d) n e in rw g.1 (rw g.1 at l)
 
-    pub lengths_refused : (why : Refusal) → k ≡ counted.Refused why → Laid (answer_line (said_refusal why)) out at r after → Laid (cut_line d) out at r after
+    pub lengths_refused : (why : Refusal) → refused (said_refusal why) ≡ mapped how_many (codes_of d) → Laid (answer_line (said_refusal why)) out at r after → Laid (cut_line d) out at r after
     unfolding cut_line
-    lengths_refused why e l = rw (refused_with how_many why (codes_of d) (sym (ap said_counted e) ∙ told)) l
+    lengths_refused why e l = rw (told_refused how_many (codes_of d) (said_refusal why) e) l
 
   -- a line of the counts of several blocks, in its parts
   pub counts_parts : {m₁ m₂ : List ℕ} {p q : ℕ} (bs : List Block) → Laid (word "ok") out at p m₁ → Laid (each_text count_text bs) m₁ p q m₂ → Laid (word "\n") m₂ q r after → Laid (counts_line bs) out at r after
@@ -115,13 +110,14 @@ counts_text [] = refl
 counts_text (b ∷ bs) = rw (counts_text bs)
 
 -- what is told of a packet
-module _ {out after : List ℕ} {at r : ℕ} (p : DTVCCPacket) (t : Answer) (told : said_answer t ≡ says (checked (valid_dtvcc p) (codes_of_blocks (packet_of p).blocks))) where
-  pub counts_given : t ≡ answer.Accepted → Laid (counts_line (blocks_in p)) out at r after → Laid (counted_line p) out at r after
+module _ {out after : List ℕ} {at r : ℕ} (p : DTVCCPacket) (t : Answer) (told : CheckPacket p t) where
+  pub counts_given : is_ok t ≡ true → Laid (counts_line (blocks_in p)) out at r after → Laid (counted_line p) out at r after
   unfolding counted_line counts_line blocks_in answer_line answer_text
   counts_given e l =
-      let f = both (valid_dtvcc p) (all_cut (packet_of p)) (sym (packet_exactly p t told) ∙ rw e) in
+      let f = both (valid_dtvcc p) (all_cut (packet_of p)) (sym (packet_exactly p t told) ∙ e) in
       rw (f.0, cuts_given (packet_of p).blocks f.1, counts_text (packet_of p).blocks) (rw f.0 at l)
 
-  pub counts_refused : (why : Refusal) → t ≡ answer.Refused why → Laid (answer_line (said_refusal why)) out at r after → Laid (counted_line p) out at r after
-  unfolding counted_line
-  counts_refused why e l = rw (refused_with (λ _. []) why (checked (valid_dtvcc p) (codes_of_blocks (packet_of p).blocks)) (sym (ap said_answer e) ∙ told)) l
+pub counts_refused : {out after : List ℕ} {at r : ℕ} (p : DTVCCPacket) (why : Refusal) → said_refusal why ≡ says (checked (valid_dtvcc p) (codes_of_blocks (packet_of p).blocks))
+    → Laid (answer_line (said_refusal why)) out at r after → Laid (counted_line p) out at r after
+unfolding counted_line
+counts_refused p why e l = rw (refused_with (λ _. []) why (checked (valid_dtvcc p) (codes_of_blocks (packet_of p).blocks)) e) l

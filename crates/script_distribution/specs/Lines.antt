@@ -1,11 +1,11 @@
 -- The line of a script that tells of a distribution packet which is read. Assumes nothing.
-use Rattle.std.specs.Prelude.{List, [], ◌∷◌, ℕ, take}
+use Rattle.std.specs.Prelude.{List, [], ◌∷◌, ℕ, take, Result, Ok, Err}
 use Rattle.model.specs.Said.{Outcome, gave, refused, accepted}
 use Rattle.model.specs.Distribution.{frame_of}
 use Rattle.model.specs.Distribution as packets
 use Rattle.caption.specs.Answers.{said_refusal}
 use Rattle.distribution.specs.declared.Received.{Received}
-use Rattle.distribution.specs.declared.Received.TheVariants.{Packet, Refused}
+use Rattle.caption.specs.declared.Refusal.{Refusal}
 use Rattle.script_answers.specs.Script.{answer_line, lent_line}
 
 -- the code of its rate, its counter and its frame
@@ -18,6 +18,6 @@ received_line (gave x) = packet_line x.packet.code x.packet.counter (frame_of x.
 received_line (refused why) = answer_line why
 
 -- The same as it is laid, by what a reader answers and the output that it was lent: the frame is at its front.
-abbrev pub front_line : Received → List ℕ → List ℕ
-front_line (Packet code counter len) lent = packet_line code counter (take len lent)
-front_line (Refused why) lent = answer_line (said_refusal why)
+abbrev pub front_line : Result Received Refusal → List ℕ → List ℕ
+front_line (Ok x) lent = packet_line x.code x.counter (take x.len lent)
+front_line (Err why) lent = answer_line (said_refusal why)

@@ -1,8 +1,8 @@
 -- The operations of a script on its reader and its writer of distribution packets: what each does, and their rows. Assumes nothing.
-use Rattle.std.specs.Prelude.{Bool, List, [], ◌∷◌, ℕ, leb, length, drop}
+use Rattle.std.specs.Prelude.{Bool, List, [], ◌∷◌, ℕ, ◌+◌, ◌*◌, leb, length, drop}
 use Rattle.model.specs.Said.{says_with, mapped, after}
 use Rattle.model.specs.Frame.{most_frame}
-use Rattle.model.specs.Distribution.{counter_at, receive, distribute}
+use Rattle.model.specs.Distribution.{receive, distribute}
 use Rattle.distribution.specs.declared.DistributionReader.{DistributionReader}
 use Rattle.distribution.specs.declared.DistributionWriter.{DistributionWriter}
 use Rattle.distribution.specs.States.{last_of, fresh_reader, reader_at, writer_at, fresh_writer}
@@ -34,9 +34,13 @@ reads_packet bytes link =
     let done = receive (last_of link.reader.last) bytes (lent_out most_frame) in
     record { line = received_line done; next = with_reader link (after link.reader (mapped (λ x. reader_at x.packet.counter) done)) }
 
--- the next counter of the writer in two bytes, the higher first
+-- the next counter of the writer, by its two bytes
+abbrev pub sets_counter : ℕ → ℕ → Link → Effect Link
+sets_counter high low link = becomes (with_writer link (writer_at (256 * high + low)))
+
+-- the same where they stand behind each other, the higher first
 abbrev pub sets_next : List ℕ → Link → Effect Link
-sets_next a link = becomes (with_writer link (writer_at (counter_at 0 a)))
+sets_next a link = sets_counter (byte a 0) (byte a 1) link
 
 -- a frame written as a packet to a lent output
 abbrev pub sends : ℕ → List ℕ → List ℕ → Link → Effect Link

@@ -1,39 +1,29 @@
-// The operations of a script, by their letters, on its reader and its writer of distribution packets: each makes its call or sets one of the two,
-// lays the line that tells of it into a lent buffer from a place on, and answers the place behind the line beside what is left.
+//! The operations of a script, by their letters, on its reader and its writer of distribution packets: each makes its call or sets one of the two,
+//! lays the line that tells of it into a lent buffer from a place on, and answers the place behind the line.
 #![tactic(auto)]
 
 ghost use Rattle.std.specs.Prelude.{◌≡◌};
-ghost use Rattle.model.specs.Said.{mapped, after};
-ghost use Rattle.model.specs.Distribution.{distribute};
 ghost use Rattle.program_text.specs.Laid.{Laid};
-ghost use Rattle.script_answers.specs.Steps.{Runs};
-ghost use Rattle.script_answers.specs.Rows.{sought, Asked};
+ghost use Rattle.script_answers.specs.Steps.{Did, lent_out};
+ghost use Rattle.script_answers.specs.Rows.{sought, Tried};
 ghost use Rattle.script_distribution.specs.Lines.{packet_line, front_line};
-ghost use Rattle.script_distribution.specs.Links.{fresh_link, renews_reader, reads_packet, sets_next, sends, writes_packet, link_rows};
+ghost use Rattle.script_distribution.specs.Links.{fresh_link, renews_reader, reads_packet, sets_counter, sends, link_rows};
 
 use basics::MOST_FRAME;
+use caption::Refusal;
 use distribution::{DistributionReader, DistributionWriter, Received};
 use program_lines::{put_run, put_value};
-use program_records::{byte_at, part};
+use program_records::part;
 use program_text::{put_newline, put_word};
-use script_answers::asks;
 
-// A reader and a writer of distribution packets.
-#[derive(Clone, Copy)]
+/// A reader and a writer of distribution packets.
+#[derive(Clone, Copy, Debug, PartialEq, Eq)]
 pub struct Link {
     pub reader: DistributionReader,
     pub writer: DistributionWriter,
 }
 
-// Whether an operation was run, the place behind its line, and both.
-#[derive(Clone, Copy)]
-pub struct OnLink {
-    pub ran: bool,
-    pub laid: usize,
-    pub link: Link,
-}
-
-// Both fresh.
+/// Both fresh.
 pub fn fresh() -> Link
     ensures { result ≡ fresh_link }
 {
@@ -54,131 +44,74 @@ fn put_packet_line(out: &mut [u8], at: usize, code: u8, counter: u16, frame: &[u
 }
 
 // What a reader tells of a packet, with its frame at the front of what was lent.
-fn put_received_line(out: &mut [u8], at: usize, received: Received, lent: &[u8]) -> usize
+fn put_received_line(
+    out: &mut [u8],
+    at: usize,
+    received: Result<Received, Refusal>,
+    lent: &[u8],
+) -> usize
     ensures { Laid (front_line received lent.now) out.old at result out.new }
 {
     match received {
-        Received::Packet { code, counter, len } => put_packet_line(
-            out,
-            at,
-            code,
-            counter,
-            part(lent, 0, len),
-        ),
-        Received::Refused(why) => script_answers::put_refusal_line(out, at, why),
+        Ok(read) => put_packet_line(out, at, read.code, read.counter, part(lent, 0, read.len)),
+        Err(why) => script_answers::put_refusal_line(out, at, why),
     }
 }
 
 // A fresh reader.
-fn new_reader(out: &mut [u8], at: usize, before: Link) -> OnLink
-    ensures { Runs (renews_reader before) out.old at result.ran result.laid result.link out.new }
+fn new_reader(out: &mut [u8], at: usize, link: &mut Link) -> usize
+    ensures { Did (renews_reader link.old) out.old at result link.new out.new }
 {
-    let fresh = DistributionReader::new();
-    let mut link = before;
-    link.reader = fresh;
-    let laid = script_answers::put_ok_line(out, at);
-    OnLink {
-        ran: true,
-        laid,
-        link,
-    }
+    link.reader = DistributionReader::new();
+    script_answers::put_ok_line(out, at)
 }
 
 // A packet read, with room for every frame.
-fn read_packet(out: &mut [u8], at: usize, before: Link, args: &[u8]) -> OnLink
-    ensures { Runs (reads_packet args.now before) out.old at result.ran result.laid result.link out.new }
+fn read_packet(out: &mut [u8], at: usize, link: &mut Link, bytes: &[u8]) -> usize
+    ensures { Did (reads_packet bytes.now link.old) out.old at result link.new out.new }
 {
     let mut lent = [0xA5u8; MOST_FRAME];
-    let old = before.reader;
-    let done = old.read(args, &mut lent);
-    let received = done.received;
-    let reader = done.reader;
-    let laid = put_received_line(out, at, received, &lent);
-    let mut link = before;
-    link.reader = reader;
-    OnLink {
-        ran: true,
-        laid,
-        link,
-    }
+    let received = link.reader.read(bytes, &mut lent);
+    put_received_line(out, at, received, &lent)
 }
 
 // The next counter of the writer set, whatever it is.
-fn set_next(out: &mut [u8], at: usize, before: Link, args: &[u8]) -> OnLink
-    ensures { Runs (sets_next args.now before) out.old at result.ran result.laid result.link out.new }
+fn set_next(out: &mut [u8], at: usize, link: &mut Link, high: u8, low: u8) -> usize
+    ensures { Did (sets_counter high low link.old) out.old at result link.new out.new }
 {
-    let high = byte_at(args, 0) as u16;
-    let low = byte_at(args, 1) as u16;
-    let writer = DistributionWriter {
-        next: 256 * high + low,
-    };
-    let mut link = before;
-    link.writer = writer;
-    let laid = script_answers::put_ok_line(out, at);
-    OnLink {
-        ran: true,
-        laid,
-        link,
-    }
+    link.writer.next = u16::from_be_bytes([high, low]);
+    script_answers::put_ok_line(out, at)
 }
 
-// A frame written as a packet to a lent output, which is told whole.
-fn tell_written(
+// A frame written as a packet to an output of so many bytes, which is told whole.
+fn write_packet(
     out: &mut [u8],
     at: usize,
-    before: Link,
+    link: &mut Link,
     code: u8,
+    len: u8,
     frame: &[u8],
-    lent: &mut [u8],
-) -> OnLink
-    ensures runs { Runs (sends code frame.now lent.old before) out.old at result.ran result.laid result.link out.new }
-    ensures lent_after { lent.new ≡ after lent.old (mapped (λ x. x.out) (distribute before.writer.next code frame.now lent.old)) }
+) -> usize
+    ensures { Did (sends code frame.now (lent_out len) link.old) out.old at result link.new out.new }
 {
-    let old = before.writer;
-    let done = old.write(code, frame, lent);
-    let counted = done.answer;
-    let writer = done.writer;
-    let laid = script_answers::put_lent_line(out, at, counted, lent);
-    let mut link = before;
-    link.writer = writer;
-    OnLink {
-        ran: true,
-        laid,
-        link,
-    }
-}
-
-// A frame written to an output of as many bytes as the second argument says.
-fn write_packet(out: &mut [u8], at: usize, before: Link, args: &[u8]) -> OnLink
-    ensures { Runs (writes_packet args.now before) out.old at result.ran result.laid result.link out.new }
-{
-    let code = byte_at(args, 0);
-    let frame = part(args, 2, args.len());
     let mut lent = [0xA5u8; 255];
-    let end = byte_at(args, 1) as usize;
-    tell_written(out, at, before, code, frame, &mut lent[0..end])
+    let front = &mut lent[..len as usize];
+    let answer = link.writer.write(code, frame, front);
+    script_answers::put_written_line(out, at, answer, front)
 }
 
-// The operations on both.
-pub fn on_link(out: &mut [u8], at: usize, link: Link, op: u8, args: &[u8]) -> OnLink
-    ensures { Asked (sought (link_rows link) op args.now) link out.old at result.ran result.laid result.link out.new }
+/// An operation on both, by its letter and its argument bytes: the place behind the line that tells of it, or `None` for one that there is not, which
+/// does nothing.
+#[tactic(auto, unfolding(crate::specs::Links::link_rows, script_answers::specs::Rows::sought))]
+pub fn on_link(out: &mut [u8], at: usize, link: &mut Link, op: u8, args: &[u8]) -> Option<usize>
+    ensures { Tried (sought (link_rows link.old) op args.now)
+        link.old out.old at result link.new out.new }
 {
-    let n = args.len();
-    if asks(op, b'X', n == 0) {
-        return new_reader(out, at, link);
-    }
-    if asks(op, b'<', true) {
-        return read_packet(out, at, link, args);
-    }
-    if asks(op, b'Y', n == 2) {
-        return set_next(out, at, link, args);
-    }
-    if asks(op, b'>', 2 <= n) {
-        return write_packet(out, at, link, args);
-    }
-    OnLink {
-        ran: false,
-        laid: at,
-        link,
+    match (op, args) {
+        (b'X', []) => Some(new_reader(out, at, link)),
+        (b'<', bytes) => Some(read_packet(out, at, link, bytes)),
+        (b'Y', [high, low]) => Some(set_next(out, at, link, *high, *low)),
+        (b'>', [code, len, frame @ ..]) => Some(write_packet(out, at, link, *code, *len, frame)),
+        _ => None,
     }
 }

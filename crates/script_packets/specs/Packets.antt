@@ -1,20 +1,20 @@
 -- The operations of a script on its packet, to which its block can be pushed: what each does, and their rows. Assumes nothing.
 use Rattle.std.specs.Prelude.{◌&&◌, List, [], ◌∷◌, ℕ, drop}
-use Rattle.model.specs.Said.{Said, checked}
+use Rattle.model.specs.Said.{mapped, checked}
 use Rattle.model.specs.Packet.{new_packet, read_packet, read_tidy, written_packet, push_block, push_run, push_run_single}
 use Rattle.service.specs.declared.Service.{Service}
 use Rattle.service.specs.Service.{block_of, valid_service}
 use Rattle.packet.specs.declared.DTVCCPacket.{DTVCCPacket}
-use Rattle.packet.specs.Packet.{packet_of, valid_dtvcc, over, blank}
+use Rattle.packet.specs.Packet.{packet_of, valid_dtvcc, over, laid}
 use Rattle.script_answers.specs.Script.{answer_line}
-use Rattle.script_answers.specs.Steps.{Effect, lays, makes, reads, becomes, stays, chosen, written_line}
+use Rattle.script_answers.specs.Steps.{Effect, lays, renews, takes, becomes, stays, written_line}
 use Rattle.script_answers.specs.Rows.{Row, row, exactly, number_and_run, all_of_them, byte}
 use Rattle.script_services.specs.Sets.{set_in, services_line}
-use Rattle.script_packets.specs.Lines.{packet_measures, read_packet_line}
+use Rattle.script_packets.specs.Lines.{packet_measures, held_line}
 
 -- a new packet of a sequence number
 abbrev pub renews_packet : ℕ → DTVCCPacket → Effect DTVCCPacket
-renews_packet sequence p = makes over blank p (new_packet sequence)
+renews_packet sequence p = renews (mapped laid (new_packet sequence)) p
 
 -- a block at the end of the packet
 abbrev pub pushes_block : Service → DTVCCPacket → Effect DTVCCPacket
@@ -36,17 +36,13 @@ measures_packet p = stays p (answer_line (packet_measures p))
 abbrev pub writes_packet : ℕ → DTVCCPacket → Effect DTVCCPacket
 writes_packet len p = stays p (written_line (valid_dtvcc p) (written_packet (packet_of p)) len)
 
--- a packet that was read takes the place of the old one, where the answer accepts
-abbrev pub packet_read : DTVCCPacket → Said → DTVCCPacket → Effect DTVCCPacket
-packet_read old said p = record { line = read_packet_line said p; next = chosen said p old }
-
 -- the packet that some bytes hold, read plainly,
 abbrev pub reads_plainly : List ℕ → DTVCCPacket → Effect DTVCCPacket
-reads_plainly bytes p = reads read_packet_line over blank p (read_packet bytes)
+reads_plainly bytes p = takes held_line (mapped laid (read_packet bytes)) p
 
 -- and tidily
 abbrev pub reads_tidily : List ℕ → DTVCCPacket → Effect DTVCCPacket
-reads_tidily bytes p = reads read_packet_line over blank p (read_tidy bytes)
+reads_tidily bytes p = takes held_line (mapped laid (read_tidy bytes)) p
 
 -- the packet's sequence number and its count of blocks, whatever they break
 abbrev pub sets_packet : ℕ → ℕ → DTVCCPacket → Effect DTVCCPacket

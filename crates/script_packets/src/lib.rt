@@ -1,324 +1,195 @@
-// The operations of a script, by their letters, on its packet: each makes its call or calls, or sets fields, lays the line that tells of it into a lent buffer from a place
-// on, and answers the place behind the line beside what the call leaves.
+// The operations of a script, by their letters, on its packet: each makes its call, or sets fields, and lays the line that tells of it into a lent
+// buffer from a place on.
 #![tactic(auto)]
 
-ghost use Rattle.std.specs.Prelude.{◌≡◌, drop};
-ghost use Rattle.model.specs.Packet.{written_packet};
-ghost use Rattle.caption.specs.Answers.{said_answer};
+ghost use Rattle.std.specs.Prelude.{◌≡◌};
+ghost use Rattle.caption.specs.Answers.{outcome};
 ghost use Rattle.service.specs.Service.{block_of};
-ghost use Rattle.packet.specs.Packet.{valid_dtvcc, packet_of};
+ghost use Rattle.packet.specs.Packet.{valid_dtvcc, bytes_of};
 ghost use Rattle.program_text.specs.Laid.{Laid};
 ghost use Rattle.program_lines.specs.Lines.{block_text};
-ghost use Rattle.script_answers.specs.Steps.{Runs, Lends, tells, chosen};
-ghost use Rattle.script_answers.specs.Rows.{byte, sought, Asked};
-ghost use Rattle.script_services.specs.Sets.{set_in};
-ghost use Rattle.script_packets.specs.Lines.{blocks_text, blocks_in, held_text, held_line, read_packet_line};
-ghost use Rattle.script_packets.specs.Packets.{renews_packet, pushes_run, pushes_single, measures_packet, writes_packet, packet_read};
-ghost use Rattle.script_packets.specs.Packets.{sets_packet, sets_services, tells_services, telling_rows, pushing_rows, packet_rows};
+ghost use Rattle.script_answers.specs.Steps.{Did, written_line};
+ghost use Rattle.script_answers.specs.Rows.{sought, Tried};
+ghost use Rattle.script_packets.specs.Lines.{measured_packet, blocks_text, blocks_in, held_text, held_line};
+ghost use Rattle.script_packets.specs.Packets.{renews_packet, pushes_block, pushes_run, pushes_single, reads_plainly, reads_tidily};
+ghost use Rattle.script_packets.specs.Packets.{sets_packet, sets_services, packet_rows};
 
 use basics::MOST_BLOCKS;
-use caption::Answer;
-use packet::{DTVCCPacket, PacketAnswer, Place};
-use program_records::{byte_at, part};
+use caption::Refusal;
+use packet::DTVCCPacket;
+use program_records::part;
 use program_text::{put_newline, put_word};
-use script_answers::asks;
 use script_services::{put_services_line, set_in};
 use service::Service;
 
-// Whether an operation was run, the place behind its line, and the packet.
-#[derive(Clone, Copy)]
-pub struct OnPacket {
-    pub ran: bool,
-    pub laid: usize,
-    pub packet: DTVCCPacket,
-}
-
 // A block of a packet, as `number:payload`.
-fn put_block(out: &mut [u8], at: usize, service: Service) -> usize
-    ensures { Laid (block_text service.number (block_of service).payload) out.old at result out.new }
+fn put_block(out: &mut [u8], at: usize, block: &Service) -> usize
+    ensures { Laid (block_text block.now.number (block_of block.now).payload) out.old at result out.new }
 {
-    let len = service.len;
-    let payload = service.payload;
-    program_lines::put_block(out, at, service.number, part(&payload, 0, len))
+    let payload = &block.payload[..];
+    program_lines::put_block(out, at, block.number, part(payload, 0, block.len))
 }
 
 // The blocks of a packet.
-fn put_blocks(out: &mut [u8], at: usize, packet: DTVCCPacket) -> usize
-    ensures { Laid (blocks_text (blocks_in packet)) out.old at result out.new }
+fn put_blocks(out: &mut [u8], at: usize, packet: &DTVCCPacket) -> usize
+    ensures { Laid (blocks_text (blocks_in packet.now)) out.old at result out.new }
 {
     let mut laid = put_word(out, at, b"");
-    let mut i: usize = 0;
-    while i < MOST_BLOCKS {
-        let here = packet.service(i);
-        let place = here.place;
-        match place {
-            Place::Here => {
-                let service = here.service;
-                laid = put_block(out, laid, service);
-                i += 1;
-            }
-            Place::Nothing => {
-                return laid;
-            }
-            Place::Refused(_) => {
-                return laid;
-            }
-        }
+    for place in 0..MOST_BLOCKS {
+        let Ok(Some(block)) = packet.service(place) else {
+            return laid;
+        };
+        laid = put_block(out, laid, &block);
     }
     laid
 }
 
-// The sequence number of a packet and its blocks.
-pub fn put_packet(out: &mut [u8], at: usize, packet: DTVCCPacket) -> usize
-    ensures { Laid (held_text packet) out.old at result out.new }
+/// The sequence number of a packet and its blocks.
+pub fn put_packet(out: &mut [u8], at: usize, packet: &DTVCCPacket) -> usize
+    ensures { Laid (held_text packet.now) out.old at result out.new }
 {
     let p = program_lines::put_value(out, at, packet.seq_no as u64);
     put_blocks(out, p, packet)
 }
 
 // A packet that was read.
-fn put_held_line(out: &mut [u8], at: usize, packet: DTVCCPacket) -> usize
-    ensures { Laid (held_line packet) out.old at result out.new }
+fn put_held_line(out: &mut [u8], at: usize, packet: &DTVCCPacket) -> usize
+    ensures { Laid (held_line packet.now) out.old at result out.new }
 {
     let p = put_word(out, at, b"ok");
     let q = put_packet(out, p, packet);
     put_newline(out, q)
 }
 
-// The same where the call accepts, and else its refusal.
-fn put_packet_line(out: &mut [u8], at: usize, answer: Answer, packet: DTVCCPacket) -> usize
-    ensures { Laid (read_packet_line (said_answer answer) packet) out.old at result out.new }
-{
-    match answer {
-        Answer::Accepted => put_held_line(out, at, packet),
-        Answer::Refused(why) => script_answers::put_refusal_line(out, at, why),
-    }
-}
-
-// By an answer, the new packet or the one that was there.
-fn packet_kept(answer: Answer, made: DTVCCPacket, before: DTVCCPacket) -> DTVCCPacket
-    ensures { result ≡ chosen (said_answer answer) made before }
-{
-    match answer {
-        Answer::Accepted => made,
-        Answer::Refused(_) => before,
-    }
-}
-
 // A new packet, where the call accepts.
-fn new_packet(out: &mut [u8], at: usize, before: DTVCCPacket, args: &[u8]) -> OnPacket
-    ensures { Runs (renews_packet (byte args.now 0) before) out.old at result.ran result.laid result.packet out.new }
+fn new_packet(out: &mut [u8], at: usize, packet: &mut DTVCCPacket, sequence: u8) -> usize
+    ensures { Did (renews_packet sequence packet.old) out.old at result packet.new out.new }
 {
-    let made = DTVCCPacket::new(byte_at(args, 0));
-    let answer = made.answer;
-    let laid = script_answers::put_answer_line(out, at, answer);
-    let packet = packet_kept(answer, made.packet, before);
-    OnPacket {
-        ran: true,
-        laid,
-        packet,
+    match DTVCCPacket::new(sequence) {
+        Ok(made) => {
+            *packet = made;
+            script_answers::put_ok_line(out, at)
+        }
+        Err(why) => script_answers::put_refusal_line(out, at, why),
     }
 }
 
-// What a call leaves that pushes to the packet.
-fn packet_pushed(out: &mut [u8], at: usize, pushed: PacketAnswer) -> OnPacket
-    ensures { Runs (tells (said_answer pushed.answer) pushed.packet) out.old at result.ran result.laid result.packet out.new }
+// A block pushed to the packet.
+fn push_block(out: &mut [u8], at: usize, packet: &mut DTVCCPacket, block: &Service) -> usize
+    ensures { Did (pushes_block block.now packet.old) out.old at result packet.new out.new }
 {
-    let answer = pushed.answer;
-    let packet = pushed.packet;
-    let laid = script_answers::put_answer_line(out, at, answer);
-    OnPacket {
-        ran: true,
-        laid,
-        packet,
-    }
+    let answer = packet.push_service(block);
+    script_answers::put_done_line(out, at, answer)
 }
 
 // A run pushed to the packet.
-fn push_run(out: &mut [u8], at: usize, before: DTVCCPacket, args: &[u8]) -> OnPacket
-    ensures { Runs (pushes_run (byte args.now 0) (drop 1 args.now) before) out.old at result.ran result.laid result.packet out.new }
+fn push_run(out: &mut [u8], at: usize, packet: &mut DTVCCPacket, number: u8, run: &[u8]) -> usize
+    ensures { Did (pushes_run number run.now packet.old) out.old at result packet.new out.new }
 {
-    let run = part(args, 1, args.len());
-    packet_pushed(out, at, before.push_code(byte_at(args, 0), run))
+    let answer = packet.push_code(number, run);
+    script_answers::put_done_line(out, at, answer)
 }
 
 // A run pushed to the packet, in the single-service form.
-fn push_single(out: &mut [u8], at: usize, before: DTVCCPacket, args: &[u8]) -> OnPacket
-    ensures { Runs (pushes_single (byte args.now 0) (drop 1 args.now) before) out.old at result.ran result.laid result.packet out.new }
+fn push_single(out: &mut [u8], at: usize, packet: &mut DTVCCPacket, number: u8, run: &[u8]) -> usize
+    ensures { Did (pushes_single number run.now packet.old) out.old at result packet.new out.new }
 {
-    let run = part(args, 1, args.len());
-    packet_pushed(
-        out,
-        at,
-        before.push_code_into_single_service(byte_at(args, 0), run),
-    )
+    let answer = packet.push_code_into_single_service(number, run);
+    script_answers::put_done_line(out, at, answer)
 }
 
-// What a reading tells, and the packet that it leaves: the one that was read, or the one that was there.
-fn packet_read(out: &mut [u8], at: usize, before: DTVCCPacket, read: PacketAnswer) -> OnPacket
-    ensures { Runs (packet_read before (said_answer read.answer) read.packet) out.old at result.ran result.laid result.packet out.new }
+// A packet read plainly out of bytes, where the call accepts.
+fn read_packet(out: &mut [u8], at: usize, packet: &mut DTVCCPacket, bytes: &[u8]) -> usize
+    ensures { Did (reads_plainly bytes.now packet.old) out.old at result packet.new out.new }
 {
-    let answer = read.answer;
-    let made = read.packet;
-    let laid = put_packet_line(out, at, answer, made);
-    let packet = packet_kept(answer, made, before);
-    OnPacket {
-        ran: true,
-        laid,
-        packet,
+    match DTVCCPacket::parse(bytes) {
+        Ok(read) => {
+            *packet = read;
+            put_held_line(out, at, packet)
+        }
+        Err(why) => script_answers::put_refusal_line(out, at, why),
     }
 }
 
-// The packet written to a lent output, which is told whole.
-fn tell_packet(out: &mut [u8], at: usize, held: DTVCCPacket, lent: &mut [u8]) -> usize
-    ensures { Lends (valid_dtvcc held) (written_packet (packet_of held)) lent.old lent.new out.old at result out.new }
+// A packet read tidily out of bytes, where the call accepts.
+fn read_tidily(out: &mut [u8], at: usize, packet: &mut DTVCCPacket, bytes: &[u8]) -> usize
+    ensures { Did (reads_tidily bytes.now packet.old) out.old at result packet.new out.new }
 {
-    let counted = held.write(lent);
-    script_answers::put_lent_line(out, at, counted, lent)
+    match DTVCCPacket::parse_tidy(bytes) {
+        Ok(read) => {
+            *packet = read;
+            put_held_line(out, at, packet)
+        }
+        Err(why) => script_answers::put_refusal_line(out, at, why),
+    }
 }
 
 // Two fields of the packet set, whatever they break.
-fn set_packet(out: &mut [u8], at: usize, before: DTVCCPacket, args: &[u8]) -> OnPacket
-    ensures { Runs (sets_packet (byte args.now 0) (byte args.now 1) before) out.old at result.ran result.laid result.packet out.new }
+fn set_packet(out: &mut [u8], at: usize, packet: &mut DTVCCPacket, sequence: u8, count: u8) -> usize
+    ensures { Did (sets_packet sequence count packet.old) out.old at result packet.new out.new }
 {
-    let mut packet = before;
-    packet.seq_no = byte_at(args, 0);
-    packet.count = byte_at(args, 1) as usize;
-    let laid = script_answers::put_ok_line(out, at);
-    OnPacket {
-        ran: true,
-        laid,
-        packet,
-    }
-}
-
-// The packet measured: sequence number, length, room, blocks.
-fn measure_packet(out: &mut [u8], at: usize, packet: DTVCCPacket) -> OnPacket
-    ensures { Runs (measures_packet packet) out.old at result.ran result.laid result.packet out.new }
-{
-    let sequence = packet.sequence_no();
-    let length = packet.len();
-    let room = packet.free_space();
-    let blocks = packet.service_count();
-    let laid = script_answers::put_four_line(out, at, sequence, length, room, blocks);
-    OnPacket {
-        ran: true,
-        laid,
-        packet,
-    }
+    packet.seq_no = sequence;
+    packet.count = count as usize;
+    script_answers::put_ok_line(out, at)
 }
 
 // The packet's set becomes that of eight bytes, whatever it breaks.
-fn set_services(out: &mut [u8], at: usize, before: DTVCCPacket, args: &[u8]) -> OnPacket
-    ensures { Runs (sets_services (set_in args.now) before) out.old at result.ran result.laid result.packet out.new }
+fn set_services(out: &mut [u8], at: usize, packet: &mut DTVCCPacket, services: u64) -> usize
+    ensures { Did (sets_services services packet.old) out.old at result packet.new out.new }
 {
-    let mut packet = before;
-    packet.services = set_in(args);
-    let laid = script_answers::put_ok_line(out, at);
-    OnPacket {
-        ran: true,
-        laid,
-        packet,
-    }
+    packet.services = services;
+    script_answers::put_ok_line(out, at)
 }
 
-// The services of the packet: their set, and how many they are.
-fn tell_services(out: &mut [u8], at: usize, packet: DTVCCPacket) -> OnPacket
-    ensures { Runs (tells_services packet) out.old at result.ran result.laid result.packet out.new }
+// The packet measured: sequence number, length, room, blocks.
+fn measured_packet(packet: &DTVCCPacket) -> Result<[usize; 4], Refusal>
+    ensures { outcome result ≡ measured_packet packet.now }
 {
-    let laid = put_services_line(out, at, packet);
-    OnPacket {
-        ran: true,
-        laid,
-        packet,
-    }
+    let sequence = packet.sequence_no()?;
+    let length = packet.len()?;
+    let room = packet.free_space()?;
+    let blocks = packet.service_count()?;
+    Ok([sequence as usize, length, room, blocks])
 }
 
-// The packet written to an output of as many bytes as the argument says.
-fn write_packet(out: &mut [u8], at: usize, packet: DTVCCPacket, args: &[u8]) -> OnPacket
-    ensures { Runs (writes_packet (byte args.now 0) packet) out.old at result.ran result.laid result.packet out.new }
+// The packet written to an output of so many bytes, which is told whole.
+fn put_written_packet(out: &mut [u8], at: usize, packet: &DTVCCPacket, len: u8) -> usize
+    ensures { Laid (written_line (valid_dtvcc packet.now) (bytes_of packet.now) len)
+        out.old at result out.new }
 {
     let mut lent = [0xA5u8; 255];
-    let end = byte_at(args, 0) as usize;
-    let laid = tell_packet(out, at, packet, &mut lent[0..end]);
-    OnPacket {
-        ran: true,
-        laid,
-        packet,
-    }
+    let front = &mut lent[..len as usize];
+    let answer = packet.write(front);
+    script_answers::put_written_line(out, at, answer, front)
 }
 
-// The operations that tell of the packet, and leave it as it is.
-fn on_packet_telling(out: &mut [u8], at: usize, p: DTVCCPacket, op: u8, args: &[u8]) -> OnPacket
-    ensures { Asked (sought (telling_rows p) op args.now) p out.old at result.ran result.laid result.packet out.new }
-{
-    let n = args.len();
-    if asks(op, b'l', n == 0) {
-        return measure_packet(out, at, p);
-    }
-    if asks(op, b'o', n == 1) {
-        return write_packet(out, at, p, args);
-    }
-    if asks(op, b'z', n == 0) {
-        return tell_services(out, at, p);
-    }
-    OnPacket {
-        ran: false,
-        laid: at,
-        packet: p,
-    }
-}
-
-// Those that push to it, and behind them the ones above.
-fn on_packet_pushing(
-    out: &mut [u8],
-    at: usize,
-    s: Service,
-    p: DTVCCPacket,
-    op: u8,
-    args: &[u8],
-) -> OnPacket
-    ensures { Asked (sought (pushing_rows s p) op args.now) p out.old at result.ran result.laid result.packet out.new }
-{
-    let n = args.len();
-    if asks(op, b'v', n == 0) {
-        return packet_pushed(out, at, p.push_service(s));
-    }
-    if asks(op, b'a', 1 <= n) {
-        return push_run(out, at, p, args);
-    }
-    if asks(op, b'i', 1 <= n) {
-        return push_single(out, at, p, args);
-    }
-    on_packet_telling(out, at, p, op, args)
-}
-
-// The operations on the packet: those that replace it or fields of it, and behind them the ones above.
+/// An operation on the packet, to which the block can be pushed, by its letter and its argument
+/// bytes: the place behind the line that tells of it, or `None` for one that there is not, which
+/// does nothing.
+#[tactic(auto, unfolding(crate::specs::Packets::packet_rows, crate::specs::Packets::pushing_rows, crate::specs::Packets::telling_rows, script_answers::specs::Rows::sought))]
 pub fn on_packet(
     out: &mut [u8],
     at: usize,
-    s: Service,
-    p: DTVCCPacket,
+    block: &Service,
+    packet: &mut DTVCCPacket,
     op: u8,
     args: &[u8],
-) -> OnPacket
-    ensures { Asked (sought (packet_rows s p) op args.now) p out.old at result.ran result.laid result.packet out.new }
+) -> Option<usize>
+    ensures { Tried (sought (packet_rows block.now packet.old) op args.now)
+        packet.old out.old at result packet.new out.new }
 {
-    let n = args.len();
-    if asks(op, b'k', n == 1) {
-        return new_packet(out, at, p, args);
+    match (op, args) {
+        (b'k', [sequence]) => Some(new_packet(out, at, packet, *sequence)),
+        (b'p', bytes) => Some(read_packet(out, at, packet, bytes)),
+        (b't', bytes) => Some(read_tidily(out, at, packet, bytes)),
+        (b'K', [sequence, count]) => Some(set_packet(out, at, packet, *sequence, *count)),
+        (b'Z', bytes) if bytes.len() == 8 => Some(set_services(out, at, packet, set_in(bytes))),
+        (b'v', []) => Some(push_block(out, at, packet, block)),
+        (b'a', [number, run @ ..]) => Some(push_run(out, at, packet, *number, run)),
+        (b'i', [number, run @ ..]) => Some(push_single(out, at, packet, *number, run)),
+        (b'l', []) => Some(script_answers::put_measures_line(out, at, measured_packet(packet))),
+        (b'o', [len]) => Some(put_written_packet(out, at, packet, *len)),
+        (b'z', []) => Some(put_services_line(out, at, packet)),
+        _ => None,
     }
-    if asks(op, b'p', true) {
-        return packet_read(out, at, p, DTVCCPacket::parse(args));
-    }
-    if asks(op, b't', true) {
-        return packet_read(out, at, p, DTVCCPacket::parse_tidy(args));
-    }
-    if asks(op, b'K', n == 2) {
-        return set_packet(out, at, p, args);
-    }
-    if asks(op, b'Z', n == 8) {
-        return set_services(out, at, p, args);
-    }
-    on_packet_pushing(out, at, s, p, op, args)
 }

@@ -2,11 +2,10 @@
 use mathlib.Core.Path.{◌≡◌, refl}
 use mathlib.Core.List.{List, ◌++◌}
 use Prim.Native.Nat.{ℕ}
+use Rattle.model.specs.Said.{accepted}
 use Rattle.model.specs.Demux.{pair_values}
 use Rattle.caption.specs.declared.Cea608.{Cea608}
 use Rattle.caption.specs.declared.Cea608.TheVariants as cea608
-use Rattle.caption.specs.declared.Refusal.{Refusal}
-use Rattle.caption.specs.Answers.{said_refusal}
 use Rattle.caption.specs.Pairs.{cea608_of}
 use Rattle.packet.specs.declared.DTVCCPacket.{DTVCCPacket}
 use Rattle.parser.specs.declared.Item.{Item}
@@ -16,8 +15,6 @@ use Rattle.program_text.specs.Laid.{Laid}
 use Rattle.program_text.specs.Text.{word, decimal, decimal_in, digit}
 use Rattle.program_text.proofs.Layings.{laid_append}
 use Rattle.program_lines.specs.Lines.{pair_text}
-use Rattle.script_answers.specs.Script.{answer_line}
-use Rattle.script_answers.proofs.Parts.{refused_number}
 use Rattle.script_packets.specs.Lines.{held_text}
 use Rattle.script_parsers.specs.Lines.{item_text, item_line}
 
@@ -34,20 +31,15 @@ three_parts f h l = laid_append (laid_append f h) l
 
 module _ {out after : List ℕ} {at r : ℕ} where
   pub item_pair : (i : Item) (k : DTVCCPacket) (x : Cea608) → i ≡ item.Pair x → Laid (word "ok " ++ pair_text (cea608_of x) ++ word "\n") out at r after
-      → Laid (item_line (said_item i) k) out at r after
+      → Laid (item_line (accepted (said_item i)) k) out at r after
   unfolding item_line
   item_pair i k x e l = rw (e, pair_text_same x k) l
 
   pub item_packet : (i : Item) (k : DTVCCPacket) → i ≡ item.Packet → Laid (word "ok packet" ++ held_text k ++ word "\n") out at r after
-      → Laid (item_line (said_item i) k) out at r after
+      → Laid (item_line (accepted (said_item i)) k) out at r after
   unfolding item_line item_text
   item_packet i k e l = rw e l
 
-  pub item_none : (i : Item) (k : DTVCCPacket) → i ≡ item.Nothing → Laid (word "ok none\n") out at r after → Laid (item_line (said_item i) k) out at r after
+  pub item_none : (i : Item) (k : DTVCCPacket) → i ≡ item.Nothing → Laid (word "ok none\n") out at r after → Laid (item_line (accepted (said_item i)) k) out at r after
   unfolding item_line item_text
   item_none i k e l = rw e l
-
-  pub item_refused : (i : Item) (k : DTVCCPacket) (why : Refusal) → i ≡ item.Refused why → Laid (answer_line (said_refusal why)) out at r after
-      → Laid (item_line (said_item i) k) out at r after
-  unfolding item_line
-  item_refused i k why e l = rw (e, refused_number why) l

@@ -42,20 +42,9 @@ draws r =
 abbrev pub flushes_parser : CCDataParser → Effect CCDataParser
 flushes_parser r = calls (λ _. fresh) r (quiet (flush_demux (means r)))
 
--- its three counts, a byte each, whatever they break
-abbrev pub sets_parser : List ℕ → CCDataParser → Effect CCDataParser
-sets_parser a r =
-    becomes
-    (record {
-      cea608_on = r.cea608_on;
-      pair_count = byte a 0;
-      pairs = r.pairs;
-      pending_len = byte a 1;
-      pending = r.pending;
-      waiting_first = r.waiting_first;
-      waiting_count = byte a 2;
-      waiting = r.waiting;
-    })
+-- its three counts, whatever they break
+abbrev pub sets_parser : ℕ → ℕ → ℕ → CCDataParser → Effect CCDataParser
+sets_parser pairs pending waiting r = becomes (record r { pair_count = pairs; pending_len = pending; waiting_count = waiting })
 
 -- those that frames go in by, and items out
 unfoldable pub streaming_rows : CCDataParser → List (Row CCDataParser)
@@ -70,5 +59,5 @@ parser_rows r =
     row "R" (exactly 0) (λ a. renews_parser)
     ∷ row "H" (exactly 0) (λ a. turns_on r)
     ∷ row "F" (exactly 0) (λ a. flushes_parser r)
-    ∷ row "D" (exactly 3) (λ a. sets_parser a r)
+    ∷ row "D" (exactly 3) (λ a. sets_parser (byte a 0) (byte a 1) (byte a 2) r)
     ∷ streaming_rows r

@@ -1,34 +1,25 @@
-// The operations of a script, by their letters, on its demultiplexer: each makes one call, lays the line that tells of it into a lent buffer from
-// a place on, and answers the place behind the line beside what the call leaves.
+// The operations of a script, by their letters, on its demultiplexer: each makes one call, and lays the line that tells of it into a lent buffer from
+// a place on.
 #![tactic(auto)]
 
 ghost use Rattle.std.specs.Prelude.{◌++◌};
-ghost use Rattle.caption.specs.Answers.{said_answer};
+ghost use Rattle.model.specs.Said.{accepted};
 ghost use Rattle.caption.specs.Pairs.{cea608_of};
-ghost use Rattle.parser.specs.Items.{said_item};
+ghost use Rattle.parser.specs.Items.{drawn_values};
 ghost use Rattle.program_text.specs.Laid.{Laid};
 ghost use Rattle.program_text.specs.Text.{word};
 ghost use Rattle.program_lines.specs.Lines.{pair_text};
-ghost use Rattle.script_answers.specs.Steps.{Runs, tells};
-ghost use Rattle.script_answers.specs.Rows.{sought, Asked};
+ghost use Rattle.script_answers.specs.Steps.{Did};
+ghost use Rattle.script_answers.specs.Rows.{sought, Tried};
 ghost use Rattle.script_packets.specs.Lines.{held_text};
 ghost use Rattle.script_parsers.specs.Lines.{item_line};
-ghost use Rattle.script_parsers.specs.Parsers.{renews_parser, draws, sets_parser, streaming_rows, parser_rows};
+ghost use Rattle.script_parsers.specs.Parsers.{renews_parser, turns_on, flushes_parser, sets_parser};
+ghost use Rattle.script_parsers.specs.Parsers.{pushes_frame, draws, parser_rows};
 
 use caption::Cea608;
 use packet::DTVCCPacket;
-use parser::{CCDataParser, Item, ParserAnswer};
-use program_records::byte_at;
+use parser::{CCDataParser, Drawn, Item};
 use program_text::{put_newline, put_word};
-use script_answers::asks;
-
-// Whether an operation was run, the place behind its line, and the demultiplexer.
-#[derive(Clone, Copy)]
-pub struct OnParser {
-    pub ran: bool,
-    pub laid: usize,
-    pub parser: CCDataParser,
-}
 
 // A pair that was drawn.
 fn put_pair_line(out: &mut [u8], at: usize, pair: Cea608) -> usize
@@ -40,8 +31,8 @@ fn put_pair_line(out: &mut [u8], at: usize, pair: Cea608) -> usize
 }
 
 // A packet that was drawn.
-fn put_drawn_packet(out: &mut [u8], at: usize, packet: DTVCCPacket) -> usize
-    ensures { Laid (word "ok packet" ++ held_text packet ++ word "\n") out.old at result out.new }
+fn put_drawn_packet(out: &mut [u8], at: usize, packet: &DTVCCPacket) -> usize
+    ensures { Laid (word "ok packet" ++ held_text packet.now ++ word "\n") out.old at result out.new }
 {
     let p = put_word(out, at, b"ok packet");
     let q = script_packets::put_packet(out, p, packet);
@@ -49,110 +40,98 @@ fn put_drawn_packet(out: &mut [u8], at: usize, packet: DTVCCPacket) -> usize
 }
 
 // An item that was drawn, and the packet beside it.
-fn put_item_line(out: &mut [u8], at: usize, item: Item, packet: DTVCCPacket) -> usize
-    ensures { Laid (item_line (said_item item) packet) out.old at result out.new }
+fn put_item_line(out: &mut [u8], at: usize, drawn: &Drawn) -> usize
+    ensures { Laid (item_line (accepted (drawn_values drawn.now)) drawn.now.packet)
+        out.old at result out.new }
 {
-    match item {
+    match drawn.item {
         Item::Pair(pair) => put_pair_line(out, at, pair),
-        Item::Packet => put_drawn_packet(out, at, packet),
+        Item::Packet => put_drawn_packet(out, at, &drawn.packet),
         Item::Nothing => put_word(out, at, b"ok none\n"),
-        Item::Refused(why) => script_answers::put_refusal_line(out, at, why),
-    }
-}
-
-// What a call leaves of a demultiplexer.
-fn told_parser(out: &mut [u8], at: usize, done: ParserAnswer) -> OnParser
-    ensures { Runs (tells (said_answer done.answer) done.parser) out.old at result.ran result.laid result.parser out.new }
-{
-    let answer = done.answer;
-    let parser = done.parser;
-    let laid = script_answers::put_answer_line(out, at, answer);
-    OnParser {
-        ran: true,
-        laid,
-        parser,
-    }
-}
-
-// One item drawn.
-fn draw(out: &mut [u8], at: usize, before: CCDataParser) -> OnParser
-    ensures { Runs (draws before) out.old at result.ran result.laid result.parser out.new }
-{
-    let drawn = before.draw();
-    let item = drawn.item;
-    let packet = drawn.packet;
-    let parser = drawn.parser;
-    let laid = put_item_line(out, at, item, packet);
-    OnParser {
-        ran: true,
-        laid,
-        parser,
     }
 }
 
 // A fresh demultiplexer.
-fn new_parser(out: &mut [u8], at: usize) -> OnParser
-    ensures { Runs renews_parser out.old at result.ran result.laid result.parser out.new }
+fn new_parser(out: &mut [u8], at: usize, parser: &mut CCDataParser) -> usize
+    ensures { Did renews_parser out.old at result parser.new out.new }
 {
-    let parser = CCDataParser::new();
-    let laid = script_answers::put_ok_line(out, at);
-    OnParser {
-        ran: true,
-        laid,
-        parser,
-    }
+    *parser = CCDataParser::new();
+    script_answers::put_ok_line(out, at)
+}
+
+// 608 turned on.
+fn turn_on(out: &mut [u8], at: usize, parser: &mut CCDataParser) -> usize
+    ensures { Did (turns_on parser.old) out.old at result parser.new out.new }
+{
+    let answer = parser.handle_cea608();
+    script_answers::put_done_line(out, at, answer)
+}
+
+// All of it thrown away.
+fn flush(out: &mut [u8], at: usize, parser: &mut CCDataParser) -> usize
+    ensures { Did (flushes_parser parser.old) out.old at result parser.new out.new }
+{
+    let answer = parser.flush();
+    script_answers::put_done_line(out, at, answer)
 }
 
 // The three counts of the demultiplexer set, whatever they break.
-fn set_parser(out: &mut [u8], at: usize, before: CCDataParser, args: &[u8]) -> OnParser
-    ensures { Runs (sets_parser args.now before) out.old at result.ran result.laid result.parser out.new }
+fn set_parser(
+    out: &mut [u8],
+    at: usize,
+    parser: &mut CCDataParser,
+    pairs: u8,
+    pending: u8,
+    waiting: u8,
+) -> usize
+    ensures { Did (sets_parser pairs pending waiting parser.old) out.old at result parser.new out.new }
 {
-    let mut parser = before;
-    parser.pair_count = byte_at(args, 0) as usize;
-    parser.pending_len = byte_at(args, 1) as usize;
-    parser.waiting_count = byte_at(args, 2) as usize;
-    let laid = script_answers::put_ok_line(out, at);
-    OnParser {
-        ran: true,
-        laid,
-        parser,
+    parser.pair_count = pairs as usize;
+    parser.pending_len = pending as usize;
+    parser.waiting_count = waiting as usize;
+    script_answers::put_ok_line(out, at)
+}
+
+// A frame pushed.
+fn push(out: &mut [u8], at: usize, parser: &mut CCDataParser, frame: &[u8]) -> usize
+    ensures { Did (pushes_frame frame.now parser.old) out.old at result parser.new out.new }
+{
+    let answer = parser.push(frame);
+    script_answers::put_done_line(out, at, answer)
+}
+
+// One item drawn.
+fn draw(out: &mut [u8], at: usize, parser: &mut CCDataParser) -> usize
+    ensures { Did (draws parser.old) out.old at result parser.new out.new }
+{
+    match parser.draw() {
+        Ok(drawn) => put_item_line(out, at, &drawn),
+        Err(why) => script_answers::put_refusal_line(out, at, why),
     }
 }
 
-// The operations that frames go in by, and items out.
-fn on_parser_streaming(out: &mut [u8], at: usize, r: CCDataParser, op: u8, args: &[u8]) -> OnParser
-    ensures { Asked (sought (streaming_rows r) op args.now) r out.old at result.ran result.laid result.parser out.new }
+/// An operation on the demultiplexer, by its letter and its argument bytes: the place behind the
+/// line that tells of it, or `None` for one that there is not, which does nothing.
+#[tactic(auto, unfolding(crate::specs::Parsers::parser_rows, crate::specs::Parsers::streaming_rows, script_answers::specs::Rows::sought))]
+pub fn on_parser(
+    out: &mut [u8],
+    at: usize,
+    parser: &mut CCDataParser,
+    op: u8,
+    args: &[u8],
+) -> Option<usize>
+    ensures { Tried (sought (parser_rows parser.old) op args.now)
+        parser.old out.old at result parser.new out.new }
 {
-    let n = args.len();
-    if asks(op, b'f', true) {
-        return told_parser(out, at, r.push(args));
+    match (op, args) {
+        (b'R', []) => Some(new_parser(out, at, parser)),
+        (b'H', []) => Some(turn_on(out, at, parser)),
+        (b'F', []) => Some(flush(out, at, parser)),
+        (b'D', [pairs, pending, waiting]) => {
+            Some(set_parser(out, at, parser, *pairs, *pending, *waiting))
+        }
+        (b'f', frame) => Some(push(out, at, parser, frame)),
+        (b'n', []) => Some(draw(out, at, parser)),
+        _ => None,
     }
-    if asks(op, b'n', n == 0) {
-        return draw(out, at, r);
-    }
-    OnParser {
-        ran: false,
-        laid: at,
-        parser: r,
-    }
-}
-
-// The operations on the demultiplexer: those that set it, and behind them the ones above.
-pub fn on_parser(out: &mut [u8], at: usize, r: CCDataParser, op: u8, args: &[u8]) -> OnParser
-    ensures { Asked (sought (parser_rows r) op args.now) r out.old at result.ran result.laid result.parser out.new }
-{
-    let n = args.len();
-    if asks(op, b'R', n == 0) {
-        return new_parser(out, at);
-    }
-    if asks(op, b'H', n == 0) {
-        return told_parser(out, at, r.handle_cea608());
-    }
-    if asks(op, b'F', n == 0) {
-        return told_parser(out, at, r.flush());
-    }
-    if asks(op, b'D', n == 3) {
-        return set_parser(out, at, r, args);
-    }
-    on_parser_streaming(out, at, r, op, args)
 }

@@ -1,14 +1,9 @@
 -- The services of a packet in the lines and the arguments of a script. Assumes nothing.
 use Rattle.std.specs.Prelude.{cond, List, [], ◌∷◌, ◌++◌, ℕ, zero, suc, ◌+◌, ◌*◌, ◌/◌, ◌%◌, ◌^◌, get_or, drop}
-use Rattle.model.specs.Said.{bad_value}
+use Rattle.model.specs.Said.{Outcome, bad_value}
 use Rattle.model.specs.Services.{services_of, distinct_services}
-use Rattle.caption.specs.Answers.{said_refusal}
-use Rattle.caption.specs.declared.Counted.{Counted}
-use Rattle.caption.specs.declared.Counted.TheVariants as counted
 use Rattle.packet.specs.declared.DTVCCPacket.{DTVCCPacket}
-use Rattle.packet.specs.declared.ServiceSet.{ServiceSet}
-use Rattle.packet.specs.declared.ServiceSet.TheVariants as set
-use Rattle.packet.specs.Packet.{packet_of, valid_dtvcc}
+use Rattle.packet.specs.Packet.{packet_of, valid_dtvcc, asked}
 use Rattle.program_text.specs.Text.{word}
 use Rattle.program_lines.specs.Lines.{value_text, run_text}
 use Rattle.script_answers.specs.Script.{answer_line}
@@ -35,8 +30,6 @@ set_line set n = word "ok" ++ run_text (highest_bytes 8 set) ++ value_text n ++ 
 unfoldable pub services_line : DTVCCPacket → List ℕ
 services_line p = cond (valid_dtvcc p) (set_line (services_of (packet_of p)) (distinct_services (packet_of p))) (answer_line bad_value)
 
--- what two calls tell of them
-unfoldable pub told_line : ServiceSet → Counted → List ℕ
-told_line (set.Of s) (counted.Count n) = set_line s n
-told_line (set.Of s) (counted.Refused why) = answer_line (said_refusal why)
-told_line (set.Refused why) many = answer_line (said_refusal why)
+-- the two numbers of that line
+abbrev pub counted_set : DTVCCPacket → Outcome (ℕ × ℕ)
+counted_set p = asked p (λ q. (services_of q, distinct_services q))

@@ -3,10 +3,11 @@
 
 ghost use Rattle.std.specs.Prelude.{◌≡◌};
 ghost use Rattle.program_text.specs.Laid.{Laid};
-ghost use Rattle.script_services.specs.Sets.{highest_bytes, set_in, set_line, told_line, services_line};
+ghost use Rattle.caption.specs.Answers.{outcome};
+ghost use Rattle.script_services.specs.Sets.{highest_bytes, set_in, set_line, counted_set, services_line};
 
-use caption::Counted;
-use packet::{DTVCCPacket, ServiceSet};
+use caption::Refusal;
+use packet::DTVCCPacket;
 use program_records::number_at;
 use program_text::{put_newline, put_word};
 
@@ -26,7 +27,7 @@ fn bytes_of(set: u64) -> [u8; 8]
     ]
 }
 
-// The set that the first eight bytes make, the highest first; bytes past the end count as 0.
+/// The set that the first eight bytes make, the highest first; bytes past the end count as 0.
 pub fn set_in(bytes: &[u8]) -> u64
     ensures { result ≡ set_in bytes.now }
 {
@@ -44,24 +45,21 @@ fn put_set_line(out: &mut [u8], at: usize, set: u64, many: u64) -> usize
     put_newline(out, r)
 }
 
-// The same where both are given, and else a refusal.
-fn put_told_line(out: &mut [u8], at: usize, set: ServiceSet, many: Counted) -> usize
-    ensures { Laid (told_line set many) out.old at result out.new }
+// The set of a packet's services, and how many they are.
+fn counted_set(packet: &DTVCCPacket) -> Result<(u64, usize), Refusal>
+    ensures { outcome result ≡ counted_set packet.now }
 {
-    match set {
-        ServiceSet::Of(bits) => match many {
-            Counted::Count(n) => put_set_line(out, at, bits, n as u64),
-            Counted::Refused(why) => script_answers::put_refusal_line(out, at, why),
-        },
-        ServiceSet::Refused(why) => script_answers::put_refusal_line(out, at, why),
-    }
+    let set = packet.service_set()?;
+    let many = packet.distinct_services()?;
+    Ok((set, many))
 }
 
-// The services of a packet.
-pub fn put_services_line(out: &mut [u8], at: usize, packet: DTVCCPacket) -> usize
-    ensures { Laid (services_line packet) out.old at result out.new }
+/// The services of a packet: their set and how many they are, or the refusal of both calls.
+pub fn put_services_line(out: &mut [u8], at: usize, packet: &DTVCCPacket) -> usize
+    ensures { Laid (services_line packet.now) out.old at result out.new }
 {
-    let set = packet.service_set();
-    let many = packet.distinct_services();
-    put_told_line(out, at, set, many)
+    match counted_set(packet) {
+        Ok((set, many)) => put_set_line(out, at, set, many as u64),
+        Err(why) => script_answers::put_refusal_line(out, at, why),
+    }
 }

@@ -1,6 +1,6 @@
 -- The operations of a script on its multiplexer, to which its packet can be pushed: what each does, and their rows. Assumes nothing.
 use Rattle.std.specs.Prelude.{◌&&◌, List, [], ◌∷◌, ℕ, ◌/◌, ◌%◌, eqb, length, drop}
-use Rattle.model.specs.Said.{Said, gave, checked, says_with, mapped, after}
+use Rattle.model.specs.Said.{Said, Outcome, gave, checked, says_with, mapped, after}
 use Rattle.model.specs.Duration.{field1_duration, field2_duration, packet_duration}
 use Rattle.model.specs.Mux.{with_pads, with_mode, with_true_count, flush_mux, push_packet, push_cea608}
 use Rattle.caption.specs.declared.Framerate.{Framerate}
@@ -14,7 +14,7 @@ use Rattle.writer.specs.declared.CCDataWriter.{CCDataWriter}
 use Rattle.writer.specs.Writer.{means, valid_writer, fresh, stored, emptied, moved}
 use Rattle.writer.specs.Calls.{written}
 use Rattle.program_records.specs.Reading.{highest_first}
-use Rattle.script_answers.specs.Script.{answer_line, lent_line, measures}
+use Rattle.script_answers.specs.Script.{answer_line, lent_line}
 use Rattle.script_answers.specs.Steps.{Effect, lays, becomes, stays, lent_out}
 use Rattle.script_answers.specs.Rows.{Row, row, exactly, byte}
 
@@ -50,9 +50,13 @@ wrote speed out w =
 abbrev pub writes_frame : List ℕ → CCDataWriter → Effect CCDataWriter
 writes_frame a w = wrote (rate (highest_first a) (highest_first (drop 4 a))) (lent_out (byte a 8)) w
 
--- how many microseconds field 1, field 2 and the packets take [D]
-unfoldable pub durations : CCDataWriter → Said
-durations w = measures (valid_writer w) (field1_duration (means w) ∷ field2_duration (means w) ∷ packet_duration (means w) ∷ [])
+-- how many microseconds field 1, field 2 and the packets take [D],
+abbrev pub measured_times : CCDataWriter → Outcome (List ℕ)
+measured_times w = checked (valid_writer w) (gave (field1_duration (means w) ∷ field2_duration (means w) ∷ packet_duration (means w) ∷ []))
+
+-- as they are told
+abbrev pub durations : CCDataWriter → Said
+durations w = says_with (λ ks. ks) (measured_times w)
 
 -- its three durations
 abbrev pub tells_durations : CCDataWriter → Effect CCDataWriter
@@ -100,22 +104,7 @@ sets_carry a w =
       carry = record { numer = highest_first (drop 0 a); denom = highest_first (drop 4 a); pairs = highest_first (drop 8 a); triples = highest_first (drop 12 a) };
     })
 
--- those that frames and durations come out by
-unfoldable pub leaving_rows : CCDataWriter → List (Row CCDataWriter)
-leaving_rows w =
-    row "w" (exactly 9) (λ a. writes_frame a w)
-    ∷ row "u" (exactly 0) (λ a. tells_durations w)
-    ∷ []
-
--- before those the ones that push to it
-unfoldable pub pushing_rows : DTVCCPacket → CCDataWriter → List (Row CCDataWriter)
-pushing_rows p w =
-    row "q" (exactly 0) (λ a. pushes_packet p w)
-    ∷ row "1" (exactly 2) (λ a. pushes_pair (Field1 (byte a 0) (byte a 1)) w)
-    ∷ row "2" (exactly 2) (λ a. pushes_pair (Field2 (byte a 0) (byte a 1)) w)
-    ∷ leaving_rows w
-
--- all, and before those the ones that set it
+-- all: those that set it, behind them the ones that push to it, and the ones that frames and durations come out by
 unfoldable pub writer_rows : DTVCCPacket → CCDataWriter → List (Row CCDataWriter)
 writer_rows p w =
     row "W" (exactly 0) (λ a. renews_writer)
@@ -123,4 +112,9 @@ writer_rows p w =
     ∷ row "x" (exactly 0) (λ a. flushes_writer w)
     ∷ row "Q" (exactly 4) (λ a. sets_writer a w)
     ∷ row "C" (exactly 16) (λ a. sets_carry a w)
-    ∷ pushing_rows p w
+    ∷ row "q" (exactly 0) (λ a. pushes_packet p w)
+    ∷ row "1" (exactly 2) (λ a. pushes_pair (Field1 (byte a 0) (byte a 1)) w)
+    ∷ row "2" (exactly 2) (λ a. pushes_pair (Field2 (byte a 0) (byte a 1)) w)
+    ∷ row "w" (exactly 9) (λ a. writes_frame a w)
+    ∷ row "u" (exactly 0) (λ a. tells_durations w)
+    ∷ []

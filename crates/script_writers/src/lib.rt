@@ -1,255 +1,146 @@
-// The operations of a script, by their letters, on its multiplexer: each makes its call (that of the switches one for each of the four), lays the
-// line that tells of it into a lent buffer from a place on, and answers the place behind the line beside what is left.
+// The operations of a script, by their letters, on its multiplexer: each makes its call (that of the switches one for each of the four), and lays the
+// line that tells of it into a lent buffer from a place on.
 #![tactic(auto)]
 
-ghost use Rattle.std.specs.Prelude.{◌≡◌};
-ghost use Rattle.model.specs.Said.{mapped, after};
-ghost use Rattle.caption.specs.declared.Cea608.TheVariants.{Field1, Field2};
-ghost use Rattle.caption.specs.Answers.{said_answer, said_counted};
-ghost use Rattle.writer.specs.Calls.{written, said_micros};
-ghost use Rattle.script_answers.specs.Steps.{Runs, tells};
-ghost use Rattle.script_answers.specs.Rows.{byte, sought, Asked};
-ghost use Rattle.script_writers.specs.Writers.{renews_writer, switches, pushes_pair, wrote, writes_frame, tells_durations};
-ghost use Rattle.script_writers.specs.Writers.{sets_writer, sets_carry, leaving_rows, pushing_rows, writer_rows};
+ghost use Rattle.std.specs.Prelude.{◌≡◌, [], ◌∷◌};
+ghost use Rattle.caption.specs.Answers.{outcome};
+ghost use Rattle.model.specs.Mux.{carrying_mode};
+ghost use Rattle.script_answers.specs.Steps.{Did};
+ghost use Rattle.script_answers.specs.Rows.{sought, Tried};
+ghost use Rattle.script_writers.specs.Writers.{renews_writer, switches, pushes_packet, pushes_pair, writes_frame, measured_times};
+ghost use Rattle.script_writers.specs.Writers.{flushes_writer, sets_writer, sets_carry, writer_rows};
 
-use caption::{Cea608, Counted, Framerate};
+use caption::{Cea608, Framerate, Refusal};
 use packet::DTVCCPacket;
 use program_records::{byte_at, number_at};
-use script_answers::asks;
-use writer::{CCDataWriter, Micros, WriterAnswer};
+use script_answers::{put_done_line, put_measures_line, put_ok_line, put_written_line};
+use writer::CCDataWriter;
 use writer_shares::Carry;
 
-// Whether an operation was run, the place behind its line, and the multiplexer.
-#[derive(Clone, Copy)]
-pub struct OnWriter {
-    pub ran: bool,
-    pub laid: usize,
-    pub writer: CCDataWriter,
-}
-
-// A time as a number.
-fn micros_count(micros: Micros) -> Counted
-    ensures { said_counted result ≡ said_micros micros }
-{
-    match micros {
-        Micros::Of(n) => Counted::Count(n as usize),
-        Micros::Refused(why) => Counted::Refused(why),
-    }
-}
-
-// What a call leaves of a multiplexer.
-fn told_writer(out: &mut [u8], at: usize, done: WriterAnswer) -> OnWriter
-    ensures { Runs (tells (said_answer done.answer) done.writer) out.old at result.ran result.laid result.writer out.new }
-{
-    let answer = done.answer;
-    let writer = done.writer;
-    let laid = script_answers::put_answer_line(out, at, answer);
-    OnWriter {
-        ran: true,
-        laid,
-        writer,
-    }
-}
-
-// The four switches set, by four bits.
-fn switch(out: &mut [u8], at: usize, before: CCDataWriter, args: &[u8]) -> OnWriter
-    ensures { Runs (switches args.now before) out.old at result.ran result.laid result.writer out.new }
-{
-    let bits = byte_at(args, 0);
-    let first = before.set_output_cea608_padding(bits % 2 == 1);
-    let padded = first.writer;
-    let second = padded.set_output_padding(bits / 2 % 2 == 1);
-    let filled = second.writer;
-    let third = filled.set_carrying(bits / 4 % 2 == 1);
-    let writer = third.writer;
-    told_writer(out, at, writer.set_true_count(bits / 8 % 2 == 1))
-}
-
-// A pair of field 1 pushed.
-fn push_field1(out: &mut [u8], at: usize, before: CCDataWriter, args: &[u8]) -> OnWriter
-    ensures { Runs (pushes_pair (Field1 (byte args.now 0) (byte args.now 1)) before) out.old at result.ran result.laid result.writer out.new }
-{
-    let pair = Cea608::Field1(byte_at(args, 0), byte_at(args, 1));
-    told_writer(out, at, before.push_cea608(pair))
-}
-
-// A pair of field 2 pushed.
-fn push_field2(out: &mut [u8], at: usize, before: CCDataWriter, args: &[u8]) -> OnWriter
-    ensures { Runs (pushes_pair (Field2 (byte args.now 0) (byte args.now 1)) before) out.old at result.ran result.laid result.writer out.new }
-{
-    let pair = Cea608::Field2(byte_at(args, 0), byte_at(args, 1));
-    told_writer(out, at, before.push_cea608(pair))
-}
-
-// A frame written to a lent output, which is told whole.
-fn tell_frame(
-    out: &mut [u8],
-    at: usize,
-    before: CCDataWriter,
-    rate: Framerate,
-    lent: &mut [u8],
-) -> OnWriter
-    ensures runs { Runs (wrote rate lent.old before) out.old at result.ran result.laid result.writer out.new }
-    ensures lent_after { lent.new ≡ after lent.old (mapped (λ x. x.out) (written rate lent.old before)) }
-{
-    let done = before.write(rate, lent);
-    let counted = done.answer;
-    let writer = done.writer;
-    let laid = script_answers::put_lent_line(out, at, counted, lent);
-    OnWriter {
-        ran: true,
-        laid,
-        writer,
-    }
-}
-
 // A fresh multiplexer.
-fn new_writer(out: &mut [u8], at: usize) -> OnWriter
-    ensures { Runs renews_writer out.old at result.ran result.laid result.writer out.new }
+fn renew(out: &mut [u8], at: usize, writer: &mut CCDataWriter) -> usize
+    ensures { Did renews_writer out.old at result writer.new out.new }
 {
-    let writer = CCDataWriter::new();
-    let laid = script_answers::put_ok_line(out, at);
-    OnWriter {
-        ran: true,
-        laid,
-        writer,
-    }
+    *writer = CCDataWriter::new();
+    put_ok_line(out, at)
+}
+
+// The four switches set, by four bits: all are refused where the first is.
+fn switch(out: &mut [u8], at: usize, writer: &mut CCDataWriter, bits: u8) -> usize
+    ensures { Did (switches (bits ∷ []) writer.old) out.old at result writer.new out.new }
+{
+    let _ = writer.set_output_cea608_padding(bits % 2 == 1);
+    let _ = writer.set_output_padding(bits / 2 % 2 == 1);
+    let _ = writer.set_carrying(bits / 4 % 2 == 1);
+    let answer = writer.set_true_count(bits / 8 % 2 == 1);
+    put_done_line(out, at, answer)
+}
+
+// All that waits dropped.
+fn flush(out: &mut [u8], at: usize, writer: &mut CCDataWriter) -> usize
+    ensures { Did (flushes_writer writer.old) out.old at result writer.new out.new }
+{
+    let answer = writer.flush();
+    put_done_line(out, at, answer)
+}
+
+// The packet pushed.
+fn push_packet(out: &mut [u8], at: usize, writer: &mut CCDataWriter, packet: &DTVCCPacket) -> usize
+    ensures { Did (pushes_packet packet.now writer.old) out.old at result writer.new out.new }
+{
+    let answer = writer.push_packet(packet);
+    put_done_line(out, at, answer)
+}
+
+// A pair pushed.
+fn push_pair(out: &mut [u8], at: usize, writer: &mut CCDataWriter, pair: Cea608) -> usize
+    ensures { Did (pushes_pair pair writer.old) out.old at result writer.new out.new }
+{
+    let answer = writer.push_cea608(pair);
+    put_done_line(out, at, answer)
 }
 
 // The three counts of the multiplexer set, and how many bytes of the packet being sent have left, whatever they break.
-fn set_writer(out: &mut [u8], at: usize, before: CCDataWriter, args: &[u8]) -> OnWriter
-    ensures { Runs (sets_writer args.now before) out.old at result.ran result.laid result.writer out.new }
+fn set_counts(
+    out: &mut [u8],
+    at: usize,
+    writer: &mut CCDataWriter,
+    packets: u8,
+    sent: u8,
+    field1: u8,
+    field2: u8,
+) -> usize
+    ensures { Did (sets_writer (packets ∷ sent ∷ field1 ∷ field2 ∷ []) writer.old)
+        out.old at result writer.new out.new }
 {
-    let mut field1 = before.field1;
-    field1.count = byte_at(args, 2) as usize;
-    let mut field2 = before.field2;
-    field2.count = byte_at(args, 3) as usize;
-    let mut writer = before;
-    writer.packet_count = byte_at(args, 0) as usize;
-    writer.sent = byte_at(args, 1) as usize;
-    writer.field1 = field1;
-    writer.field2 = field2;
-    let laid = script_answers::put_ok_line(out, at);
-    OnWriter {
-        ran: true,
-        laid,
-        writer,
-    }
+    writer.packet_count = usize::from(packets);
+    writer.sent = usize::from(sent);
+    writer.field1.count = usize::from(field1);
+    writer.field2.count = usize::from(field2);
+    put_ok_line(out, at)
 }
 
 // The four carried parts of the multiplexer set, whatever they break.
-fn set_carry(out: &mut [u8], at: usize, before: CCDataWriter, args: &[u8]) -> OnWriter
-    ensures { Runs (sets_carry args.now before) out.old at result.ran result.laid result.writer out.new }
+fn set_carry(out: &mut [u8], at: usize, writer: &mut CCDataWriter, parts: &[u8]) -> usize
+    ensures { Did (sets_carry parts.now writer.old) out.old at result writer.new out.new }
 {
-    let carry = Carry {
-        numer: number_at(args, 0),
-        denom: number_at(args, 4),
-        pairs: number_at(args, 8),
-        triples: number_at(args, 12),
+    writer.carry = Carry {
+        numer: number_at(parts, 0),
+        denom: number_at(parts, 4),
+        pairs: number_at(parts, 8),
+        triples: number_at(parts, 12),
     };
-    let mut writer = before;
-    writer.carry = carry;
-    let laid = script_answers::put_ok_line(out, at);
-    OnWriter {
-        ran: true,
-        laid,
-        writer,
-    }
+    put_ok_line(out, at)
 }
 
-// A frame written to an output of as many bytes as the last argument says.
-fn write_frame(out: &mut [u8], at: usize, w: CCDataWriter, args: &[u8]) -> OnWriter
-    ensures { Runs (writes_frame args.now w) out.old at result.ran result.laid result.writer out.new }
+// A frame written at a rate, to an output of as many bytes as the last argument says, which is told whole.
+fn write_frame(out: &mut [u8], at: usize, writer: &mut CCDataWriter, args: &[u8]) -> usize
+    ensures { Did (writes_frame args.now writer.old) out.old at result writer.new out.new }
 {
     let rate = Framerate::new(number_at(args, 0), number_at(args, 4));
     let mut lent = [0xA5u8; 255];
-    let end = byte_at(args, 8) as usize;
-    tell_frame(out, at, w, rate, &mut lent[0..end])
+    let front = &mut lent[..byte_at(args, 8) as usize];
+    let answer = writer.write(rate, front);
+    put_written_line(out, at, answer, front)
 }
 
 // The durations of the multiplexer: field 1, field 2, packets.
-fn tell_durations(out: &mut [u8], at: usize, writer: CCDataWriter) -> OnWriter
-    ensures { Runs (tells_durations writer) out.old at result.ran result.laid result.writer out.new }
+fn measured_times(writer: &CCDataWriter) -> Result<[usize; 3], Refusal>
+    ensures { outcome result ≡ measured_times writer.now }
 {
-    let field1 = micros_count(writer.buffered_cea608_field1_duration());
-    let field2 = micros_count(writer.buffered_cea608_field2_duration());
-    let packets = micros_count(writer.buffered_packet_duration());
-    let laid = script_answers::put_three_line(out, at, field1, field2, packets);
-    OnWriter {
-        ran: true,
-        laid,
-        writer,
-    }
+    let field1 = writer.buffered_cea608_field1_duration()?;
+    let field2 = writer.buffered_cea608_field2_duration()?;
+    let packets = writer.buffered_packet_duration()?;
+    Ok([field1 as usize, field2 as usize, packets as usize])
 }
 
-// The operations that frames and durations come out by.
-fn on_writer_leaving(out: &mut [u8], at: usize, w: CCDataWriter, op: u8, args: &[u8]) -> OnWriter
-    ensures { Asked (sought (leaving_rows w) op args.now) w out.old at result.ran result.laid result.writer out.new }
-{
-    let n = args.len();
-    if asks(op, b'w', n == 9) {
-        return write_frame(out, at, w, args);
-    }
-    if asks(op, b'u', n == 0) {
-        return tell_durations(out, at, w);
-    }
-    OnWriter {
-        ran: false,
-        laid: at,
-        writer: w,
-    }
-}
-
-// Those that push to it, and behind them the ones above.
-fn on_writer_pushing(
-    out: &mut [u8],
-    at: usize,
-    p: DTVCCPacket,
-    w: CCDataWriter,
-    op: u8,
-    args: &[u8],
-) -> OnWriter
-    ensures { Asked (sought (pushing_rows p w) op args.now) w out.old at result.ran result.laid result.writer out.new }
-{
-    let n = args.len();
-    if asks(op, b'q', n == 0) {
-        return told_writer(out, at, w.push_packet(p));
-    }
-    if asks(op, b'1', n == 2) {
-        return push_field1(out, at, w, args);
-    }
-    if asks(op, b'2', n == 2) {
-        return push_field2(out, at, w, args);
-    }
-    on_writer_leaving(out, at, w, op, args)
-}
-
-// The operations on the multiplexer: those that set it, and behind them the ones above.
+/// An operation on the multiplexer, by its letter and its argument bytes: the place behind the line
+/// that tells of it, or `None` for one that there is not, which does nothing.
+#[tactic(auto, unfolding(crate::specs::Writers::writer_rows, script_answers::specs::Rows::sought))]
 pub fn on_writer(
     out: &mut [u8],
     at: usize,
-    p: DTVCCPacket,
-    w: CCDataWriter,
+    packet: &DTVCCPacket,
+    writer: &mut CCDataWriter,
     op: u8,
     args: &[u8],
-) -> OnWriter
-    ensures { Asked (sought (writer_rows p w) op args.now) w out.old at result.ran result.laid result.writer out.new }
+) -> Option<usize>
+    ensures { Tried (sought (writer_rows packet.now writer.old) op args.now)
+        writer.old out.old at result writer.new out.new }
 {
-    let n = args.len();
-    if asks(op, b'W', n == 0) {
-        return new_writer(out, at);
+    match (op, args) {
+        (b'W', []) => Some(renew(out, at, writer)),
+        (b'S', [bits]) => Some(switch(out, at, writer, *bits)),
+        (b'x', []) => Some(flush(out, at, writer)),
+        (b'Q', [packets, sent, field1, field2]) => {
+            Some(set_counts(out, at, writer, *packets, *sent, *field1, *field2))
+        }
+        (b'C', parts) if parts.len() == 16 => Some(set_carry(out, at, writer, parts)),
+        (b'q', []) => Some(push_packet(out, at, writer, packet)),
+        (b'1', [a, b]) => Some(push_pair(out, at, writer, Cea608::Field1(*a, *b))),
+        (b'2', [a, b]) => Some(push_pair(out, at, writer, Cea608::Field2(*a, *b))),
+        (b'w', args) if args.len() == 9 => Some(write_frame(out, at, writer, args)),
+        (b'u', []) => Some(put_measures_line(out, at, measured_times(writer))),
+        _ => None,
     }
-    if asks(op, b'S', n == 1) {
-        return switch(out, at, w, args);
-    }
-    if asks(op, b'x', n == 0) {
-        return told_writer(out, at, w.flush());
-    }
-    if asks(op, b'Q', n == 4) {
-        return set_writer(out, at, w, args);
-    }
-    if asks(op, b'C', n == 16) {
-        return set_carry(out, at, w, args);
-    }
-    on_writer_pushing(out, at, p, w, op, args)
 }

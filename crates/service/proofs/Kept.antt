@@ -1,6 +1,6 @@
 -- What reading gives and pushing leaves is a valid block, and means what the model says; a block written is read back; what a block is refused with.
 -- Assumes nothing.
-use mathlib.Core.Path.{◌≡◌, refl, sym}
+use mathlib.Core.Path.{◌≡◌, refl, sym, ap}
 use mathlib.Core.Bool.{true}
 use mathlib.Core.List.{List, ◌++◌}
 use Prim.Native.Nat.{ℕ, ◌+◌, ◌≤◌}
@@ -8,19 +8,18 @@ use native.Mathlib.Omega.{arith}
 use lib.Dec.{eqb}
 use lib.ListN.{length, take}
 use borrow.Author.Tests.{le-leb, eqb-true, eqb-false}
-use Rattle.caption.specs.declared.Answer.TheVariants.{Refused}
+use Rattle.std.specs.Prelude.{Result, Err}
 use Rattle.caption.specs.declared.Refusal.{Refusal}
-use Rattle.caption.specs.Answers.{said_refusal}
+use Rattle.caption.specs.Answers.{outcome, said_refusal}
 use Rattle.caption.proofs.Answers.{refused_so}
-use Rattle.model.specs.Said.{gave}
+use Rattle.model.specs.Said.{gave, says, mapped}
 use Rattle.model.specs.Block.{Block, valid_block, read_block, written_block, with_run}
 use Rattle.model.proofs.Cases.{by_test}
 use Rattle.model.proofs.Lengths.{ShortAt, block_refusals}
 use Rattle.model.proofs.Limits.{read_valid}
 use Rattle.model.proofs.BlockTrip.{read_written}
 use Rattle.service.specs.declared.Service.{Service}
-use Rattle.service.specs.declared.ServiceAnswer.{ServiceAnswer}
-use Rattle.service.specs.Service.{Answers, block_of, over, blank, valid_service}
+use Rattle.service.specs.Service.{block_of, over, blank, valid_service}
 use Rattle.service.proofs.Services.{over_means, blank_places, block_facts, valid_number, valid_len, valid_null, named_valid, payload_length, push_small}
 
 -- a block in its places holds the block
@@ -51,5 +50,6 @@ written_back s rest v places some =
     read_written (block_of s) rest (record { named = named; known = valid_number s v; filled = omega arith; small = omega (arith, valid_len s v) }) 0
 
 -- What reading a block is refused with is what `ShortAt` says at 0, whatever answer the contract allows.
-pub block_lengths : (d : List ℕ) (r : ServiceAnswer) (why : Refusal) → r.answer ≡ Refused why → Answers (read_block d) blank r → ShortAt 0 d (said_refusal why)
-block_lengths d r why is read = refused_so (ShortAt 0 d) why (read_block d) (block_refusals d) (rw is at read.answer)
+pub block_lengths : (d : List ℕ) (r : Result Service Refusal) (why : Refusal) → r ≡ Err why → mapped block_of (outcome r) ≡ read_block d
+    → ShortAt 0 d (said_refusal why)
+block_lengths d r why is read = refused_so (ShortAt 0 d) why (read_block d) (block_refusals d) (ap says (rw is at read))

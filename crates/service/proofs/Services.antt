@@ -1,7 +1,7 @@
--- What the functions of a `Service` answer, by each way out of them. Assumes nothing.
+-- What the calls of a `Service` give, by each way out of them. Assumes nothing.
 use mathlib.Core.Path.{◌≡◌, refl, sym, ap, ◌∙◌}
 use mathlib.Core.Bool.{Bool, true, false, cond, not, ◌&&◌, ◌||◌}
-use mathlib.Core.List.{List, [], ◌∷◌, ◌++◌}
+use mathlib.Core.List.{List, [], ◌++◌}
 use Prim.Native.Nat.{ℕ, ◌+◌, ◌-◌, ◌%◌, ◌≤◌, ◌<◌}
 use native.Mathlib.Nat.{zero-add}
 use native.Mathlib.Omega.{arith}
@@ -9,20 +9,15 @@ use lib.Dec.{eqb, leb, ltb}
 use lib.ListN.{length, take, drop, replicate, length-append, length-take, length-drop, length-replicate}
 use lib.Seq.{sets, take_at, length-take-le}
 use borrow.Author.Tests.{eq-eqb, ne_eqb, le-leb, lt-leb, lt-ltb, le-ltb, leb-true, eqb-true}
-use Rattle.caption.specs.declared.Counted.{Counted}
-use Rattle.caption.specs.Answers.{said_answer, said_counted}
-use Rattle.caption.proofs.Answers.{measure_good}
-use Rattle.model.specs.Said.{Said, Outcome, gave, refused, checked, measured, put_into, accepted, bad_value, bad_number, bad_run, read_only, would_overflow, out_short}
+use Rattle.model.specs.Said.{gave, refused, put_into, bad_number, bad_run, read_only, would_overflow, out_short}
 use Rattle.model.specs.Block.{Block, valid_block, new_block, read_block_at, read_block, block_in, push_to_block, with_run, written_header, written_block, block_length}
 use Rattle.model.proofs.Cases.{by_test, both}
 use Rattle.model.proofs.Blocks.{written_length}
 use Rattle.service.specs.declared.Service.{Service}
-use Rattle.service.specs.declared.ServiceAnswer.{ServiceAnswer}
-use Rattle.service_headers.specs.declared.Head.TheVariants.{Whole}
-use Rattle.service_headers.specs.Head.{block_head, length_for}
-use Rattle.service.specs.Service.{Answers, Writes, block_of, over, blank, valid_service}
+use Rattle.service_headers.specs.Head.{length_for}
+use Rattle.service.specs.Service.{block_of, over, blank, valid_service, asked, pushed, written}
 use Rattle.basics.proofs.Runs.{sets_front, sets_behind}
-use Rattle.service_headers.proofs.Heads.{headed, length_of, laid_block}
+use Rattle.service_headers.proofs.Heads.{Headed, length_of, laid_block}
 
 -- a block and the places that it is laid in
 pub laid_as : (n k : ℕ) (p q : List ℕ) → length q ≡ k → p ≡ sets (replicate 31 0) 0 q
@@ -35,15 +30,6 @@ over_means old b places h =
     let e : take (length b.payload) (sets old.payload 0 b.payload) ≡ b.payload =
     rw (sets_front old.payload b.payload (omega arith)) (take_at b.payload _ (length b.payload) refl) in
     ap (λ (p : List ℕ). record { number = b.number; payload = p }) e
-
--- an answer that refuses
-pub refuses : (o : Outcome Block) (old : Service) (why : Said) (r : ServiceAnswer) → o ≡ refused why → said_answer r.answer ≡ why → r.service ≡ old → Answers o old r
-refuses o old why r e a k = rw e (record { answer = a; means = ap block_of k; places = k })
-
--- one that gives
-pub gives : (o : Outcome Block) (old : Service) (b : Block) (r : ServiceAnswer) → length old.payload ≡ 31 → length b.payload ≤ 31 → o ≡ gave b
-    → said_answer r.answer ≡ accepted [] → r.service ≡ over old b → Answers o old r
-gives o old b r places h e a k = rw e (record { answer = a; means = ap block_of k ∙ over_means old b places h; places = k })
 
 -- the empty places are as many
 pub blank_places : length blank.payload ≡ 31
@@ -140,14 +126,6 @@ module _ (s : Service) (v : Bool) (is : v ≡ valid_service s) where
     pub payload_length : v ≡ true → length (take s.len s.payload) ≡ s.len
     payload_length e = length-take-le s.len s.payload (omega (arith, small_len e))
 
-    -- its room
-    pub measure_room : v ≡ true → accepted ((31 - s.len) ∷ []) ≡ measured (valid_service s) (31 - length (take s.len s.payload))
-    measure_room e = measure_good _ _ is _ _ e (ap (λ n. 31 - n) (sym (payload_length e)))
-
-    -- whether it is empty
-    pub measure_empty : v ≡ true → accepted (cond (eqb s.len 0) 1 0 ∷ []) ≡ measured (valid_service s) (cond (eqb (length (take s.len s.payload)) 0) 1 0)
-    measure_empty e = measure_good _ _ is _ _ e (ap (λ n. cond (eqb n 0) 1 0) (sym (payload_length e)))
-
     -- how long it is written
     pub payload_written : v ≡ true → length (written_block (block_of s)) ≡ cond (ltb s.number 7) 1 2 + s.len
     payload_written e = written_length (block_of s) ∙ ap (λ n. cond (ltb s.number 7) 1 2 + n) (payload_length e)
@@ -156,37 +134,26 @@ module _ (s : Service) (v : Bool) (is : v ≡ valid_service s) where
     pub length_for_block : v ≡ true → length_for s.number s.len ≡ block_length (block_of s)
     length_for_block e = sym (length_of (block_of s) ∙ ap (length_for s.number) (payload_length e))
 
-    -- its length
-    pub measure_length : (n : ℕ) → v ≡ true → n ≡ length_for s.number s.len → accepted (n ∷ []) ≡ measured (valid_service s) (block_length (block_of s))
-    measure_length n e q = measure_good _ _ is _ _ e (q ∙ length_for_block e)
-
     -- a run pushed, in the order of the refusals
     module _ (run : List ℕ) where
-      abbrev pushed : Outcome Block
-      pushed = checked (valid_service s) (push_to_block run (block_of s))
-
-      -- 11: the block breaks a limit
-      pub push_invalid : v ≡ false → pushed ≡ refused bad_value
-      push_invalid e = rw (← is, e)
-
       module _ (e : v ≡ true) where
         -- 7: the run has no bytes
-        pub push_empty : length run ≡ 0 → pushed ≡ refused bad_run
+        pub push_empty : length run ≡ 0 → pushed run s ≡ refused bad_run
         unfolding push_to_block
         push_empty z = rw (← is, e) (simp (eq-eqb _ _ z))
 
         -- 4: the run is for service 0
-        pub push_null : (length run ≡ 0 → ⊥) → s.number ≡ 0 → pushed ≡ refused read_only
+        pub push_null : (length run ≡ 0 → ⊥) → s.number ≡ 0 → pushed run s ≡ refused read_only
         unfolding push_to_block
         push_null n z = rw (← is, e) (simp (ne_eqb _ _ n, eq-eqb _ _ z))
 
         -- 3: the run does not fit
-        pub push_over : (length run ≡ 0 → ⊥) → (s.number ≡ 0 → ⊥) → 31 - s.len < length run → pushed ≡ refused (would_overflow (length run - (31 - s.len)))
+        pub push_over : (length run ≡ 0 → ⊥) → (s.number ≡ 0 → ⊥) → 31 - s.len < length run → pushed run s ≡ refused (would_overflow (length run - (31 - s.len)))
         unfolding push_to_block
         push_over n m h = rw (← is, e) (simp (ne_eqb _ _ n, ne_eqb _ _ m, payload_length e, lt-ltb _ _ h))
 
         -- accepted: the run stands behind the payload
-        pub push_fits : (length run ≡ 0 → ⊥) → (s.number ≡ 0 → ⊥) → length run ≤ 31 - s.len → pushed ≡ gave (with_run run (block_of s))
+        pub push_fits : (length run ≡ 0 → ⊥) → (s.number ≡ 0 → ⊥) → length run ≤ 31 - s.len → pushed run s ≡ gave (with_run run (block_of s))
         unfolding push_to_block
         push_fits n m h = rw (← is, e) (simp (ne_eqb _ _ n, ne_eqb _ _ m, payload_length e, le-ltb _ _ h))
 
@@ -206,50 +173,44 @@ module _ (s : Service) (v : Bool) (is : v ≡ valid_service s) where
 
     -- a block written, in the order of the refusals
     module _ (out : List ℕ) where
-      -- the block is written to these bytes
-      abbrev Wrote : Counted → List ℕ → Type 0
-      Wrote r now = Writes (valid_service s) (written_block (block_of s)) out r now
-
-      -- 11: the block breaks a limit
-      pub write_invalid : (r : Counted) → v ≡ false → said_counted r ≡ bad_value → Wrote r out
-      write_invalid r e q = rw (← is, e) (record { answer = q; output = refl })
-
       -- 9: the output is too short
-      pub write_short : (r : Counted) (start : ℕ) → v ≡ true → start ≡ cond (ltb s.number 7) 1 2 → length out < start + s.len
-          → said_counted r ≡ out_short (start + s.len) → Wrote r out
+      pub write_short : (start : ℕ) → v ≡ true → start ≡ cond (ltb s.number 7) 1 2 → length out < start + s.len
+          → written s out ≡ refused (out_short (start + s.len))
       unfolding put_into
-      write_short r start e q h w =
+      write_short start e q h =
           let n : length (written_block (block_of s)) ≡ start + s.len = payload_written e ∙ ap (λ k. k + s.len) (sym q) in
           let t : ltb (length out) (start + s.len) ≡ true = lt-ltb _ _ h in
-          record { answer = rw (← is, e, n, t) w; output = rw (← is, e, n, t) }
+          rw (← is, e, n, t)
 
       -- accepted: header and payload stand at the front of the output
-      pub write_fits : (r : Counted) (now : List ℕ) (start : ℕ) → v ≡ true → start ≡ cond (ltb s.number 7) 1 2 → start + s.len ≤ length out
-          → said_counted r ≡ accepted ((start + s.len) ∷ [])
-          → now ≡ sets (sets out 0 (written_header s.number (s.len % 32))) start (take s.len s.payload) → Wrote r now
+      pub write_fits : (now : List ℕ) (start : ℕ) → v ≡ true → start ≡ cond (ltb s.number 7) 1 2 → start + s.len ≤ length out
+          → now ≡ sets (sets out 0 (written_header s.number (s.len % 32))) start (take s.len s.payload) → written s out ≡ gave now
       unfolding put_into
-      write_fits r now start e q h w k =
+      write_fits now start e q h k =
           let n : length (written_block (block_of s)) ≡ start + s.len = payload_written e ∙ ap (λ k. k + s.len) (sym q) in
           let t : ltb (length out) (start + s.len) ≡ false = le-ltb _ _ h in
           let m : s.len % 32 ≡ length (take s.len s.payload) = omega (arith, small_len e, payload_length e) in
           let l : sets (sets out 0 (written_header s.number (s.len % 32))) start (take s.len s.payload) ≡ sets out 0 (written_block (block_of s)) =
           ap (λ j. sets (sets out 0 (written_header s.number (s.len % 32))) j (take s.len s.payload)) (sym (zero-add start)) ∙ laid_block (block_of s) out 0 start (s.len % 32) q m in
           let f = sets_front out (written_block (block_of s)) (omega (arith, n, h)) in
-          record { answer = rw (← is, e, n, t) w; output = rw (← is, e, n, t) (k ∙ l ∙ rw n at f) }
+          rw (← is, e, n, t) (ap gave (sym (k ∙ l ∙ rw n at f)))
 
--- a block read
-module _ (d : List ℕ) where
+-- its length
+pub asked_length : (s : Service) → length s.payload ≡ 31 → (n : ℕ) → valid_service s ≡ true → n ≡ length_for s.number s.len → gave n ≡ asked s block_length
+asked_length s places n e q = rw e (ap gave (q ∙ length_for_block s _ refl places e))
+
+-- a block read, whose header is there
+module _ (d : List ℕ) (n st sz : ℕ) (h : Headed d n st sz) where
   -- number 0
-  pub parse_null : (n st sz : ℕ) → block_head d ≡ Whole n st sz → n ≡ 0 → read_block d ≡ gave (record { number = 0; payload = [] })
+  pub parse_null : n ≡ 0 → read_block d ≡ gave (record { number = 0; payload = [] })
   unfolding read_block_at block_in
-  parse_null n st sz e z = let h = headed d n st sz e in simp (h.whole, h.number, z)
+  parse_null z = simp (h.whole, h.number, z)
 
   -- any other number
-  pub parse_some : (n st sz : ℕ) → block_head d ≡ Whole n st sz → (n ≡ 0 → ⊥)
-      → read_block d ≡ gave (record { number = n; payload = take sz (drop st d) })
+  pub parse_some : (n ≡ 0 → ⊥) → read_block d ≡ gave (record { number = n; payload = take sz (drop st d) })
   unfolding read_block_at block_in
-  parse_some n st sz e z = let h = headed d n st sz e in simp (h.whole, h.number, ne_eqb n 0 z, h.start, h.size)
+  parse_some z = simp (h.whole, h.number, ne_eqb n 0 z, h.start, h.size)
 
   -- its payload is as long as the header says
-  pub part_length : (n st sz : ℕ) → block_head d ≡ Whole n st sz → length (take sz (drop st d)) ≡ sz
-  part_length n st sz e = length-take-le sz (drop st d) (rw length-drop (omega (arith, (headed d n st sz e).fits)))
+  pub part_length : length (take sz (drop st d)) ≡ sz
+  part_length = length-take-le sz (drop st d) (rw length-drop (omega (arith, h.fits)))

@@ -1,12 +1,9 @@
--- What a `Service` holds, and what its functions answer. Assumes nothing.
-use Rattle.std.specs.Prelude.{◌≡◌, Bool, ◌&&◌, List, [], ◌∷◌, ℕ, leb, length, take, replicate}
+-- What a `Service` holds, and what its calls give. Assumes nothing.
+use Rattle.std.specs.Prelude.{Bool, ◌&&◌, List, ℕ, leb, length, take, replicate}
 use Rattle.std.proofs.lemmas.List.Edits.{sets}
-use Rattle.caption.specs.declared.Counted.{Counted}
-use Rattle.caption.specs.Answers.{said_answer, said_counted}
-use Rattle.model.specs.Said.{Outcome, says, says_with, after, mapped, checked, put_into}
-use Rattle.model.specs.Block.{Block, most_payload, valid_block}
+use Rattle.model.specs.Said.{Outcome, gave, after, mapped, checked, put_into}
+use Rattle.model.specs.Block.{Block, most_payload, valid_block, written_block, push_to_block}
 use Rattle.service.specs.declared.Service.{Service}
-use Rattle.service.specs.declared.ServiceAnswer.{ServiceAnswer}
 
 -- the block that it holds
 abbrev pub block_of : Service → Block
@@ -24,13 +21,22 @@ blank = record { number = 0; len = 0; payload = replicate most_payload 0 }
 unfoldable pub valid_service : Service → Bool
 valid_service s = leb s.len most_payload && valid_block (block_of s)
 
--- an answer says what the outcome says; the block beside it means what the outcome gives, and that is laid over `old`, which a refusal leaves
-pub record Answers (o : Outcome Block) (old : Service) (r : ServiceAnswer) : Type 0 where
-  pub answer : said_answer r.answer ≡ says o
-  pub means : block_of r.service ≡ after (block_of old) o
-  pub places : r.service ≡ after old (mapped (over old) o)
+-- what is asked of it; 11 where it breaks a limit
+abbrev pub asked : {A : Type 0} → Service → (Block → A) → Outcome A
+asked s f = checked (valid_service s) (gave (f (block_of s)))
 
--- bytes written to a lent output: an answer says how many, and what the output then holds is the outcome's, or what it held where it refuses
-pub record Writes (valid : Bool) (bytes before : List ℕ) (r : Counted) (now : List ℕ) : Type 0 where
-  pub answer : said_counted r ≡ says_with (λ _. length bytes ∷ []) (checked valid (put_into before bytes))
-  pub output : now ≡ after before (checked valid (put_into before bytes))
+-- the block with a run pushed to it
+abbrev pub pushed : List ℕ → Service → Outcome Block
+pushed run s = checked (valid_service s) (push_to_block run (block_of s))
+
+-- the places behind a call: what it gives is laid over the old ones, and a refusal leaves them
+abbrev pub laid : Service → Outcome Block → Service
+laid old o = after old (mapped (over old) o)
+
+-- the block as it is written
+abbrev pub bytes_of : Service → List ℕ
+bytes_of s = written_block (block_of s)
+
+-- a lent output with the block written to it
+abbrev pub written : Service → List ℕ → Outcome (List ℕ)
+written s out = checked (valid_service s) (put_into out (bytes_of s))

@@ -9,13 +9,13 @@ ghost use Rattle.slots.specs.Walk.{block_span, whole_blocks};
 ghost use Rattle.slots.specs.Row.{valid_slots};
 ghost use Rattle.slots.specs.Steps.{written_if, sends_whole};
 
-use basics::{MOST_PACKET, MOST_PACKETS, wide};
+use basics::{MOST_PACKET, MOST_PACKETS};
 
 // The fewest bytes of a packet that is not empty.
 const LEAST_PACKET: usize = 3;
 
-// An encoded packet in a queue: its length, and from place 0 the bytes that it is written in. In the multiplexer's queue
-// 0x00 follows them if the length is odd.
+/// An encoded packet in a queue: its length, and from place 0 the bytes that it is written in. In the
+/// multiplexer's queue 0x00 follows them if the length is odd.
 #[derive(Clone, Copy)]
 pub struct Slot {
     pub len: usize,
@@ -23,27 +23,25 @@ pub struct Slot {
 }
 
 impl Slot {
-    // Whether the bytes are the written form of a packet that is not empty.
-    pub fn is_written(self) -> bool
-        ensures { result ≡ written_slot self }
+    /// Whether the bytes are the written form of a packet that is not empty.
+    pub fn is_written(&self) -> bool
+        ensures { result ≡ written_slot self.now }
     {
-        let len = self.len;
-        let bytes = self.bytes;
-        if len < LEAST_PACKET {
+        if self.len < LEAST_PACKET {
             return false;
         }
-        if MOST_PACKET < len {
+        if MOST_PACKET < self.len {
             return false;
         }
-        if wide(bytes[0]) % 64 != (len + 1) / 2 % 64 {
+        if self.bytes[0] as usize % 64 != (self.len + 1) / 2 % 64 {
             return false;
         }
-        if len % 2 == 1 {
-            if bytes[len] != 0 {
+        if self.len % 2 == 1 {
+            if self.bytes[self.len] != 0 {
                 return false;
             }
         }
-        blocks_whole(&bytes, len)
+        blocks_whole(&self.bytes, self.len)
     }
 }
 
@@ -82,7 +80,7 @@ fn byte_at(bytes: &[u8; 128], at: usize, len: usize) -> u8
 fn block_span(h: u8, second: u8) -> usize
     ensures { (result ≡ block_span h second) × (result ≤ 33) }
 {
-    let size = wide(h % 32);
+    let size = (h % 32) as usize;
     let top = h / 32;
     if size == 0 {
         return 0;
@@ -102,15 +100,16 @@ fn block_span(h: u8, second: u8) -> usize
     2 + size
 }
 
-// Whether the slots are within their limits: `sending`, of which `sent` bytes have left, and the first `count` of the queue.
-pub fn slots_written(sending: Slot, sent: usize, packets: [Slot; 16], count: usize) -> bool
-    ensures { result ≡ valid_slots sending sent packets count }
+/// Whether the slots are within their limits: `sending`, of which `sent` bytes have left, and the
+/// first `count` of the queue [W14].
+pub fn slots_written(sending: &Slot, sent: usize, packets: &[Slot; 16], count: usize) -> bool
+    ensures { result ≡ valid_slots sending.now sent packets.now count }
 {
     if MOST_PACKETS < count {
         return false;
     }
     if sends_whole(sending.len, sent) {
-        return row_written(0 < sending.len, sending, packets, count);
+        return row_written(sending, &packets[..count]);
     }
     false
 }
@@ -129,67 +128,21 @@ fn sends_whole(len: usize, sent: usize) -> bool
     false
 }
 
-// Whether a slot is a written packet, if it is taken.
-fn written_if(taken: bool, slot: Slot) -> bool
-    ensures { result ≡ written_if taken slot }
+// Whether a slot, if it is taken, and those of the queue are written packets.
+fn row_written(slot: &Slot, queue: &[Slot]) -> bool
+    ensures { result ≡ (written_if (ltb 0 slot.now.len) slot.now && every written_slot queue.now) }
 {
-    if taken {
-        return slot.is_written();
-    }
-    true
-}
-
-// Whether a slot, if it is taken, and the slots of the queue are written packets. The first four stand at constant places, where they are read
-// without a copy of the queue; only a longer queue is copied.
-fn row_written(taken: bool, slot: Slot, packets: [Slot; 16], count: usize) -> bool
-    requires { count ≤ 16 }
-    ensures { result ≡ (written_if taken slot && every written_slot (take count packets)) }
-{
-    if 4 < count {
-        if !row_written(taken, slot, packets, 4) {
-            return false;
-        }
-        return others_written(packets, count);
-    }
-    let a = packets[0];
-    let b = packets[1];
-    let c = packets[2];
-    let d = packets[3];
-    four_written(taken, slot, count, a, b, c, d)
-}
-
-// The same of the slots behind the first four.
-fn others_written(packets: [Slot; 16], count: usize) -> bool
-    requires { (4 ≤ count) × (count ≤ 16) }
-    ensures { result ≡ every written_slot (drop 4 (take count packets)) }
-{
-    let mut i: usize = 4;
-    while i < count {
-        let slot = packets[i];
-        if slot.is_written() {
-            i += 1;
-        } else {
+    if 0 < slot.len {
+        if !slot.is_written() {
             return false;
         }
     }
-    true
+    all_written(queue)
 }
 
-// The same of a slot and the first four of the queue.
-fn four_written(taken: bool, slot: Slot, count: usize, a: Slot, b: Slot, c: Slot, d: Slot) -> bool
-    ensures { result ≡ (written_if taken slot && (written_if (ltb 0 count) a && (written_if (ltb 1 count) b && (written_if (ltb 2 count) c && written_if (ltb 3 count) d)))) }
+// Whether each slot is a written packet.
+fn all_written(queue: &[Slot]) -> bool
+    ensures { result ≡ every written_slot queue.now }
 {
-    if !written_if(taken, slot) {
-        return false;
-    }
-    if !written_if(0 < count, a) {
-        return false;
-    }
-    if !written_if(1 < count, b) {
-        return false;
-    }
-    if !written_if(2 < count, c) {
-        return false;
-    }
-    written_if(3 < count, d)
+    queue.iter().all(|slot| slot.is_written())
 }

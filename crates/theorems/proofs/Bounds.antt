@@ -7,6 +7,7 @@ use native.Mathlib.Omega.{arith}
 use lib.ListN.{length, take, length-map}
 use lib.Seq.{length-take-le}
 use contract.Lifetimes.{Lfts}
+use Rattle.std.specs.Prelude.{Result, Ok}
 use Rattle.model.specs.Said.{Outcome, gave, refused, is_given}
 use Rattle.model.specs.Packet.{Packet}
 use Rattle.model.specs.Frame.{frame_bytes}
@@ -21,9 +22,9 @@ use Rattle.model_journey.specs.Bounds.{Field, one, two, accepted_of, pace}
 use Rattle.model_journey.proofs.Leaves as leaves
 use Rattle.model_journey.proofs.Four as four
 use Rattle.model_journey.proofs.Drains as drains
-use Rattle.caption.proofs.Answers.{said_counted_injective}
-use Rattle.caption.specs.declared.Counted.TheVariants as counted
+use Rattle.caption.proofs.Outcomes.{outcome_injective}
 use Rattle.caption.specs.declared.Framerate.{Framerate}
+use Rattle.caption.specs.declared.Refusal.{Refusal}
 use Rattle.writer_queues.proofs.Queues.{queue_length}
 use Rattle.slots.specs.Slot.{read_slot}
 use Rattle.writer.specs.Writer.{means}
@@ -31,11 +32,11 @@ use Rattle.writer_sending.proofs.Triples.{left_length}
 use Rattle.writer.proofs.Kept.{Sound, sound_ok}
 use Rattle.writer.proofs.Laws.{write_given}
 use Rattle.writer.specs.declared.CCDataWriter.{CCDataWriter}
-use Rattle.writer.specs.declared.WriterCount.{WriterCount}
 use Rattle.theorems.specs.Items.{Items, no_items}
-use Rattle.theorems.specs.Allowed.{Output, Write}
+use Rattle.theorems.specs.Allowed.{Output, Writer, Write}
 use Rattle.theorems.specs.Writing.{Calls, Reached, Stays, Drained}
 use Rattle.theorems.specs.Bounds.{queue_at, pairs_at, SendsFour, AcceptsWrite, LeavesInTime, DrainsInTime}
+use Rattle.theorems.proofs.Contracts.{write_says}
 use Rattle.theorems.proofs.Following.{Tests, Staying, Follows}
 use Rattle.theorems.proofs.Frames.{wrote}
 use Rattle.theorems.proofs.Sequences.{follows}
@@ -102,26 +103,6 @@ module _ {w : CCDataWriter} (d : Reached w) where
   places_free mode speed c set stay one i there writes = omega (arith, leaves.left_fewer (pair_leaves mode speed c set stay one i there writes))
   places_free mode speed c set stay two i there writes = omega (arith, leaves.left_fewer (pair_leaves mode speed c set stay two i there writes))
 
-  -- each accepted write sends at least four packet triples, or all that are left [J4]
-  pub sends_four : (κs : Lfts 1) (rate : Framerate) (out end : Output) (r : WriterCount) → Write κs w rate out end r
-      → (n : ℕ) → r.answer ≡ counted.Count n → SendsFour w (take n end.now) r.writer
-  sends_four κs rate out end r a n e =
-      let k = wrote κs w rate out end r (holds d).sound a n e in
-      let f = (write_share k.share (means w)).frame in
-      let m = four.four k.share (means w) k.accepted (holds d).follow in
-      rw k.bytes (record { four = rw (frame_triples f) (omega (arith, m.four)); no_other = rw (frame_triples f, k.meant) m.no_other })
-
-  -- a write at an accepted rate, with room for the longest frame, is accepted
-  pub write_accepted : (κs : Lfts 1) (rate : Framerate) (out end : Output) (r : WriterCount) → Write κs w rate out end r → AcceptsWrite w rate out.now r.answer
-  write_accepted κs rate out end r a =
-      record {
-        accepts = λ b given within room.
-            let g = share_there rate.numer rate.denom (means w) given (λ on. within (sym (carrying_means w) ∙ on)) in
-            let h = g.0 in
-            let said = rw (write_given w (holds d).sound.valid rate out.now g.1 (omega arith)) at a.answer in
-            (h, g.1, said_counted_injective r.answer (counted.Count (length (frame_bytes (write_share h (means w)).frame))) said);
-      }
-
   -- so many accepted writes drain a multiplexer, if nothing more is accepted: for each pair of either field two while the mode stays off, four while it
   -- stays on and the rate stays; and a quarter of the packet triples
   pub writes_drain : (mode : Bool) (speed : Framerate) {w' : CCDataWriter} {fs : List (List ℕ)} (c : Calls w fs no_items w') → w.carrying ≡ mode → Stays mode speed c → DrainsInTime mode w fs w'
@@ -134,3 +115,25 @@ module _ {w : CCDataWriter} (d : Reached w) where
       (rw (← k.last)
       (drains.drains mode _ k.calls (means w) (carrying_means w ∙ set) (k.steady mode speed stay) (k.quiet refl) k.rates (rw (n₁, k.writes) k₁) (rw (n₂, k.writes) k₂)
       (omega (arith, k.writes))))
+
+-- a write, of a state that calls have reached, flushes among them
+module _ (w w' : Writer) (d : Reached w.now) (κs : Lfts 2) (rate : Framerate) (out end : Output) (r : Result ℕ Refusal) (a : Write κs w rate out r w' end) where
+  -- each accepted write sends at least four packet triples, or all that are left [J4]
+  pub sends_four : (n : ℕ) → r ≡ Ok n → SendsFour w.now (take n end.now) w'.now
+  sends_four n e =
+      let k = wrote κs w w' rate out end r (holds d).sound a n e in
+      let f = (write_share k.share (means w.now)).frame in
+      let m = four.four k.share (means w.now) k.accepted (holds d).follow in
+      rw k.bytes (record { four = rw (frame_triples f) (omega (arith, m.four)); no_other = rw (frame_triples f, k.meant) m.no_other })
+
+  -- a write at an accepted rate, with room for the longest frame, is accepted
+  pub write_accepted : AcceptsWrite w.now rate out.now r
+  write_accepted =
+      record {
+        accepts = λ b given within room.
+            let g = share_there rate.numer rate.denom (means w.now) given (λ on. within (sym (carrying_means w.now) ∙ on)) in
+            let h = g.0 in
+            let says = (write_says κs w w' rate out end r a).answer in
+            let said = rw (write_given w.now (holds d).sound.valid rate out.now g.1 (omega arith)) at says in
+            (h, g.1, outcome_injective r (Ok (length (frame_bytes (write_share h (means w.now)).frame))) said);
+      }

@@ -6,7 +6,8 @@ use mathlib.Core.List.{List, [], ◌∷◌, ◌++◌, map}
 use Prim.Native.Nat.{ℕ, zero, suc}
 use native.Mathlib.Omega.{arith}
 use lib.ListN.{length, replicate}
-use Rattle.model.specs.Said.{accepted}
+use Rattle.std.specs.Prelude.{Ok, Err}
+use Rattle.model.specs.Said.{Said, accepted, says}
 use Rattle.model.specs.Packet.{Packet}
 use Rattle.model.specs.Frame.{Cea608}
 use Rattle.model.specs.Demux.{Demux, Item, take_frame}
@@ -15,21 +16,22 @@ use Rattle.model.proofs.DemuxStates.{demux_facts}
 use Rattle.model_journey.specs.Bounds.{one, two}
 use Rattle.model_journey.proofs.Turns.{others_append}
 use Rattle.model_journey.proofs.Carried.{field_append}
-use Rattle.caption.specs.Answers.{said_answer}
-use Rattle.caption.specs.declared.Answer.{Answer}
+use Rattle.caption.specs.Answers.{outcome}
 use Rattle.caption.specs.declared.Refusal.{Refusal}
-use Rattle.caption.specs.declared.Answer.TheVariants.{Accepted, Refused}
-use Rattle.caption.proofs.Answers.{said_answer_injective}
+use Rattle.caption.proofs.Outcomes.{says_injective}
 use Rattle.parser.specs.Means.{means}
-use Rattle.parser.specs.Calls.{laid_after, Answers}
 use Rattle.parser.proofs.Laid.{Sound}
 use Rattle.parser.proofs.Kept.{sound_demux, pushed_sound}
 use Rattle.parser.specs.declared.CCDataParser.{CCDataParser}
-use Rattle.parser.specs.declared.Item as parser
-use Rattle.parser.specs.declared.Item.TheVariants as item
 use Rattle.theorems.specs.Items.{Items, and_then}
-use Rattle.theorems.specs.Reading.{Feeds, no_frame, feed, NoRefusal}
-use Rattle.theorems.proofs.Emptying.{items_in, item_for, none_refused, told_of, empties_from}
+use Rattle.theorems.specs.Allowed.{Answer}
+use Rattle.theorems.specs.Reading.{Told, Feeds, no_frame, feed, NoRefusal}
+use Rattle.theorems.proofs.Contracts.{push_says}
+use Rattle.theorems.proofs.Emptying.{items_in, told_for, none_refused, told_of, empties_from}
+
+-- what an answer says
+abbrev pub says_of : Answer → Said
+says_of r = says (outcome r)
 
 -- the items that the model reads
 abbrev pub items_read : Read → Items
@@ -41,9 +43,9 @@ told_by [] d = []
 told_by (f ∷ fs) d = let t = (take_frame f d).next in told_of t ++ told_by fs (emptied t)
 
 -- what frames answer and give, and the demultiplexer that they leave
-pub record Fed (fs : List (List ℕ)) (d : Demux) (answers : List Answer) (told : List parser.Item) (is : Items) (p : CCDataParser) : Type 0 where
-  pub said : map said_answer answers ≡ (read_frames fs d).answers
-  pub tells : told ≡ map item_for (told_by fs d)
+pub record Fed (fs : List (List ℕ)) (d : Demux) (answers : List Answer) (told : List Told) (is : Items) (p : CCDataParser) : Type 0 where
+  pub said : map says_of answers ≡ (read_frames fs d).answers
+  pub tells : told ≡ map told_for (told_by fs d)
   pub items : is ≡ items_read (read_frames fs d)
   pub sound : Sound p
   pub means : means p ≡ (read_frames fs d).last
@@ -53,23 +55,23 @@ items_append : (xs ys : List Cea608) (ps qs : List Packet) → and_then (items_i
 items_append xs ys ps qs = rw (field_append one xs ys, field_append two xs ys, others_append (of_field1 xs) (of_field1 ys), others_append (of_field2 xs) (of_field2 ys))
 
 -- two lists of items told
-map_append : (a b : List Item) → map item_for a ++ map item_for b ≡ map item_for (a ++ b)
+map_append : (a b : List Item) → map told_for a ++ map told_for b ≡ map told_for (a ++ b)
 map_append [] b = refl
-map_append (x ∷ a) b = ap (λ (l : List parser.Item). item_for x ∷ l) (map_append a b)
+map_append (x ∷ a) b = ap (λ (l : List Told). told_for x ∷ l) (map_append a b)
 
 -- by the demultiplexer of the model
-feeds_at : {p p' : CCDataParser} {fs : List (List ℕ)} {answers : List Answer} {told : List parser.Item} {is : Items} → Feeds p fs answers told is p'
+feeds_at : {p p' : CCDataParser} {fs : List (List ℕ)} {answers : List Answer} {told : List Told} {is : Items} → Feeds p fs answers told is p'
     → (d : Demux) → Sound p → means p ≡ d → Fed fs d answers told is p'
 unfolding read_frames of_field1 of_field2 others
 feeds_at no_frame d s e = record { said = refl; tells = refl; items = refl; sound = s; means = e }
-feeds_at {p} (feed {q} {fs} {answers} {told} {told'} {is} {is'} κs frame r a c k) d s e =
+feeds_at (feed {fs} {told'} κs p q frame r a c k) d s e =
     let f : List ℕ = frame.now in
     let t : Demux = (take_frame f d).next in
-    let b : Answers (take_frame f (means p)) (laid_after p) p r = a in
-    let next : means r.parser ≡ t = b.means s.valid ∙ ap (λ (x : Demux). (take_frame f x).next) e in
-    let sound : Sound r.parser = rw b.places (pushed_sound p f s) in
-    let m = empties_from c sound t next (demux_facts t (rw next at (sound_demux r.parser sound))).packets in
-    let first : said_answer r.answer ≡ (take_frame f d).answer = rw (s.valid, e) at b.answer in
+    let b = push_says p q r κs frame a in
+    let next : means q.now ≡ t = b.means s.valid ∙ ap (λ (x : Demux). (take_frame f x).next) e in
+    let sound : Sound q.now = rw b.places (pushed_sound p.now f s) in
+    let m = empties_from c sound t next (demux_facts t (rw next at (sound_demux q.now sound))).packets in
+    let first : says_of r ≡ (take_frame f d).answer = rw (s.valid, e) at b.answer in
     let n = feeds_at k (emptied t) m.sound m.means in
     let later = n.said in
     record {
@@ -81,33 +83,33 @@ feeds_at {p} (feed {q} {fs} {answers} {told} {told'} {is} {is'} κs frame r a c 
     }
 
 -- from any state within the limits
-pub feeds : {p p' : CCDataParser} {fs : List (List ℕ)} {answers : List Answer} {told : List parser.Item} {is : Items} → Feeds p fs answers told is p'
+pub feeds : {p p' : CCDataParser} {fs : List (List ℕ)} {answers : List Answer} {told : List Told} {is : Items} → Feeds p fs answers told is p'
     → Sound p → Fed fs (means p) answers told is p'
 feeds {p} c s = feeds_at c (means p) s refl
 
 -- answers that all say that they are accepted are
-said_accepted : (answers : List Answer) (n : ℕ) → map said_answer answers ≡ replicate n (accepted []) → answers ≡ replicate n Accepted
+said_accepted : (answers : List Answer) (n : ℕ) → map says_of answers ≡ replicate n (accepted []) → answers ≡ replicate n (Ok tt)
 said_accepted [] zero e = refl
 said_accepted [] (suc n) e = absurd (omega (arith, ap length e))
 said_accepted (a ∷ answers) zero e = absurd (omega (arith, ap length e))
 said_accepted (a ∷ answers) (suc n) e =
-    let h : said_answer a ≡ accepted [] = (cc) in
-    let t : map said_answer answers ≡ replicate n (accepted []) = (cc) in
-    rw (said_answer_injective a Accepted h, said_accepted answers n t)
+    let h : says_of a ≡ accepted [] = (cc) in
+    let t : map says_of answers ≡ replicate n (accepted []) = (cc) in
+    rw (says_injective a (Ok tt) h, said_accepted answers n t)
 
 -- where the model refuses no frame, none is refused, and never a draw
-pub no_refusal : {fs : List (List ℕ)} {d : Demux} {answers : List Answer} {told : List parser.Item} {is : Items} {p : CCDataParser} → Fed fs d answers told is p
+pub no_refusal : {fs : List (List ℕ)} {d : Demux} {answers : List Answer} {told : List Told} {is : Items} {p : CCDataParser} → Fed fs d answers told is p
     → (read_frames fs d).answers ≡ replicate (length fs) (accepted []) → NoRefusal fs answers told
 no_refusal {fs} {d} {answers} k e = record { all_accepted = said_accepted answers (length fs) (k.said ∙ e); none_refused = rw k.tells (none_refused (told_by fs d)) }
 
 -- a refused frame is a refusal
-pub frame_judged : {fs : List (List ℕ)} {answers : List Answer} {told : List parser.Item} (why : Refusal) → NoRefusal fs (Refused why ∷ answers) told → ⊥
+pub frame_judged : {fs : List (List ℕ)} {answers : List Answer} {told : List Told} (why : Refusal) → NoRefusal fs (Err why ∷ answers) told → ⊥
 frame_judged {fs} {answers} why k = by fs k.all_accepted
   where
-    by : (fs : List (List ℕ)) → Refused why ∷ answers ≡ replicate (length fs) Accepted → ⊥
+    by : (fs : List (List ℕ)) → Err why ∷ answers ≡ replicate (length fs) (Ok tt) → ⊥
     by [] e = omega (arith, ap length e)
-    by (f ∷ fs) e = let z : Refused why ≡ Accepted = (cc) in false≢true (cc)
+    by (f ∷ fs) e = let z : ◌≡◌ {A = Answer} (Err why) (Ok tt) = (cc) in false≢true (cc)
 
 -- and so is a refused draw
-pub draw_judged : {fs : List (List ℕ)} {answers : List Answer} {told : List parser.Item} (why : Refusal) → NoRefusal fs answers (item.Refused why ∷ told) → ⊥
+pub draw_judged : {fs : List (List ℕ)} {answers : List Answer} {told : List Told} (why : Refusal) → NoRefusal fs answers (Err why ∷ told) → ⊥
 draw_judged why k = k.none_refused 0 why refl

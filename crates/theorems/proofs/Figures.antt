@@ -7,20 +7,20 @@ use native.Mathlib.Omega.{arith}
 use lib.ListN.{length, take}
 use lib.Seq.{take_all}
 use contract.Lifetimes.{Lfts}
+use Rattle.std.specs.Prelude.{Result, Ok}
 use Rattle.model.specs.Said.{gave}
 use Rattle.model.specs.Rate.{Budgets, budgets}
 use Rattle.model.proofs.MuxStates.{MuxLimits, mux_facts, unsent_few}
 use Rattle.model_journey.specs.Bounds.{Field, one, two, Left, pace}
 use Rattle.model_journey.proofs.Paces.{places}
-use Rattle.caption.specs.declared.Counted.TheVariants as counted
 use Rattle.caption.specs.declared.Framerate.{Framerate}
+use Rattle.caption.specs.declared.Refusal.{Refusal}
 use Rattle.writer_queues.proofs.Queues.{queue_length}
 use Rattle.writer.specs.Writer.{means}
 use Rattle.writer.proofs.Kept.{sound_ok, sound_mux}
 use Rattle.writer.specs.declared.CCDataWriter.{CCDataWriter}
-use Rattle.writer.specs.declared.WriterCount.{WriterCount}
 use Rattle.theorems.specs.Items.{Items, no_items}
-use Rattle.theorems.specs.Allowed.{Output, Write}
+use Rattle.theorems.specs.Allowed.{Output, Writer, Write}
 use Rattle.theorems.specs.Writing.{Calls, no_call, push_packet, push_cea608, set_cea608_padding, set_padding, set_carrying, set_true_count, write, Reached, Stays, Drained}
 use Rattle.theorems.specs.Bounds.{queue_at, unsent_of, packet_triples_of, pairs_at, BeginsWith, GivenInTime}
 use Rattle.theorems.proofs.Reached.{holds}
@@ -65,23 +65,24 @@ module _ {w : CCDataWriter} (d : Reached w) where
       let few₂ = enough mode w.field2.count (length fs) (omega (arith, few_queued d two)) many in
       writes_drain d mode speed c set stay few₁ few₂ (omega (arith, unsent_few (means w) (limits d)))
 
+-- a write
+module _ (w w' : Writer) (d : Reached w.now) (κs : Lfts 2) (rate : Framerate) (out end : Output) (r : Result ℕ Refusal) (a : Write κs w rate out r w' end) where
   -- room for 95 bytes is enough, at a rate that has budgets [G2] and, in the carrying mode, is within its own limit [G6]
-  pub room_enough : (κs : Lfts 1) (rate : Framerate) (out end : Output) (r : WriterCount) → Write κs w rate out end r → {b : Budgets} → budgets rate.numer rate.denom ≡ gave b
-      → (w.carrying ≡ true → 600 * rate.denom ≤ 31 * rate.numer) → 95 ≤ length out.now → (n : ℕ) × (r.answer ≡ counted.Count n)
-  room_enough κs rate out end r a {b} given within room = let k = (write_accepted d κs rate out end r a).accepts b given within (omega arith) in (_, k.2)
+  pub room_enough : {b : Budgets} → budgets rate.numer rate.denom ≡ gave b → (w.now.carrying ≡ true → 600 * rate.denom ≤ 31 * rate.numer) → 95 ≤ length out.now
+      → (n : ℕ) × (r ≡ Ok n)
+  room_enough {b} given within room = let k = (write_accepted w w' d κs rate out end r a).accepts b given within (omega arith) in (_, k.2)
 
   -- where four packet triples or more are left, an accepted write sends four [J4]
-  pub four_sent : (κs : Lfts 1) (rate : Framerate) (out end : Output) (r : WriterCount) → Write κs w rate out end r → (n : ℕ) → r.answer ≡ counted.Count n
-      → 4 ≤ unsent_of w → 4 ≤ packet_triples_of (take n end.now)
-  four_sent κs rate out end r a n e many = omega (arith, (sends_four d κs rate out end r a n e).four)
+  pub four_sent : (n : ℕ) → r ≡ Ok n → 4 ≤ unsent_of w.now → 4 ≤ packet_triples_of (take n end.now)
+  four_sent n e many = omega (arith, (sends_four w w' d κs rate out end r a n e).four)
 
 -- with the carrying mode off each write may be at a rate of its own
 pub any_rate : (speed other : Framerate) {w w' : CCDataWriter} {fs : List (List ℕ)} {is : Items} (c : Calls w fs is w') → Stays false speed c → Stays false other c
 any_rate speed other no_call s = s
-any_rate speed other (push_packet d r t a c) s = any_rate speed other c s
-any_rate speed other (push_cea608 x r a c) s = any_rate speed other c s
-any_rate speed other (set_cea608_padding on r a c) s = any_rate speed other c s
-any_rate speed other (set_padding on r a c) s = any_rate speed other c s
-any_rate speed other (set_carrying on r a c) s = (s.0, any_rate speed other c s.1)
-any_rate speed other (set_true_count on r a c) s = any_rate speed other c s
-any_rate speed other (write κs rate out end r a c) s = (λ n e on. absurd (false≢true on), any_rate speed other c s.1)
+any_rate speed other (push_packet κs w w' d r t a c) s = any_rate speed other c s
+any_rate speed other (push_cea608 κs w w' x r a c) s = any_rate speed other c s
+any_rate speed other (set_cea608_padding κs w w' on r a c) s = any_rate speed other c s
+any_rate speed other (set_padding κs w w' on r a c) s = any_rate speed other c s
+any_rate speed other (set_carrying κs w w' on r a c) s = (s.0, any_rate speed other c s.1)
+any_rate speed other (set_true_count κs w w' on r a c) s = any_rate speed other c s
+any_rate speed other (write κs w w' rate out end r a c) s = (λ n e on. absurd (false≢true on), any_rate speed other c s.1)

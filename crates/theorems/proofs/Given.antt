@@ -17,18 +17,15 @@ use Rattle.model_journey.proofs.Round.{ready_fresh}
 use Rattle.model_journey.proofs.Taking.{holding}
 use Rattle.model_journey.proofs.Carried.{Carried, carried}
 use Rattle.model_journey.proofs.Leaves.{leaves, first_gone}
-use Rattle.caption.specs.declared.Answer.{Answer}
 use Rattle.caption.specs.declared.Framerate.{Framerate}
 use Rattle.writer.specs.Writer.{means}
 use Rattle.writer.specs.declared.CCDataWriter.{CCDataWriter}
 use Rattle.parser.specs.Means as parser
 use Rattle.parser.specs.declared.CCDataParser.{CCDataParser}
-use Rattle.parser.specs.declared.ParserAnswer.{ParserAnswer}
-use Rattle.parser.specs.declared.Item.{Item}
 use Rattle.theorems.specs.Items.{Items}
-use Rattle.theorems.specs.Allowed.{NewWriter, NewParser, HandleCea608}
+use Rattle.theorems.specs.Allowed.{Answer, NewWriter}
 use Rattle.theorems.specs.Writing.{Calls, Exact, Stays}
-use Rattle.theorems.specs.Reading.{Feeds, NoRefusal}
+use Rattle.theorems.specs.Reading.{Turned, Told, Feeds, NoRefusal}
 use Rattle.theorems.specs.Bounds.{pairs_at, BeginsWith, GivenInTime}
 use Rattle.theorems.proofs.Sequences.{follows, from_fresh}
 use Rattle.theorems.proofs.Queued.{others_twice, others_left, queue_others}
@@ -70,15 +67,15 @@ framed {s} {g} r d fs e c = subst (λ (x : List (List ℕ)). Carried s g r (read
 
 -- the pair at place i has left after 2i accepted writes, or 4i with the carrying mode on [J3], and a demultiplexer that was fed every frame before
 -- has given it by then: of what it gives from there on each field's pairs begin with those at the first i places.
-pub pair_given : (mode : Bool) (speed : Framerate) {w₀ w w' : CCDataWriter} {p₀ p p' : CCDataParser} {fs₀ fs : List (List ℕ)} {is₀ is given₀ given : Items} {on : ParserAnswer} {answers₀ answers : List Answer} {told₀ told : List Item}
+pub pair_given : (mode : Bool) (speed : Framerate) {w₀ w w' : CCDataWriter} {p₀ p p' : CCDataParser} {on : Answer} {fs₀ fs : List (List ℕ)} {is₀ is given₀ given : Items} {answers₀ answers : List Answer} {told₀ told : List Told}
     → NewWriter w₀ → (before : Calls w₀ fs₀ is₀ w) → Exact before → (behind : Calls w fs is w') → Exact behind → w.carrying ≡ mode → Stays mode speed behind
-    → NewParser p₀ → HandleCea608 p₀ on → Feeds on.parser fs₀ answers₀ told₀ given₀ p → Feeds p fs answers told given p'
+    → Turned on p₀ → Feeds p₀ fs₀ answers₀ told₀ given₀ p → Feeds p fs answers told given p'
     → NoRefusal fs answers told × ((f : Field) → GivenInTime mode f w fs given)
-pair_given mode speed {w} {p} {fs₀} {fs} {given} new before exact behind exact' set stay new_parser turned read₀ read =
+pair_given mode speed {w} {p} {fs₀} {fs} {given} new before exact behind exact' set stay turned read₀ read =
     let k = from_fresh new before in
     let o : Read = read_frames fs₀ (turn608_on fresh_demux) in
     let t = framed (run k.calls fresh_mux) (turn608_on fresh_demux) fs₀ k.frames (carried k.calls fresh_mux [] (k.allowed exact_count exact) ready_fresh) in
-    let d = (given_fed new_parser turned read₀).1 in
+    let d = (given_fed turned read₀).1 in
     let m = follows behind k.sound in
     let g : List ℕ = o.last.pending in
     let c = framed (run m.calls (means w)) (holding g) fs m.frames (carried m.calls (means w) g (m.allowed exact_count exact') (rw k.last at t.ready)) in

@@ -1,3 +1,4 @@
+pub mod Contracts
 pub mod Emptying
 pub mod Feeding
 pub mod Passing

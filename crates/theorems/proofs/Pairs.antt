@@ -4,7 +4,8 @@ use mathlib.Core.List.{[], ◌∷◌, ◌++◌}
 use native.Mathlib.Omega.{arith}
 use lib.Dec.{leb}
 use lib.ListN.{length}
-use Rattle.model.specs.Said.{gave, refused, after, checked, full}
+use contract.Lifetimes.{Lfts}
+use Rattle.model.specs.Said.{gave, refused, after, full}
 use Rattle.model.specs.Frame.{Cea608, field1, field2}
 use Rattle.model.specs.Mux.{Mux, is_null, with_queues, push_pair, push_cea608, queued, most_queued}
 use Rattle.model.specs.Run.{pushes608, call, others}
@@ -13,16 +14,16 @@ use Rattle.model_journey.proofs.Calls.{quiet_608}
 use Rattle.caption.specs.Pairs.{cea608_of}
 use Rattle.caption.specs.declared.Refusal.TheVariants.{Full}
 use Rattle.caption.specs.declared.Cea608 as caption
-use Rattle.writer.specs.Writer.{means, valid_writer, stored}
-use Rattle.writer.specs.Calls.{Answers}
+use Rattle.writer.specs.Writer.{means, stored}
+use Rattle.writer.specs.Calls.{pair_outcome}
 use Rattle.writer.proofs.Stored.{Grows, grows_pair, stored_self}
 use Rattle.writer.proofs.Kept.{Sound, sound_order, sound_mux, stored_sound}
 use Rattle.writer.specs.declared.CCDataWriter.{CCDataWriter}
-use Rattle.writer.specs.declared.WriterAnswer.{WriterAnswer}
 use Rattle.theorems.specs.Items.{Items, no_items, one_pair}
-use Rattle.theorems.specs.Allowed.{PushCea608}
+use Rattle.theorems.specs.Allowed.{Writer, Answer, PushCea608}
 use Rattle.theorems.specs.Writing.{if_accepted}
 use Rattle.theorems.specs.Trip.{sending_of}
+use Rattle.theorems.proofs.Contracts.{Answers, pair_says}
 use Rattle.theorems.proofs.Passing.{passed_quiet}
 use Rattle.theorems.proofs.Following.{no_test, no_stay, Moved, unmoved, moves}
 use Rattle.theorems.proofs.Answered.{given, stays_denied}
@@ -60,14 +61,14 @@ pair_call (field2 x) s = (refl, (refl, refl))
 -- a pair
 module _ (w : CCDataWriter) (s : Sound w) where
   -- by what the push does
-  pair_by : (x : caption.Cea608) (r : WriterAnswer) → Answers (checked (valid_writer w) (push_cea608 (cea608_of x) (means w))) (stored w) w r
-      → Pushed (cea608_of x) (means w) → Moved w [] (if_accepted r.answer (one_pair (cea608_of x))) r.writer no_test no_stay
-  pair_by x r a (dropped g n) = let k = given a (means w) (rw (s.valid, g)) in rw (k.0, n) (unmoved refl refl (k.1.1 ∙ stored_self w (sound_order w s)))
-  pair_by x r a (over g) = stays_denied a (one_pair (cea608_of x)) Full (rw (s.valid, g))
-  pair_by x r a (placed m g p q n) =
+  pair_by : (x : caption.Cea608) (r : Answer) (w' : CCDataWriter) → Answers (pair_outcome x w) (stored w) w r w'
+      → Pushed (cea608_of x) (means w) → Moved w [] (if_accepted r (one_pair (cea608_of x))) w' no_test no_stay
+  pair_by x r w' a (dropped g n) = let k = given a (means w) (rw (s.valid, g)) in rw (k.0, n) (unmoved refl refl (k.1.1 ∙ stored_self w (sound_order w s)))
+  pair_by x r w' a (over g) = stays_denied a (one_pair (cea608_of x)) Full (rw (s.valid, g))
+  pair_by x r w' a (placed m g p q n) =
       let k = given a m (rw (s.valid, g)) in
       let c = pair_call (cea608_of x) (means w) in
-      let last : (call (pushes608 (cea608_of x)) (means w)).last ≡ means r.writer = c.0 ∙ rw g (sym k.1.0) in
+      let last : (call (pushes608 (cea608_of x)) (means w)).last ≡ means w' = c.0 ∙ rw g (sym k.1.0) in
       let packets = c.1.1 ∙ sym (no_packet (cea608_of x)) in
       rw k.0
       (moves (pushes608 (cea608_of x)) (record {
@@ -81,10 +82,11 @@ module _ (w : CCDataWriter) (s : Sound w) where
         rates = λ cs t. t;
         writes = λ cs. omega arith;
         quiet = λ e cs t. absurd (n e);
-        passed = passed_quiet w r.writer (quiet_608 (cea608_of x) (means w)) last packets (ap sending_of k.1.1);
+        passed = passed_quiet w w' (quiet_608 (cea608_of x) (means w)) last packets (ap sending_of k.1.1);
         sound = rw k.1.1 (stored_sound w s m (gives_at (Grows (means w)) (push_cea608 (cea608_of x) (means w)) g (grows_pair (means w) (sound_mux w s) (cea608_of x))));
       }))
 
-  -- by its contract
-  pub pair_moves : (x : caption.Cea608) (r : WriterAnswer) → PushCea608 w x r → Moved w [] (if_accepted r.answer (one_pair (cea608_of x))) r.writer no_test no_stay
-  pair_moves x r a = pair_by x r a (pushed_by (cea608_of x) (means w))
+-- by its contract
+pub pair_moves : (κs : Lfts 1) (w w' : Writer) (x : caption.Cea608) (r : Answer) → Sound w.now → PushCea608 κs w x r w'
+    → Moved w.now [] (if_accepted r (one_pair (cea608_of x))) w'.now no_test no_stay
+pair_moves κs w w' x r s a = pair_by w.now s x r w'.now (pair_says w w' r κs x a) (pushed_by (cea608_of x) (means w.now))

@@ -8,6 +8,7 @@ use Rattle.writer.proofs.Kept.{Sound, fresh_sound, emptied_sound}
 use Rattle.writer.specs.declared.CCDataWriter.{CCDataWriter}
 use Rattle.theorems.specs.Writing as specs
 use Rattle.theorems.specs.Writing.{Reached, called, flushed}
+use Rattle.theorems.proofs.Contracts.{flush_says}
 use Rattle.theorems.proofs.Sequences.{follows}
 use Rattle.theorems.proofs.Answered.{given}
 
@@ -25,7 +26,7 @@ holds (called {w} d c) =
     let k = holds d in
     let f = follows c k.sound in
     record { sound = f.sound; follow = rw f.last at (follow_run f.calls (means w) k.follow) }
-holds (flushed {w} d r a) =
+holds (flushed κs w w' r d a) =
     let k = holds d in
-    let g = (given a (flush_mux (means w)) (rw k.sound.valid)).1 in
-    record { sound = rw g.1 (emptied_sound w k.sound); follow = rw g.0 stop }
+    let g = (given (flush_says w w' r κs a) (flush_mux (means w.now)) (rw k.sound.valid)).1 in
+    record { sound = rw g.1 (emptied_sound w.now k.sound); follow = rw g.0 stop }

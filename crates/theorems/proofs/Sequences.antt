@@ -10,6 +10,7 @@ use Rattle.theorems.specs.Items.{Items, and_then}
 use Rattle.theorems.specs.Allowed.{NewWriter}
 use Rattle.theorems.specs.Writing.{Calls, no_call, push_packet, push_cea608, set_cea608_padding, set_padding, set_carrying, set_true_count, write, Tested, Stays}
 use Rattle.theorems.specs.Trip.{sending_of}
+use Rattle.theorems.proofs.Contracts.{cea608_padding_says, padding_says, carrying_says, true_count_says}
 use Rattle.theorems.proofs.Passing.{there_in}
 use Rattle.theorems.proofs.Following.{Tests, Staying, no_test, no_stay, Follows, Moved, moved_sound, follows_none, follow, reask}
 use Rattle.theorems.proofs.Answered.{switch_moves}
@@ -26,15 +27,18 @@ then s m f = reask (λ passes p. (tt, p)) (λ mode speed p. (tt, p)) (follow m (
 pub follows : {w w' : CCDataWriter} {fs : List (List ℕ)} {is : Items} (c : Calls w fs is w') → Sound w
     → Follows (means w) (there_in w) fs is w' (λ passes. Tested passes c) (λ mode speed. Stays mode speed c)
 follows {w} no_call s = follows_none w s
-follows {w} (push_packet d r t a c) s = then s (packet_moves w d r s t a) (λ k. follows c k)
-follows {w} (push_cea608 x r a c) s = then s (pair_moves w s x r a) (λ k. follows c k)
-follows {w} (set_cea608_padding on r a c) s = then s (switch_moves w r (paddings on w.output_padding) s a) (λ k. follows c k)
-follows {w} (set_padding on r a c) s = then s (switch_moves w r (paddings w.output_cea608_padding on) s a) (λ k. follows c k)
-follows {w} (set_carrying on r a c) s =
-    let m = switch_moves w r (carrying_mode on) s a in
+follows (push_packet κs w w' d r t a c) s = then s (packet_moves κs w w' d r s t a) (λ k. follows c k)
+follows (push_cea608 κs w w' x r a c) s = then s (pair_moves κs w w' x r s a) (λ k. follows c k)
+follows (set_cea608_padding κs w w' on r a c) s =
+    then s (switch_moves w.now w'.now r (paddings on w.now.output_padding) s (cea608_padding_says w w' r κs on a)) (λ k. follows c k)
+follows (set_padding κs w w' on r a c) s =
+    then s (switch_moves w.now w'.now r (paddings w.now.output_cea608_padding on) s (padding_says w w' r κs on a)) (λ k. follows c k)
+follows (set_carrying κs w w' on r a c) s =
+    let m = switch_moves w.now w'.now r (carrying_mode on) s (carrying_says w w' r κs on a) in
     reask (λ passes p. (tt, p)) (λ mode speed p. p) (follow m (follows c (moved_sound m s)))
-follows {w} (set_true_count on r a c) s = then s (switch_moves w r (true_counting on) s a) (λ k. follows c k)
-follows {w} (write κs rate out end r a c) s = let m = write_moves w rate end.now r s (write_does κs w rate out end r s a) in follow m (follows c (moved_sound m s))
+follows (set_true_count κs w w' on r a c) s = then s (switch_moves w.now w'.now r (true_counting on) s (true_count_says w w' r κs on a)) (λ k. follows c k)
+follows (write κs w w' rate out end r a c) s =
+    let m = write_moves w.now rate end.now r w'.now s (write_does κs w w' rate out end r s a) in follow m (follows c (moved_sound m s))
 
 -- a fresh one sends no packet
 none_sending : sending_of fresh ≡ []

@@ -16,19 +16,16 @@ use Rattle.model_journey.specs.Bounds.{one, two}
 use Rattle.model_journey.proofs.Gather as gather
 use Rattle.model_journey.proofs.Round.{ready_fresh}
 use Rattle.model_journey.proofs.Carried as journey
-use Rattle.caption.specs.declared.Answer.{Answer}
 use Rattle.slots.specs.Slot.{written_length}
 use Rattle.writer.specs.Writer.{means}
 use Rattle.writer_sending.proofs.Triples.{left_length}
 use Rattle.writer.proofs.Kept.{Sound, sound_ok}
 use Rattle.writer.specs.declared.CCDataWriter.{CCDataWriter}
 use Rattle.parser.specs.declared.CCDataParser.{CCDataParser}
-use Rattle.parser.specs.declared.ParserAnswer.{ParserAnswer}
-use Rattle.parser.specs.declared.Item.{Item}
 use Rattle.theorems.specs.Items.{Items}
-use Rattle.theorems.specs.Allowed.{NewWriter, NewParser, HandleCea608}
+use Rattle.theorems.specs.Allowed.{Answer, NewWriter}
 use Rattle.theorems.specs.Writing.{Calls, Exact}
-use Rattle.theorems.specs.Reading.{Feeds, NoRefusal}
+use Rattle.theorems.specs.Reading.{Turned, Told, Feeds, NoRefusal}
 use Rattle.theorems.specs.Trip.{sending_of, SoFar}
 use Rattle.theorems.proofs.Passing.{there_in}
 use Rattle.theorems.proofs.Sequences.{from_fresh}
@@ -80,11 +77,11 @@ begins_by {w} {frames} {accepted} new c exact =
 
 -- Fed every frame so far and emptied after each, while the multiplexer is still in use, a demultiplexer has refused nothing; and what was accepted
 -- is what it has given, and then what is still there.
-pub so_far : {w₀ w : CCDataWriter} {p₀ p : CCDataParser} {frames : List (List ℕ)} {accepted given : Items} {on : ParserAnswer} {answers : List Answer} {told : List Item}
+pub so_far : {w₀ w : CCDataWriter} {p p' : CCDataParser} {on : Answer} {frames : List (List ℕ)} {accepted given : Items} {answers : List Answer} {told : List Told}
     → NewWriter w₀ → (c : Calls w₀ frames accepted w) → Exact c
-    → NewParser p₀ → HandleCea608 p₀ on → Feeds on.parser frames answers told given p
+    → Turned on p → Feeds p frames answers told given p'
     → NoRefusal frames answers told × SoFar w given accepted
-so_far new c exact new_parser turned read =
+so_far new c exact turned read =
     let t = begins_by new c exact in
-    let d = (given_fed new_parser turned read).1 in
+    let d = (given_fed turned read).1 in
     (no_refusal d t.answers, rw d.items t.begins)

@@ -4,14 +4,13 @@ use mathlib.Core.List.{List, []}
 use Prim.Native.Nat.{ℕ}
 use native.Mathlib.Omega.{arith}
 use lib.ListN.{length, replicate}
+use Rattle.std.specs.Prelude.{Ok}
 use Rattle.model.specs.Said as said
-use Rattle.model.specs.Demux.{quiet, fresh_demux, turn608_on}
+use Rattle.model.specs.Demux.{fresh_demux, turn608_on}
 use Rattle.model.specs.Run as model
 use Rattle.model.specs.Run.{exact_count, Read, read_frames}
 use Rattle.model_journey.proofs.Trip as journey
-use Rattle.caption.specs.declared.Answer.{Answer}
-use Rattle.caption.specs.declared.Answer.TheVariants.{Accepted}
-use Rattle.caption.proofs.Answers.{said_answer_injective}
+use Rattle.caption.proofs.Outcomes.{says_injective}
 use Rattle.writer_queues.specs.Queue.{queue_of, pairs_of}
 use Rattle.slots.specs.Slot.{written_bytes}
 use Rattle.writer.specs.Writer.{means}
@@ -24,13 +23,12 @@ use Rattle.parser.specs.After as after
 use Rattle.parser.proofs.Laid as places
 use Rattle.parser.proofs.Kept as kept
 use Rattle.parser.specs.declared.CCDataParser.{CCDataParser}
-use Rattle.parser.specs.declared.ParserAnswer.{ParserAnswer}
-use Rattle.parser.specs.declared.Item.{Item}
 use Rattle.theorems.specs.Items.{Items}
-use Rattle.theorems.specs.Allowed.{NewWriter, NewParser, HandleCea608}
+use Rattle.theorems.specs.Allowed.{Answer, NewWriter}
 use Rattle.theorems.specs.Writing.{Calls, Exact, Drained}
-use Rattle.theorems.specs.Reading.{Feeds}
+use Rattle.theorems.specs.Reading.{Turned, turn, Told, Feeds}
 use Rattle.theorems.specs.Trip.{RoundTrip}
+use Rattle.theorems.proofs.Contracts.{handle_says}
 use Rattle.theorems.proofs.Following.{items_same}
 use Rattle.theorems.proofs.Sequences.{from_fresh}
 use Rattle.theorems.proofs.Feeding.{items_read, Fed, feeds, no_refusal}
@@ -48,30 +46,31 @@ drained w s d =
     }
 
 -- 608 is turned on in a fresh demultiplexer: it is accepted, and the state is within the limits and the model's
-record Ready (on : ParserAnswer) : Type 0 where
-  answer : on.answer ≡ Accepted
-  sound : places.Sound on.parser
-  means : parser.means on.parser ≡ turn608_on fresh_demux
+record Ready (on : Answer) (p : CCDataParser) : Type 0 where
+  answer : on ≡ Ok tt
+  sound : places.Sound p
+  means : parser.means p ≡ turn608_on fresh_demux
 
 -- from the contracts
-ready : (p : CCDataParser) (on : ParserAnswer) → NewParser p → HandleCea608 p on → Ready on
-ready p on a h =
-    let e : p ≡ calls.fresh = a.1 in
-    let c : calls.Answers (quiet (turn608_on (parser.means p))) (calls.laid_after p) p on = h in
-    let s : places.Sound p = rw e kept.fresh_sound in
-    let t : on.parser ≡ after.turned_on p = rw s.valid at c.places in
+ready : {on : Answer} {p : CCDataParser} → Turned on p → Ready on p
+ready (turn κs p q on a h) =
+    let e : p.now ≡ calls.fresh = a.1 in
+    let c = handle_says p q on κs h in
+    let s : places.Sound p.now = rw e kept.fresh_sound in
+    let t : q.now ≡ after.turned_on p.now = rw s.valid at c.places in
+    let left : places.Sound q.now = rw t (kept.turned_sound p.now s) in
     record {
-      answer = said_answer_injective on.answer Accepted (rw s.valid at c.answer);
-      sound = rw t (kept.turned_sound p s);
+      answer = says_injective on (Ok tt) (rw s.valid at c.answer);
+      sound = left;
       means = c.means s.valid ∙ ap turn608_on a.0;
     }
 
 -- frames fed to a fresh one with 608 on
-pub given_fed : {p₀ p : CCDataParser} {on : ParserAnswer} {frames : List (List ℕ)} {answers : List Answer} {told : List Item} {given : Items}
-    → NewParser p₀ → HandleCea608 p₀ on → Feeds on.parser frames answers told given p
-    → (on.answer ≡ Accepted) × Fed frames (turn608_on fresh_demux) answers told given p
-given_fed {p₀} {on} new turned read =
-    let y = ready p₀ on new turned in
+pub given_fed : {on : Answer} {p p' : CCDataParser} {frames : List (List ℕ)} {answers : List Answer} {told : List Told} {given : Items}
+    → Turned on p → Feeds p frames answers told given p'
+    → (on ≡ Ok tt) × Fed frames (turn608_on fresh_demux) answers told given p'
+given_fed turned read =
+    let y = ready turned in
     (y.answer, rw y.means at (feeds read y.sound))
 
 -- Calls from a fresh multiplexer that end drained: what the model's demultiplexer reads in their frames.
@@ -90,11 +89,11 @@ carried {w} {frames} {accepted} new c exact empty =
 
 -- Any calls on a fresh multiplexer, without a flush and with a padding or the true count on at each accepted write: once drained, a fresh
 -- demultiplexer with 608 on, given every frame and drawn empty after each, has given exactly the items that were accepted, in order, once each [J1].
-pub round_trip : {w₀ w : CCDataWriter} {p₀ p : CCDataParser} {frames : List (List ℕ)} {accepted given : Items} {on : ParserAnswer} {answers : List Answer} {told : List Item}
+pub round_trip : {w₀ w : CCDataWriter} {p p' : CCDataParser} {on : Answer} {frames : List (List ℕ)} {accepted given : Items} {answers : List Answer} {told : List Told}
     → NewWriter w₀ → (c : Calls w₀ frames accepted w) → Exact c → Drained w
-    → NewParser p₀ → HandleCea608 p₀ on → Feeds on.parser frames answers told given p
+    → Turned on p → Feeds p frames answers told given p'
     → RoundTrip on frames answers told given accepted
-round_trip new c exact empty new_parser turned read =
+round_trip new c exact empty turned read =
     let t = carried new c exact empty in
-    let d = given_fed new_parser turned read in
+    let d = given_fed turned read in
     record { turned_on = d.0; no_refusal = no_refusal d.1 t.answers; exactly = d.1.items ∙ t.exactly }

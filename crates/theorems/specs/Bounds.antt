@@ -1,13 +1,12 @@
 -- How soon what is queued leaves. Assumes nothing.
-use Rattle.std.specs.Prelude.{◌≡◌, Bool, true, List, ◌++◌, ℕ, ◌+◌, ◌*◌, ◌≤◌, min, length, take, drop}
+use Rattle.std.specs.Prelude.{Result, Ok, ◌≡◌, Bool, true, List, ◌++◌, ℕ, ◌+◌, ◌*◌, ◌≤◌, min, length, take, drop}
 use Rattle.model.specs.Said.{gave}
 use Rattle.model.specs.Frame.{Pair, seen_all, triples_in, most_frame, frame_bytes}
 use Rattle.model.specs.Rate.{Budgets, budgets, most_triples, Share}
 use Rattle.model.specs.Mux.{unsent, share_at, write_share}
 use Rattle.model_journey.specs.Bounds.{Field, the, Left, pace, packet_triples_in}
-use Rattle.caption.specs.declared.Counted.{Counted}
-use Rattle.caption.specs.declared.Counted.TheVariants.{Count}
 use Rattle.caption.specs.declared.Framerate.{Framerate}
+use Rattle.caption.specs.declared.Refusal.{Refusal}
 use Rattle.writer_queues.specs.Queue.{queue_of}
 use Rattle.writer.specs.Writer.{means}
 use Rattle.writer.specs.declared.CCDataWriter.{CCDataWriter}
@@ -33,9 +32,9 @@ pub record SendsFour (w : CCDataWriter) (frame : List ℕ) (w' : CCDataWriter) :
 
 -- a write at an accepted rate, with room for the longest frame, is accepted: the rate has budgets [G2], and with the carrying mode on 600 · denom is
 -- within 31 · numer [G6]; the answer counts the bytes of the frame, which has its share of the rate
-pub record AcceptsWrite (w : CCDataWriter) (rate : Framerate) (out : List ℕ) (answer : Counted) : Type 0 where
+pub record AcceptsWrite (w : CCDataWriter) (rate : Framerate) (out : List ℕ) (answer : Result ℕ Refusal) : Type 0 where
   pub accepts : (b : Budgets) → budgets rate.numer rate.denom ≡ gave b → (w.carrying ≡ true → 600 * rate.denom ≤ most_triples * rate.numer) → most_frame ≤ length out
-      → (h : Share) × (share_at rate.numer rate.denom (means w) ≡ gave h) × (answer ≡ Count (length (frame_bytes (write_share h (means w)).frame)))
+      → (h : Share) × (share_at rate.numer rate.denom (means w) ≡ gave h) × (answer ≡ Ok (length (frame_bytes (write_share h (means w)).frame)))
 
 -- the pairs of a field among items
 abbrev pub pairs_at : Field → Items → List Pair

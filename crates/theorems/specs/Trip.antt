@@ -1,19 +1,16 @@
 -- What is promised [J1] of calls and of the frames that they wrote. Assumes nothing.
-use Rattle.std.specs.Prelude.{◌≡◌, cond, List, [], ◌∷◌, ◌++◌, ℕ, leb}
+use Rattle.std.specs.Prelude.{Ok, ◌≡◌, cond, List, [], ◌∷◌, ◌++◌, ℕ, leb}
 use Rattle.model.specs.Packet.{Packet}
-use Rattle.caption.specs.declared.Answer.{Answer}
-use Rattle.caption.specs.declared.Answer.TheVariants.{Accepted}
 use Rattle.slots.specs.Slot.{written_length, read_slot}
 use Rattle.writer.specs.Writer.{means}
 use Rattle.writer.specs.declared.CCDataWriter.{CCDataWriter}
-use Rattle.parser.specs.declared.ParserAnswer.{ParserAnswer}
-use Rattle.parser.specs.declared.Item.{Item}
 use Rattle.theorems.specs.Items.{Items}
-use Rattle.theorems.specs.Reading.{NoRefusal}
+use Rattle.theorems.specs.Allowed.{Answer}
+use Rattle.theorems.specs.Reading.{Told, NoRefusal}
 
 -- 608 is turned on, no frame and no draw is refused, and what is given is exactly what was accepted, in order, once each [J1]
-pub record RoundTrip (on : ParserAnswer) (frames : List (List ℕ)) (answers : List Answer) (told : List Item) (given accepted : Items) : Type 0 where
-  pub turned_on : on.answer ≡ Accepted
+pub record RoundTrip (on : Answer) (frames : List (List ℕ)) (answers : List Answer) (told : List Told) (given accepted : Items) : Type 0 where
+  pub turned_on : on ≡ Ok tt
   pub no_refusal : NoRefusal frames answers told
   pub exactly : given ≡ accepted
 

@@ -8,7 +8,7 @@
 ghost use Rattle.std.specs.Prelude.{◌≡◌, ◌≤◌, length, IfOk, OnErr};
 
 use basics::MOST_FRAME;
-use caption::{Cea608, Counted, Framerate};
+use caption::{Cea608, Framerate, Refusal};
 use packet::DTVCCPacket;
 use service::Service;
 use std::io;
@@ -19,7 +19,7 @@ use writer::CCDataWriter;
 const PAIRS: usize = 2000;
 
 // The bytes of every frame so far, and the sum over them.
-#[derive(Drop)]
+#[derive(Clone, Copy)]
 struct Totals {
     bytes: u64,
     sum: u64,
@@ -57,31 +57,27 @@ fn with_bytes(t: Totals, frame: &[u8; 95], n: usize) -> Totals {
 }
 
 // The totals with a frame that was written; a refused one adds nothing.
-fn with_frame(t: Totals, frame: &[u8; 95], written: Counted) -> Totals {
+fn with_frame(t: Totals, frame: &[u8; 95], written: Result<usize, Refusal>) -> Totals {
     match written {
-        Counted::Count(n) => with_bytes(t, frame, n),
-        Counted::Refused(_) => t,
+        Ok(n) => with_bytes(t, frame, n),
+        Err(_) => t,
     }
 }
 
 // A block of 12 bytes.
-fn block(number: u8) -> Service {
-    let made = Service::new(number);
-    let empty = made.service;
-    let pushed = empty.push_code(b"twelve bytes");
-    pushed.service
+fn block(number: u8) -> Result<Service, Refusal> {
+    let mut block = Service::new(number)?;
+    block.push_code(b"twelve bytes")?;
+    Ok(block)
 }
 
 // A packet of three blocks.
-fn packet(i: usize, block1: Service, block2: Service, block3: Service) -> DTVCCPacket {
-    let made = DTVCCPacket::new((i % 4) as u8);
-    let empty = made.packet;
-    let one = empty.push_service(block1);
-    let first = one.packet;
-    let two = first.push_service(block2);
-    let second = two.packet;
-    let three = second.push_service(block3);
-    three.packet
+fn packet(i: usize, blocks: &[Service; 3]) -> Result<DTVCCPacket, Refusal> {
+    let mut packet = DTVCCPacket::new((i % 4) as u8)?;
+    packet.push_service(&blocks[0])?;
+    packet.push_service(&blocks[1])?;
+    packet.push_service(&blocks[2])?;
+    Ok(packet)
 }
 
 // The pairs that go in: of field 1, and then of field 2, before each frame.
@@ -102,11 +98,11 @@ fn due(i: usize) -> bool {
 }
 
 // A multiplexer with both paddings on.
-fn started() -> CCDataWriter {
-    let padded608 = CCDataWriter::new().set_output_cea608_padding(true);
-    let fresh = padded608.writer;
-    let padded = fresh.set_output_padding(true);
-    padded.writer
+fn started() -> Result<CCDataWriter, Refusal> {
+    let mut writer = CCDataWriter::new();
+    writer.set_output_cea608_padding(true)?;
+    writer.set_output_padding(true)?;
+    Ok(writer)
 }
 
 // The rate of a frame, by the first byte of the input and the last of the frame before it: two pairs and 20 triples, where the first is 0.
@@ -116,34 +112,24 @@ fn rate_by(first: u8, last: u8) -> Framerate {
 }
 
 // The totals of the frames that so many pairs go into.
-fn write_frames(
-    start: CCDataWriter,
-    first: u8,
-    block1: Service,
-    block2: Service,
-    block3: Service,
-    pairs: usize,
-    frame: &mut [u8; 95],
-) -> Totals {
-    let mut writer = start;
+fn write_frames(first: u8, pairs: usize) -> Result<Totals, Refusal> {
+    let blocks = [block(1)?, block(2)?, block(3)?];
+    let mut writer = started()?;
+    let mut frame = [0u8; 95];
     let mut t = Totals { bytes: 0, sum: 0 };
     let mut i: usize = 0;
     while i < pairs {
-        let pushed = writer.push_cea608(pair(i));
-        writer = pushed.writer;
+        let _ = writer.push_cea608(pair(i));
         if i % 2 == 1 {
             if due(i / 2) {
-                let stored = writer.push_packet(packet(i / 2, block1, block2, block3));
-                writer = stored.writer;
+                let _ = writer.push_packet(&packet(i / 2, &blocks)?);
             }
-            let written = writer.write(rate_by(first, frame[61]), frame);
-            writer = written.writer;
-            let answer = written.answer;
-            t = with_frame(t, frame, answer);
+            let written = writer.write(rate_by(first, frame[61]), &mut frame);
+            t = with_frame(t, &frame, written);
         }
         i += 1;
     }
-    t
+    Ok(t)
 }
 
 // Reads until `buf` is full or the input ends: how many bytes are at its front.
@@ -165,19 +151,8 @@ fn read_full(rt: &HostRuntime, buf: &mut [u8]) -> io::Result<usize>
 fn main(rt: HostRuntime) -> io::Result<()> {
     let mut input = [0u8; 4096];
     let asked = read_full(&rt, &mut input)?;
-    let block1 = block(1);
-    let block2 = block(2);
-    let block3 = block(3);
-    let start = started();
-    let mut frame = [0u8; 95];
-    let t = write_frames(
-        start,
-        input[0],
-        block1,
-        block2,
-        block3,
-        PAIRS * asked,
-        &mut frame,
-    );
-    println!(rt; "{} {}", t.bytes, t.sum)
+    match write_frames(input[0], PAIRS * asked) {
+        Ok(t) => println!(rt; "{} {}", t.bytes, t.sum),
+        Err(_) => println!(rt; "refused"),
+    }
 }

@@ -12,7 +12,6 @@ use Rattle.model.specs.Rate.{Budgets, valid_carry, Share}
 use Rattle.model.specs.Mux.{Turned, turned, turns_due, turns_sending, turns_counted, count_due, Sent, padding, framed, write_frame, write_share, valid_mux, most_queued}
 use Rattle.model.proofs.Frames.{flat_length}
 use Rattle.model.proofs.MuxStates.{write_valid, carry_valid, turns_most, count_most, count_room}
-use Rattle.caption.specs.declared.Counted.TheVariants.{Count}
 use Rattle.writer_frames.specs.Frame.{headed, appended}
 use Rattle.writer_frames.proofs.Stores.{appended_flat}
 use Rattle.writer_frames.specs.declared.Frame.{Frame}
@@ -43,7 +42,6 @@ laid f = appended (headed f.count) (flat f.triples)
 
 -- a frame that is made is the model's, and leaves what the model leaves
 pub record Builds (h : Share) (w : CCDataWriter) (m : Made) : Type 0 where
-  pub answer : m.answer ≡ Count m.frame.len
   pub frame : m.frame ≡ laid (write_share h (means w)).frame
   pub writer : joined w m ≡ moved w (write_share h (means w)).next
   pub few : m.next ≤ w.packet_count
@@ -187,4 +185,4 @@ module _ (w : CCDataWriter) (h : Share) (ok : Ok w) (within : h.budgets.pairs �
 
   -- frame and state are what the model says
   pub built_is : (m : Made) → m ≡ built_from b.pairs b.triples (carry_in h.carry) w → Builds h w m
-  built_is m e = rw (e, built_are) (record { answer = refl; frame = frame_are; writer = writer_are; few = omega arith })
+  built_is m e = rw (e, built_are) (record { frame = frame_are; writer = writer_are; few = omega arith })

@@ -1,41 +1,23 @@
--- The laws of a fresh state, of what durations say, and of a write that is accepted. Assumes nothing.
+-- The laws of a fresh state, and of a write that is accepted. Assumes nothing.
 use mathlib.Core.Path.{◌≡◌, refl}
 use mathlib.Core.Bool.{true}
 use mathlib.Core.List.{List, ◌++◌}
-use mathlib.Mathlib.Logic.Function.Defs.{Injective, LeftInverse, LeftInverse-Injective}
 use Prim.Native.Nat.{ℕ, ◌≤◌}
 use native.Mathlib.Omega.{arith}
 use borrow.Author.Tests.{le-ltb}
-use lib.ListN.{length, get_or, drop}
+use lib.ListN.{length, drop}
 use Rattle.model.specs.Said.{gave, put_into}
 use Rattle.model.specs.Frame.{frame_bytes}
 use Rattle.model.specs.Rate.{Share}
 use Rattle.model.specs.Mux.{fresh_mux, started, share_at, write_share, write_at}
 use Rattle.model.proofs.MuxStates.{frame_most}
-use Rattle.caption.proofs.Answers.{answer_of, refused_again}
 use Rattle.caption.specs.declared.Framerate.{Framerate}
 use Rattle.writer_queues.specs.Queue.{pairs_of, queue_of, pair_bytes, queue_over}
 use Rattle.slots.specs.Slot.{written_bytes}
 use Rattle.writer.specs.Writer.{means, valid_writer, fresh}
-use Rattle.writer.specs.Calls.{said_micros, written}
+use Rattle.writer.specs.Calls.{written}
 use Rattle.writer.proofs.Valid.{valid_mux_means, share_within}
 use Rattle.writer.specs.declared.CCDataWriter.{CCDataWriter}
-use Rattle.writer.specs.declared.Micros.{Micros}
-use Rattle.writer.specs.declared.Micros.TheVariants.{Of, Refused}
-
--- no two times say the same
-micros : List ℕ → Micros
-micros v = Of (get_or v 0 0)
-
--- the time is taken back from what it says
-micros_again : LeftInverse (answer_of micros Refused) said_micros
-unfolding micros
-micros_again (Of n) = refl
-micros_again (Refused why) = refused_again micros Refused why
-
--- so no two say the same
-pub said_micros_injective : Injective said_micros
-said_micros_injective = LeftInverse-Injective (answer_of micros Refused) said_micros micros_again
 
 -- a fresh state
 pub means_fresh : means fresh ≡ fresh_mux

@@ -1,5 +1,4 @@
 pub mod Valid
-pub mod Shape
 pub mod Moved
 pub mod Builds
 pub mod Stored

@@ -5,14 +5,16 @@ use Rattle.model.specs.Said.{Outcome, gave, says, after, checked, mapped}
 use Rattle.model.specs.Mux.{Mux, valid_mux, with_pads, with_mode, with_true_count, Switch, paddings, carrying_mode, true_counting, with_switch}
 use Rattle.model.proofs.Cases.{by_test, both, and_both}
 use Rattle.model.proofs.MuxStates as model
-use Rattle.caption.specs.Answers.{said_answer}
+use Rattle.std.specs.Prelude.{Result}
+use Rattle.caption.specs.Answers.{outcome}
+use Rattle.caption.specs.declared.Refusal.{Refusal}
 use Rattle.writer.specs.Writer.{means, in_order, valid_writer, stored}
-use Rattle.writer.specs.Calls.{Answers}
+use Rattle.writer.specs.Calls.{switch_outcome}
 use Rattle.writer.specs.Making.{switched}
 use Rattle.writer.proofs.Valid.{Order, order_facts, facts_order}
 use Rattle.writer.proofs.Stored.{stored_self, stored_switch}
+use Rattle.writer.proofs.Calls.{Answers}
 use Rattle.writer.specs.declared.CCDataWriter.{CCDataWriter}
-use Rattle.writer.specs.declared.WriterAnswer.{WriterAnswer}
 
 -- a state within its limits
 module _ (w : CCDataWriter) (v : valid_writer w ≡ true) where
@@ -58,16 +60,16 @@ module _ {w : CCDataWriter} {x : Mux} {v : CCDataWriter} (l : Switched w x v) wh
       record { places = by_test (valid_writer w) (λ e. rw (e, ← f e) (switched_within e)) (λ e. rw e (rw e at l.places)); valid = l.valid }
 
   -- a switch is set, and leaves its own answer
-  module _ (y : Switch) (t : WriterAnswer) (a : Answers (checked (valid_writer v) (gave (with_switch y (means v)))) (stored v) v t) where
+  module _ (y : Switch) (r : Result (Unit {0}) Refusal) (t : CCDataWriter) (a : Answers (switch_outcome y v) (stored v) v r t) where
     -- within the limits
-    set_within : valid_writer w ≡ true → t.writer ≡ switched y v
+    set_within : valid_writer w ≡ true → t ≡ switched y v
     set_within e = let k : valid_writer v ≡ true = l.valid ∙ e in rw k at a.places ∙ stored_switch v (parts v k).0 y
 
     -- outside them
-    set_outside : valid_writer w ≡ false → t.writer ≡ v
+    set_outside : valid_writer w ≡ false → t ≡ v
     set_outside e = let k : valid_writer v ≡ false = l.valid ∙ e in rw k at a.places
 
-    pub one_set : Switched w (with_switch y x) t.writer
+    pub one_set : Switched w (with_switch y x) t
     one_set =
         record {
           places = by_test (valid_writer w)
@@ -79,5 +81,5 @@ module _ {w : CCDataWriter} {x : Mux} {v : CCDataWriter} (l : Switched w x v) wh
         }
 
     -- the answer is as if all were one call
-    pub set_answer : said_answer t.answer ≡ says (comes_to w (with_switch y x))
+    pub set_answer : says (outcome r) ≡ says (comes_to w (with_switch y x))
     set_answer = by_test (valid_writer w) (λ e. rw e (rw (l.valid ∙ e) at a.answer)) (λ e. rw e (rw (l.valid ∙ e) at a.answer))

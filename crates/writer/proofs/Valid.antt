@@ -4,7 +4,7 @@ use mathlib.Core.Bool.{Bool, true, false, ◌&&◌, ◌||◌, false≢true}
 use mathlib.Core.List.{List, [], ◌∷◌}
 use Prim.Native.Nat.{ℕ, zero, suc, ◌*◌, ◌%◌, ◌≤◌, ◌<◌}
 use native.Mathlib.Omega.{arith}
-use borrow.Author.Tests.{eqb-true, le-leb, lt-leb, leb-true}
+use borrow.Author.Tests.{eqb-true, le-leb, lt-leb, leb-true, leb-false}
 use lib.Dec.{eqb, leb}
 use lib.ListN.{length, take, get_or, length-map}
 use lib.Seq.{length-take-le}
@@ -24,6 +24,7 @@ use Rattle.slots.proofs.Written.{carried, carried_storable}
 use Rattle.slots.specs.declared.Slot.{Slot}
 use Rattle.slots.specs.Row.{valid_sending, valid_slots}
 use Rattle.slots.proofs.Row.{and_false}
+pub use Rattle.writer.specs.Making.{Shaped}
 use Rattle.writer.specs.Writer.{means, in_order, valid_writer}
 use Rattle.writer_sending.proofs.Triples.{Held, left_length}
 use Rattle.writer_sending.proofs.Sends.{read_slots}
@@ -58,12 +59,6 @@ held_facts s sent e =
     by_test (eqb s.len 0)
     (λ z. let y : s.len ≡ 0 = eqb-true s.len 0 z in record { most = omega arith; whole = rw y; even = v; within = w })
     (λ z. let k : Carries s = carried s (rw z at t.0) in record { most = k.most; whole = k.whole; even = v; within = w })
-
--- a state whose arrays have their lengths
-pub record Shaped (w : CCDataWriter) : Type 0 where
-  pub packets : length w.packets ≡ 16
-  pub first : length w.field1.bytes ≡ 128
-  pub second : length w.field2.bytes ≡ 128
 
 -- the limits of a state, as facts
 pub record Ok (w : CCDataWriter) : Type 0 where
@@ -141,14 +136,18 @@ module _ (w : CCDataWriter) where
         (λ e. rw e)
 
     -- too many pairs of field 1
-    pub over_first : 64 < w.field1.count → false ≡ valid_writer w
+    pub over_first : false ≡ leb w.field1.count 64 → false ≡ valid_writer w
     unfolding in_order
-    over_first b = simp (lt-leb (2 * w.field1.count) (length w.field1.bytes) (omega (arith, h.first)), and_false (leb w.packet_count (length w.packets))) refl ∙ order_valid
+    over_first e =
+        let b : 64 < w.field1.count = leb-false w.field1.count 64 (sym e) in
+        simp (lt-leb (2 * w.field1.count) (length w.field1.bytes) (omega (arith, h.first)), and_false (leb w.packet_count (length w.packets))) refl ∙ order_valid
 
     -- too many pairs of field 2
-    pub over_second : w.field1.count ≤ 64 → 64 < w.field2.count → false ≡ valid_writer w
+    pub over_second : true ≡ leb w.field1.count 64 → false ≡ leb w.field2.count 64 → false ≡ valid_writer w
     unfolding in_order
-    over_second a b =
+    over_second d e =
+        let a : w.field1.count ≤ 64 = leb-true w.field1.count 64 (sym d) in
+        let b : 64 < w.field2.count = leb-false w.field2.count 64 (sym e) in
         let few = le-leb (2 * w.field1.count) (length w.field1.bytes) (omega (arith, h.first)) in
         let over = lt-leb (2 * w.field2.count) (length w.field2.bytes) (omega (arith, h.second)) in
         simp (few, over, and_false (leb w.packet_count (length w.packets))) refl
@@ -159,9 +158,11 @@ module _ (w : CCDataWriter) where
     over_carry e = by_test (in_order w) (λ o. rw (o, ← e) refl ∙ order_valid) (λ o. rw o refl ∙ order_valid)
 
     -- the slots decide
-    pub by_slots : {r : Bool} → w.field1.count ≤ 64 → w.field2.count ≤ 64 → true ≡ valid_carry (carry_of w.carry) → r ≡ valid_slots w.sending w.sent w.packets w.packet_count → r ≡ valid_writer w
+    pub by_slots : {r : Bool} → true ≡ leb w.field1.count 64 → true ≡ leb w.field2.count 64 → true ≡ valid_carry (carry_of w.carry) → r ≡ valid_slots w.sending w.sent w.packets w.packet_count → r ≡ valid_writer w
     unfolding in_order valid_slots
-    by_slots b d c f =
+    by_slots x y c f =
+        let b : w.field1.count ≤ 64 = leb-true w.field1.count 64 (sym x) in
+        let d : w.field2.count ≤ 64 = leb-true w.field2.count 64 (sym y) in
         let few1 = le-leb (2 * w.field1.count) (length w.field1.bytes) (omega (arith, h.first)) in
         let few2 = le-leb (2 * w.field2.count) (length w.field2.bytes) (omega (arith, h.second)) in
         f

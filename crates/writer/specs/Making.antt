@@ -1,33 +1,22 @@
 -- How a frame is made and a packet stored, part by part. No public contract reaches this file. Assumes nothing.
-use Rattle.std.specs.Prelude.{Bool, true, false, cond, ◌&&◌, ◌≡◌, List, ℕ, ◌+◌, ◌-◌, ◌≤◌, ◌<◌, length, take, drop, set}
+use Rattle.std.specs.Prelude.{Bool, cond, ◌&&◌, ◌≡◌, List, ℕ, ◌-◌, length, take, drop}
 use Rattle.std.proofs.lemmas.List.Edits.{sets}
-use Rattle.model.specs.Said.{Outcome, checked}
 use Rattle.model.specs.Rate.{no_carry}
-use Rattle.model.specs.Mux.{Mux, Switch, paddings, carrying_mode, true_counting, push_packet, push_cea608}
-use Rattle.caption.specs.Pairs.{cea608_of}
-use Rattle.caption.specs.declared.Cea608.{Cea608}
-use Rattle.caption.specs.declared.Framerate.{Framerate}
-use Rattle.caption.specs.declared.Answer.TheVariants.{Refused}
-use Rattle.caption.specs.declared.Refusal.TheVariants.{BadValue}
-use Rattle.packet.specs.Packet.{packet_of, valid_dtvcc}
-use Rattle.packet.specs.declared.DTVCCPacket.{DTVCCPacket}
+use Rattle.model.specs.Mux.{Switch, paddings, carrying_mode, true_counting}
 use Rattle.writer_queues.specs.declared.PairQueue.{PairQueue}
-use Rattle.writer_frames.specs.Frame.{emitted}
 use Rattle.slots.specs.declared.Slot.{Slot}
 use Rattle.writer_shares.specs.Share.{carry_of, carry_in}
 use Rattle.writer_shares.specs.declared.Carry.{Carry}
-use Rattle.writer_storing.specs.declared.Placed.{Placed}
 use Rattle.writer_building.specs.Building.{built}
 use Rattle.writer_building.specs.declared.Source.{Source}
 use Rattle.writer_building.specs.declared.Made.{Made}
-use Rattle.writer.specs.Writer.{means, valid_writer, stored}
-use Rattle.writer.specs.Calls.{Answers, Writes}
 use Rattle.writer.specs.declared.CCDataWriter.{CCDataWriter}
-use Rattle.writer.specs.declared.WriterAnswer.{WriterAnswer}
 
--- a state outside its limits, refused as it was [A2] [A4]
-abbrev pub refused_of : CCDataWriter → WriterAnswer
-refused_of w = record { answer = Refused BadValue; writer = w }
+-- a state whose arrays have their lengths
+pub record Shaped (w : CCDataWriter) : Type 0 where
+  pub packets : length w.packets ≡ 16
+  pub first : length w.field1.bytes ≡ 128
+  pub second : length w.field2.bytes ≡ 128
 
 -- the state with what a frame leaves of it, without the packets that were begun [S3]
 abbrev pub joined : CCDataWriter → Made → CCDataWriter
@@ -148,24 +137,3 @@ flushed w =
       field2 = record { bytes = w.field2.bytes; count = 0 };
       field2_next = w.field2_next;
     }
-
--- what pushing a pair comes to
-abbrev pub pair_outcome : Cea608 → CCDataWriter → Outcome Mux
-pair_outcome c w = checked (valid_writer w) (push_cea608 (cea608_of c) (means w))
-
--- what pushing a packet comes to
-abbrev pub packet_outcome : DTVCCPacket → CCDataWriter → Outcome Mux
-packet_outcome d w = checked (valid_writer w && valid_dtvcc d) (push_packet (packet_of d) (means w))
-
--- the slot that a pushed packet gets, where it is stored
-pub record Stores (d : DTVCCPacket) (w : CCDataWriter) (r : Placed) : Type 0 where
-  pub room : r.stored ≡ true → w.packet_count < 16
-  pub kept : r.stored ≡ false → Answers (packet_outcome d w) (stored w) w (record { answer = r.answer; writer = w })
-  pub stored : r.stored ≡ true
-      → Answers (packet_outcome d w) (stored w) w
-      (record { answer = r.answer; writer = with_packets (w.packet_count + 1) (set w.packets w.packet_count r.slot) w })
-
--- what is made of a state is what a write to so many bytes leaves
-pub record Makes (r : Framerate) (room : ℕ) (w : CCDataWriter) (m : Made) : Type 0 where
-  pub few : m.next ≤ w.packet_count
-  pub wrote : (out : List ℕ) → length out ≡ room → Writes r out w (record { answer = m.answer; writer = joined w m }) (emitted m.frame out)

@@ -1,19 +1,16 @@
 // The multiplexer: packets and CEA-608 pairs in, frames of `cc_data` out.
 #![tactic(auto)]
 
-ghost use Rattle.std.specs.Prelude.{◌≡◌, cond, ◌&&◌};
-ghost use Rattle.model.specs.Said.{gave, measured, checked};
-ghost use Rattle.model.specs.Mux.{fresh_mux, with_pads, with_mode, with_true_count, flush_mux, push_packet, push_cea608};
+ghost use Rattle.std.specs.Prelude.{◌≡◌, length, OnErr};
+ghost use Rattle.model.specs.Said.{gave, says, after, mapped, checked};
+ghost use Rattle.model.specs.Mux.{fresh_mux, paddings, carrying_mode, true_counting};
 ghost use Rattle.model.specs.Duration.{field1_duration, field2_duration, packet_duration};
-ghost use Rattle.caption.specs.Answers.{said_truth};
-ghost use Rattle.caption.specs.Pairs.{cea608_of};
-ghost use Rattle.packet.specs.Packet.{packet_of, valid_dtvcc};
-ghost use Rattle.writer.specs.Writer.{means, valid_writer, fresh, stored, emptied};
-ghost use Rattle.writer.specs.Calls.{said_micros, Answers, Writes};
-ghost use Rattle.writer.specs.Making.{refused_of, source_of, carry_after, with_fields, pair_outcome};
+ghost use Rattle.caption.specs.Answers.{outcome};
+ghost use Rattle.writer.specs.Writer.{means, valid_writer, fresh, stored, emptied, moved};
+ghost use Rattle.writer.specs.Calls.{placed, switch_outcome, pair_outcome, packet_outcome, flush_outcome, written};
+ghost use Rattle.writer.specs.Making.{Shaped, source_of, carry_after};
 
-use basics::MOST_QUEUED;
-use caption::{Answer, Cea608, Counted, Framerate, Refusal, Truth};
+use caption::{Cea608, Framerate, Refusal};
 use packet::DTVCCPacket;
 use slots::{Slot, slots_written};
 use writer_building::Source;
@@ -22,8 +19,10 @@ use writer_sending::{move_down, packets_duration};
 use writer_shares::Carry;
 use writer_storing::place;
 
-// The multiplexer: the two paddings, the queue of packets, the packet being sent and how many of its bytes have left, each field's queue, whether
-// field 2 has the next turn, the true count, and the carrying mode with the carried parts.
+/// The multiplexer: the two paddings, the queue of packets, the packet being sent and how many of
+/// its bytes have left, each field's queue, whether field 2 has the next turn, the true count, and
+/// the carrying mode with the carried parts. One that breaks a limit can be built; every call on it
+/// is refused with `BadValue` and leaves it as it was.
 #[derive(Clone, Copy)]
 pub struct CCDataWriter {
     pub output_cea608_padding: bool,
@@ -40,39 +39,11 @@ pub struct CCDataWriter {
     pub carry: Carry,
 }
 
-// What a call answers, and the state after it.
-#[derive(Clone, Copy)]
-pub struct WriterAnswer {
-    pub answer: Answer,
-    pub writer: CCDataWriter,
-}
-
-// What writing a frame answers, with the length of the frame, and the state after it.
-#[derive(Clone, Copy)]
-pub struct WriterCount {
-    pub answer: Counted,
-    pub writer: CCDataWriter,
-}
-
-// A time in microseconds.
-#[derive(Clone, Copy)]
-pub enum Micros {
-    Of(u64),
-    Refused(Refusal),
-}
-
-// What pushing a pair answers, and the queues after it.
-#[derive(Clone, Copy)]
-struct Pushed {
-    answer: Answer,
-    field1: PairQueue,
-    field2: PairQueue,
-}
-
 impl CCDataWriter {
-    // A multiplexer with nothing queued, and every switch off [W4] [W12] [W15] [W17].
+    /// A multiplexer with nothing queued, and every switch off [W4] [W12] [W15] [W17].
     pub fn new() -> CCDataWriter
-        ensures { (means result ≡ fresh_mux) × (result ≡ fresh) }
+        ensures state { means result ≡ fresh_mux }
+        ensures places { result ≡ fresh }
     {
         let slot = Slot {
             len: 0,
@@ -98,364 +69,263 @@ impl CCDataWriter {
         }
     }
 
-    // Whether the state is within its limits [W14].
-    pub fn is_valid(self) -> bool
-        ensures { result ≡ valid_writer self }
+    /// Whether the state is within its limits [W14].
+    pub fn is_valid(&self) -> bool
+        ensures { result ≡ valid_writer self.now }
     {
-        let field1 = self.field1;
-        let field2 = self.field2;
-        let slot = self.sending;
-        if MOST_QUEUED < field1.count {
+        self.is_within()
+    }
+
+    /// Sets whether to output padding CEA-608 bytes where not enough has been pushed [W12].
+    pub fn set_output_cea608_padding(&mut self, output_cea608_padding: bool) -> Result<(), Refusal>
+        ensures answer { says (outcome result)
+            ≡ says (switch_outcome (paddings output_cea608_padding self.old.output_padding) self.old) }
+        ensures state { means self.new
+            ≡ after (means self.old) (switch_outcome (paddings output_cea608_padding self.old.output_padding) self.old) }
+        ensures places { self.new ≡ placed stored self.old (switch_outcome (paddings output_cea608_padding self.old.output_padding) self.old) }
+        ensures kept { OnErr result (self.new ≡ self.old) }
+    {
+        self.check()?;
+        self.output_cea608_padding = output_cea608_padding;
+        Ok(())
+    }
+
+    /// Whether padding CEA-608 bytes are output [W12].
+    pub fn output_cea608_padding(&self) -> Result<bool, Refusal>
+        ensures { outcome result ≡ checked (valid_writer self.now) (gave self.now.output_cea608_padding) }
+    {
+        self.check()?;
+        Ok(self.output_cea608_padding)
+    }
+
+    /// Sets whether to output padding triples up to the most that a frame holds [W12].
+    pub fn set_output_padding(&mut self, output_padding: bool) -> Result<(), Refusal>
+        ensures answer { says (outcome result)
+            ≡ says (switch_outcome (paddings self.old.output_cea608_padding output_padding) self.old) }
+        ensures state { means self.new
+            ≡ after (means self.old) (switch_outcome (paddings self.old.output_cea608_padding output_padding) self.old) }
+        ensures places { self.new ≡ placed stored self.old (switch_outcome (paddings self.old.output_cea608_padding output_padding) self.old) }
+        ensures kept { OnErr result (self.new ≡ self.old) }
+    {
+        self.check()?;
+        self.output_padding = output_padding;
+        Ok(())
+    }
+
+    /// Whether padding triples are output [W12].
+    pub fn output_padding(&self) -> Result<bool, Refusal>
+        ensures { outcome result ≡ checked (valid_writer self.now) (gave self.now.output_padding) }
+    {
+        self.check()?;
+        Ok(self.output_padding)
+    }
+
+    /// Sets whether budgets are carried from frame to frame, and not rounded in each. Turned on from
+    /// off or turned off it starts the sums afresh [W15].
+    pub fn set_carrying(&mut self, carrying: bool) -> Result<(), Refusal>
+        ensures answer { says (outcome result) ≡ says (switch_outcome (carrying_mode carrying) self.old) }
+        ensures state { means self.new ≡ after (means self.old) (switch_outcome (carrying_mode carrying) self.old) }
+        ensures places { self.new ≡ placed stored self.old (switch_outcome (carrying_mode carrying) self.old) }
+        ensures kept { OnErr result (self.new ≡ self.old) }
+    {
+        self.check()?;
+        let carry = self.carry_in(carrying);
+        self.carrying = carrying;
+        self.carry = carry;
+        Ok(())
+    }
+
+    /// Whether budgets are carried [W15].
+    pub fn carrying(&self) -> Result<bool, Refusal>
+        ensures { outcome result ≡ checked (valid_writer self.now) (gave self.now.carrying) }
+    {
+        self.check()?;
+        Ok(self.carrying)
+    }
+
+    /// Sets whether the count of a frame leaves out the turns that will send nothing, so that it is
+    /// the number of triples that follow [W17].
+    pub fn set_true_count(&mut self, true_count: bool) -> Result<(), Refusal>
+        ensures answer { says (outcome result) ≡ says (switch_outcome (true_counting true_count) self.old) }
+        ensures state { means self.new ≡ after (means self.old) (switch_outcome (true_counting true_count) self.old) }
+        ensures places { self.new ≡ placed stored self.old (switch_outcome (true_counting true_count) self.old) }
+        ensures kept { OnErr result (self.new ≡ self.old) }
+    {
+        self.check()?;
+        self.true_count = true_count;
+        Ok(())
+    }
+
+    /// Whether it does [W17].
+    pub fn true_count(&self) -> Result<bool, Refusal>
+        ensures { outcome result ≡ checked (valid_writer self.now) (gave self.now.true_count) }
+    {
+        self.check()?;
+        Ok(self.true_count)
+    }
+
+    /// Pushes a packet: it is written into the first free slot. One without blocks is taken and not
+    /// kept, on a full queue too [W10].
+    pub fn push_packet(&mut self, packet: &DTVCCPacket) -> Result<(), Refusal>
+        ensures answer { says (outcome result) ≡ says (packet_outcome packet.now self.old) }
+        ensures state { means self.new ≡ after (means self.old) (packet_outcome packet.now self.old) }
+        ensures places { self.new ≡ placed stored self.old (packet_outcome packet.now self.old) }
+        ensures kept { OnErr result (self.new ≡ self.old) }
+    {
+        self.check()?;
+        let taken = place(&mut self.packets, self.packet_count, packet)?;
+        self.packet_count = taken;
+        Ok(())
+    }
+
+    /// Pushes a CEA-608 byte pair [W11].
+    pub fn push_cea608(&mut self, cea608: Cea608) -> Result<(), Refusal>
+        ensures answer { says (outcome result) ≡ says (pair_outcome cea608 self.old) }
+        ensures state { means self.new ≡ after (means self.old) (pair_outcome cea608 self.old) }
+        ensures places { self.new ≡ placed stored self.old (pair_outcome cea608 self.old) }
+        ensures kept { OnErr result (self.new ≡ self.old) }
+    {
+        self.check()?;
+        match cea608 {
+            Cea608::Field1(a, b) => {
+                self.field1 = self.field1.push(a, b)?;
+                Ok(())
+            }
+            Cea608::Field2(a, b) => {
+                self.field2 = self.field2.push(a, b)?;
+                Ok(())
+            }
+        }
+    }
+
+    /// Drops what is queued and the packet being sent, and starts the sums afresh [W13].
+    pub fn flush(&mut self) -> Result<(), Refusal>
+        ensures answer { says (outcome result) ≡ says (flush_outcome self.old) }
+        ensures state { means self.new ≡ after (means self.old) (flush_outcome self.old) }
+        ensures places { self.new ≡ placed emptied self.old (flush_outcome self.old) }
+        ensures kept { OnErr result (self.new ≡ self.old) }
+    {
+        self.check()?;
+        self.packet_count = 0;
+        self.sending.len = 0;
+        self.sent = 0;
+        self.field1.count = 0;
+        self.field2.count = 0;
+        self.carry = Carry::NONE;
+        Ok(())
+    }
+
+    /// How long the pairs queued for field 1 take to leave, in microseconds [D1].
+    pub fn buffered_cea608_field1_duration(&self) -> Result<u64, Refusal>
+        ensures { outcome result ≡ checked (valid_writer self.now) (gave (field1_duration (means self.now))) }
+    {
+        self.check()?;
+        Ok(self.field1.duration())
+    }
+
+    /// How long the pairs queued for field 2 take to leave, in microseconds [D1].
+    pub fn buffered_cea608_field2_duration(&self) -> Result<u64, Refusal>
+        ensures { outcome result ≡ checked (valid_writer self.now) (gave (field2_duration (means self.now))) }
+    {
+        self.check()?;
+        Ok(self.field2.duration())
+    }
+
+    /// How long the packets queued, and what is left of the packet being sent, take to leave, in
+    /// microseconds [D2] [D3].
+    pub fn buffered_packet_duration(&self) -> Result<u64, Refusal>
+        ensures { outcome result ≡ checked (valid_writer self.now) (gave (packet_duration (means self.now))) }
+    {
+        self.check()?;
+        Ok(packets_duration(&self.packets, self.packet_count, &self.sending, self.sent))
+    }
+
+    /// Writes the next frame at a rate: 608 pairs by turns, then packet triples [W1] to [W9], with the
+    /// count that its switch asks for [W17]. Answers how many bytes the frame has.
+    #[tactic(auto, unfolding(crate::specs::Calls::written))]
+    pub fn write(&mut self, rate: Framerate, out: &mut [u8]) -> Result<usize, Refusal>
+        ensures answer { outcome result ≡ mapped (λ x. length x.frame) (written rate out.old self.old) }
+        ensures state { means self.new ≡ after (means self.old) (mapped (λ x. x.next) (written rate out.old self.old)) }
+        ensures places { self.new ≡ after self.old (mapped (λ x. moved self.old x.next) (written rate out.old self.old)) }
+        ensures output { out.new ≡ after out.old (mapped (λ x. x.out) (written rate out.old self.old)) }
+        ensures kept { OnErr result (self.new ≡ self.old) }
+        ensures unwritten { OnErr result (out.new ≡ out.old) }
+    {
+        self.check()?;
+        let share = self.carry.share(self.carrying, rate)?;
+        let made = self.source().make(&self.packets, share);
+        let needed = made.frame.len;
+        if out.len() < needed {
+            return Err(Refusal::OutShort { needed });
+        }
+        made.frame.emit(out);
+        move_down(&mut self.packets, self.packet_count, made.next);
+        self.packet_count -= made.next;
+        self.sending = made.slot;
+        self.sent = made.sent;
+        self.field1 = made.field1;
+        self.field2 = made.field2;
+        self.field2_next = made.field2_next;
+        self.carry = made.carry;
+        Ok(needed)
+    }
+
+    // The test at the head of each call, and the lengths of the arrays, which each queue tells of its own.
+    fn check(&self) -> Result<(), Refusal>
+        ensures answer { outcome result ≡ checked (valid_writer self.now) (gave tt) }
+        ensures shaped { Shaped self.now }
+    {
+        if self.is_within() {
+            return Ok(());
+        }
+        Err(Refusal::BadValue)
+    }
+
+    // The same test.
+    fn is_within(&self) -> bool
+        ensures value { result ≡ valid_writer self.now }
+        ensures shaped { Shaped self.now }
+    {
+        let first = self.field1.is_valid();
+        let second = self.field2.is_valid();
+        if !first {
             return false;
         }
-        if MOST_QUEUED < field2.count {
+        if !second {
             return false;
         }
-        let carry = self.carry;
-        if carry.is_valid() {
-            let packets = self.packets;
-            return slots_written(slot, self.sent, packets, self.packet_count);
+        if !self.carry.is_valid() {
+            return false;
         }
-        false
-    }
-
-    // Whether to output padding CEA-608 bytes where not enough has been pushed [W12].
-    pub fn set_output_cea608_padding(self, output_cea608_padding: bool) -> WriterAnswer
-        ensures { Answers (checked (valid_writer self) (gave (with_pads output_cea608_padding self.output_padding (means self)))) (stored self) self result }
-    {
-        if self.is_valid() {
-            let mut writer = self;
-            writer.output_cea608_padding = output_cea608_padding;
-            return WriterAnswer {
-                answer: Answer::Accepted,
-                writer,
-            };
-        }
-        self.refused()
-    }
-
-    // Whether padding CEA-608 bytes are output [W12].
-    pub fn output_cea608_padding(self) -> Truth
-        ensures { said_truth result ≡ measured (valid_writer self) (cond self.output_cea608_padding 1 0) }
-    {
-        if self.is_valid() {
-            return Truth::Is(self.output_cea608_padding);
-        }
-        Truth::Refused(Refusal::BadValue)
-    }
-
-    // Whether to output padding triples up to the most that a frame holds [W12].
-    pub fn set_output_padding(self, output_padding: bool) -> WriterAnswer
-        ensures { Answers (checked (valid_writer self) (gave (with_pads self.output_cea608_padding output_padding (means self)))) (stored self) self result }
-    {
-        if self.is_valid() {
-            let mut writer = self;
-            writer.output_padding = output_padding;
-            return WriterAnswer {
-                answer: Answer::Accepted,
-                writer,
-            };
-        }
-        self.refused()
-    }
-
-    // Whether padding triples are output [W12].
-    pub fn output_padding(self) -> Truth
-        ensures { said_truth result ≡ measured (valid_writer self) (cond self.output_padding 1 0) }
-    {
-        if self.is_valid() {
-            return Truth::Is(self.output_padding);
-        }
-        Truth::Refused(Refusal::BadValue)
-    }
-
-    // Whether budgets are carried from frame to frame, and not rounded in each. Turned on from off or turned off it starts the sums afresh [W15].
-    pub fn set_carrying(self, carrying: bool) -> WriterAnswer
-        ensures { Answers (checked (valid_writer self) (gave (with_mode carrying (means self)))) (stored self) self result }
-    {
-        if self.is_valid() {
-            let carry = self.carry_in(carrying);
-            let mut writer = self;
-            writer.carrying = carrying;
-            writer.carry = carry;
-            return WriterAnswer {
-                answer: Answer::Accepted,
-                writer,
-            };
-        }
-        self.refused()
-    }
-
-    // Whether budgets are carried [W15].
-    pub fn carrying(self) -> Truth
-        ensures { said_truth result ≡ measured (valid_writer self) (cond self.carrying 1 0) }
-    {
-        if self.is_valid() {
-            return Truth::Is(self.carrying);
-        }
-        Truth::Refused(Refusal::BadValue)
-    }
-
-    // Whether the count of a frame leaves out the turns that will send nothing, so that it is the number of triples that follow [W17].
-    pub fn set_true_count(self, true_count: bool) -> WriterAnswer
-        ensures { Answers (checked (valid_writer self) (gave (with_true_count true_count (means self)))) (stored self) self result }
-    {
-        if self.is_valid() {
-            let mut writer = self;
-            writer.true_count = true_count;
-            return WriterAnswer {
-                answer: Answer::Accepted,
-                writer,
-            };
-        }
-        self.refused()
-    }
-
-    // Whether it does [W17].
-    pub fn true_count(self) -> Truth
-        ensures { said_truth result ≡ measured (valid_writer self) (cond self.true_count 1 0) }
-    {
-        if self.is_valid() {
-            return Truth::Is(self.true_count);
-        }
-        Truth::Refused(Refusal::BadValue)
-    }
-
-    // Pushes a packet: it is written into the first free slot. One without blocks is taken and not kept, on a full queue too [W10].
-    pub fn push_packet(self, packet: DTVCCPacket) -> WriterAnswer
-        ensures { Answers (checked (valid_writer self && valid_dtvcc packet) (push_packet (packet_of packet) (means self))) (stored self) self result }
-    {
-        let mut packets = self.packets;
-        let mut count = self.packet_count;
-        let placed = place(self.is_valid(), count, packet);
-        let answer = placed.answer;
-        let slot = placed.slot;
-        if placed.stored {
-            packets[count] = slot;
-            count += 1;
-        }
-        let mut writer = self;
-        writer.packets = packets;
-        writer.packet_count = count;
-        WriterAnswer { answer, writer }
-    }
-
-    // Pushes a CEA-608 byte pair [W11].
-    pub fn push_cea608(self, cea608: Cea608) -> WriterAnswer
-        ensures { Answers (checked (valid_writer self) (push_cea608 (cea608_of cea608) (means self))) (stored self) self result }
-    {
-        let valid = self.is_valid();
-        self.push_pair(valid, cea608)
-    }
-
-    // Drops what is queued and the packet being sent, and starts the sums afresh [W13].
-    pub fn flush(self) -> WriterAnswer
-        ensures { Answers (checked (valid_writer self) (gave (flush_mux (means self)))) (emptied self) self result }
-    {
-        if self.is_valid() {
-            let mut sending = self.sending;
-            sending.len = 0;
-            let mut empty1 = self.field1;
-            empty1.count = 0;
-            let mut empty2 = self.field2;
-            empty2.count = 0;
-            let none = Carry::NONE;
-            let mut writer = self;
-            writer.packet_count = 0;
-            writer.sending = sending;
-            writer.sent = 0;
-            writer.field1 = empty1;
-            writer.field2 = empty2;
-            writer.carry = none;
-            return WriterAnswer {
-                answer: Answer::Accepted,
-                writer,
-            };
-        }
-        self.refused()
-    }
-
-    // How long the pairs queued for field 1 take to leave [D1].
-    pub fn buffered_cea608_field1_duration(self) -> Micros
-        ensures { said_micros result ≡ measured (valid_writer self) (field1_duration (means self)) }
-    {
-        if self.is_valid() {
-            let queue = self.field1;
-            return Micros::Of(queue.duration());
-        }
-        Micros::Refused(Refusal::BadValue)
-    }
-
-    // How long the pairs queued for field 2 take to leave [D1].
-    pub fn buffered_cea608_field2_duration(self) -> Micros
-        ensures { said_micros result ≡ measured (valid_writer self) (field2_duration (means self)) }
-    {
-        if self.is_valid() {
-            let queue = self.field2;
-            return Micros::Of(queue.duration());
-        }
-        Micros::Refused(Refusal::BadValue)
-    }
-
-    // How long the packets queued, and what is left of the packet being sent, take to leave [D2] [D3].
-    pub fn buffered_packet_duration(self) -> Micros
-        ensures { said_micros result ≡ measured (valid_writer self) (packet_duration (means self)) }
-    {
-        if self.is_valid() {
-            let packets = self.packets;
-            let slot = self.sending;
-            return Micros::Of(packets_duration(packets, self.packet_count, slot, self.sent));
-        }
-        Micros::Refused(Refusal::BadValue)
-    }
-
-    // Writes the next frame at a rate: 608 pairs by turns, then packet triples [W1] to [W9], with the count that its switch asks for [W17].
-    pub fn write(self, rate: Framerate, out: &mut [u8]) -> WriterCount
-        ensures { Writes rate out.old self result out.new }
-    {
-        let valid = self.is_valid();
-        let parts = self.carry;
-        let share = parts.share(self.carrying, rate);
-        let source = self.source();
-        let waiting = self.packets;
-        let made = source.make(waiting, valid, share, out.len());
-        let frame = made.frame;
-        frame.emit(out);
-        let slots = self.packets;
-        let packets = move_down(slots, self.packet_count, made.next);
-        let left = self.packet_count - made.next;
-        let answer = made.answer;
-        let carry = made.carry;
-        let sending = made.slot;
-        let field1 = made.field1;
-        let field2 = made.field2;
-        let writer = CCDataWriter {
-            output_cea608_padding: self.output_cea608_padding,
-            output_padding: self.output_padding,
-            packet_count: left,
-            packets,
-            sending,
-            sent: made.sent,
-            field1,
-            field2,
-            field2_next: made.field2_next,
-            true_count: self.true_count,
-            carrying: self.carrying,
-            carry,
-        };
-        WriterCount { answer, writer }
+        slots_written(&self.sending, self.sent, &self.packets, self.packet_count)
     }
 
     // The parts once the mode is set: they stay where it was on and is turned on, else there are none.
-    fn carry_in(self, carrying: bool) -> Carry
-        ensures { result ≡ carry_after carrying self }
+    fn carry_in(&self, carrying: bool) -> Carry
+        ensures { result ≡ carry_after carrying self.now }
     {
         if carrying {
             if self.carrying {
-                let carry = self.carry;
-                return carry;
+                return self.carry;
             }
         }
         Carry::NONE
     }
 
-    // The queues after a pair, which goes to its field's.
-    fn queue_pair(self, valid: bool, cea608: Cea608) -> Pushed
-        requires { valid ≡ valid_writer self }
-        ensures { Answers (pair_outcome cea608 self) (stored self) self (record { answer = result.answer; writer = with_fields result.field1 result.field2 self }) }
-    {
-        let field1 = self.field1;
-        let field2 = self.field2;
-        if valid {
-            match cea608 {
-                Cea608::Field1(a, b) => {
-                    let pushed = field1.push(a, b);
-                    let answer = pushed.answer;
-                    let queue = pushed.queue;
-                    return Pushed {
-                        answer,
-                        field1: queue,
-                        field2,
-                    };
-                }
-                Cea608::Field2(a, b) => {
-                    let pushed = field2.push(a, b);
-                    let answer = pushed.answer;
-                    let queue = pushed.queue;
-                    return Pushed {
-                        answer,
-                        field1,
-                        field2: queue,
-                    };
-                }
-            }
-        }
-        Pushed {
-            answer: Answer::Refused(Refusal::BadValue),
-            field1,
-            field2,
-        }
-    }
-
-    // The state after a pair.
-    fn push_pair(self, valid: bool, cea608: Cea608) -> WriterAnswer
-        requires { valid ≡ valid_writer self }
-        ensures { Answers (pair_outcome cea608 self) (stored self) self result }
-    {
-        let pushed = self.queue_pair(valid, cea608);
-        let answer = pushed.answer;
-        let field1 = pushed.field1;
-        let field2 = pushed.field2;
-        let carry = self.carry;
-        let packets = self.packets;
-        let sending = self.sending;
-        WriterAnswer {
-            answer,
-            writer: CCDataWriter {
-                output_cea608_padding: self.output_cea608_padding,
-                output_padding: self.output_padding,
-                packet_count: self.packet_count,
-                packets,
-                sending,
-                sent: self.sent,
-                field1,
-                field2,
-                field2_next: self.field2_next,
-                true_count: self.true_count,
-                carrying: self.carrying,
-                carry,
-            },
-        }
-    }
-
-    // A state outside its limits is refused, and stays as it was.
-    fn refused(self) -> WriterAnswer
-        ensures { result ≡ refused_of self }
-    {
-        WriterAnswer {
-            answer: Answer::Refused(Refusal::BadValue),
-            writer: self,
-        }
-    }
-
     // What the next frame is made of beside the slots.
-    fn source(self) -> Source
-        ensures { result ≡ source_of self }
+    fn source(&self) -> Source
+        ensures { result ≡ source_of self.now }
     {
-        let carry = self.carry;
-        let field1 = self.field1;
-        let field2 = self.field2;
-        let slot = self.sending;
         Source {
             pad: self.output_cea608_padding,
             padding: self.output_padding,
             true_count: self.true_count,
-            carry,
-            field1,
-            field2,
+            carry: self.carry,
+            field1: self.field1,
+            field2: self.field2,
             field2_next: self.field2_next,
             queued: self.packet_count,
-            slot,
+            slot: self.sending,
             sent: self.sent,
         }
     }

@@ -1,21 +1,16 @@
--- What the calls of a build give, one after another, and how a frame is made by its share and the room. Assumes nothing.
+-- What the calls of a build give, one after another. Assumes nothing.
 use mathlib.Core.Path.{◌≡◌}
 use mathlib.Core.List.{List}
-use Prim.Native.Nat.{ℕ, ◌%◌, ◌≤◌, ◌<◌}
-use borrow.Author.Tests.{lt-ltb, le-ltb}
+use Prim.Native.Nat.{ℕ, ◌%◌}
 use lib.ListN.{take}
-use Rattle.caption.specs.declared.Refusal.{Refusal}
-use Rattle.caption.specs.declared.Refusal.TheVariants.{OutShort}
 use Rattle.writer_shares.specs.declared.Carry.{Carry}
-use Rattle.writer_shares.specs.declared.Share.{Share}
-use Rattle.writer_shares.specs.declared.Share.TheVariants.{Of, Refused}
 use Rattle.writer_frames.specs.Frame.{headed}
 use Rattle.writer_frames.specs.declared.Frame.{Frame}
 use Rattle.writer_turns.specs.declared.Turns.{Turns}
 use Rattle.slots.specs.declared.Slot.{Slot}
 use Rattle.writer_sending.specs.Slots.{count_of, filled}
 use Rattle.writer_sending.specs.declared.Sending.{Sending}
-use Rattle.writer_building.specs.Building.{turns_of, counted_of, takes, made_of, built_by, built, unmade_of, made_at}
+use Rattle.writer_building.specs.Building.{turns_of, counted_of, takes, made_of, built_by, built}
 use Rattle.writer_building.specs.declared.Source.{Source}
 use Rattle.writer_building.specs.declared.Made.{Made}
 
@@ -33,20 +28,3 @@ module _ (n counted triples : ℕ) (k : Carry) (l : List Slot) (s : Source) (m :
       → m ≡ built pairs triples k l s
   unfolding built
   built_at pairs turns counts made = rw (made, counts, turns)
-
-module _ (room : ℕ) (l : List Slot) (s : Source) (h : Share) where
-  -- there is no share
-  pub made_refused : (why : Refusal) → h ≡ Refused why → unmade_of s why ≡ made_at room l s h
-  unfolding made_at
-  made_refused why z = rw z
-
-  module _ (pairs triples : ℕ) (k : Carry) (z : h ≡ Of pairs triples k) (m : Made) (b : m ≡ built pairs triples k l s) where
-    -- the output is too short
-    pub made_short : room < m.frame.len → unmade_of s (OutShort m.frame.len) ≡ made_at room l s h
-    unfolding made_at
-    made_short e = rw (z, ← b, lt-ltb room m.frame.len e)
-
-    -- it is not
-    pub made_whole : m.frame.len ≤ room → m ≡ made_at room l s h
-    unfolding made_at
-    made_whole e = rw (z, ← b, le-ltb room m.frame.len e)

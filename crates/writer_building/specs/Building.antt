@@ -1,14 +1,9 @@
 -- A frame put together, whatever the queues and the slots hold. No public contract of `writer` reaches this file: in a state
 -- within the limits it is proved to be the frame of the model. Assumes nothing.
-use Rattle.std.specs.Prelude.{Bool, cond, not, List, ℕ, ◌*◌, ◌%◌, min, max, ltb, length, take, replicate}
+use Rattle.std.specs.Prelude.{Bool, cond, not, List, ℕ, ◌*◌, ◌%◌, min, max, length, take, replicate}
 use Rattle.model.specs.Frame.{pair}
 use Rattle.model.specs.Mux.{most_queued}
-use Rattle.caption.specs.declared.Counted.TheVariants.{Count, Refused}
-use Rattle.caption.specs.declared.Refusal.{Refusal}
-use Rattle.caption.specs.declared.Refusal.TheVariants.{OutShort}
 use Rattle.writer_shares.specs.declared.Carry.{Carry}
-use Rattle.writer_shares.specs.declared.Share.{Share}
-use Rattle.writer_shares.specs.declared.Share.TheVariants as share
 use Rattle.writer_frames.specs.Frame.{headed}
 use Rattle.writer_turns.specs.Turn.{fits, turns_by, taken_from}
 use Rattle.writer_turns.specs.declared.Turns.{Turns}
@@ -38,7 +33,6 @@ takes n pad t = cond (fits t n) (taken_from n pad t) t
 abbrev pub made_of : Turns → Sending → Carry → Made
 made_of t s carry =
     record {
-      answer = Count s.frame.len;
       frame = s.frame;
       carry = carry;
       field1 = t.field1;
@@ -62,27 +56,3 @@ unfoldable pub built : ℕ → ℕ → Carry → List Slot → Source → Made
 built pairs triples carry packets s =
     let due = turns_of s.pad pairs s.field1.count s.field2.count in
     built_by due (counted_of s.true_count s.pad due s.field2_next s.field1.count s.field2.count) triples carry packets s
-
--- where no frame is written all is left [A2]
-abbrev pub unmade_of : Source → Refusal → Made
-unmade_of s why =
-    record {
-      answer = Refused why;
-      frame = record { bytes = replicate 95 0; len = 0 };
-      carry = s.carry;
-      field1 = s.field1;
-      field2 = s.field2;
-      field2_next = s.field2_next;
-      slot = s.slot;
-      sent = s.sent;
-      next = 0;
-    }
-
--- a frame that an output of `room` bytes holds; else [R9] tells how many it has
-abbrev pub shown_in : ℕ → Source → Made → Made
-shown_in room s m = cond (ltb room m.frame.len) (unmade_of s (OutShort m.frame.len)) m
-
--- the frame with its share, for an output of `room` bytes; none where there is no share
-unfoldable pub made_at : ℕ → List Slot → Source → Share → Made
-made_at room packets s (share.Of pairs triples carry) = shown_in room s (built pairs triples carry packets s)
-made_at room packets s (share.Refused why) = unmade_of s why

@@ -1,21 +1,19 @@
 // A frame put together: the turns of the two fields, packet triples and padding; and what they leave.
 #![tactic(auto)]
 
-ghost use Rattle.std.specs.Prelude.{◌≡◌, cond, false, max};
-ghost use Rattle.caption.specs.declared.Refusal.TheVariants.{BadValue};
-ghost use Rattle.writer_building.specs.Building.{turns_of, sent_of, counted_of, made_of, built_by, unmade_of, made_at};
+ghost use Rattle.std.specs.Prelude.{◌≡◌, false};
+ghost use Rattle.writer_building.specs.Building.{turns_of, sent_of, counted_of, built_by, built};
 
-use basics::{MOST_QUEUED, lesser};
-use caption::{Counted, Refusal};
+use basics::MOST_QUEUED;
 use slots::Slot;
 use writer_frames::Frame;
 use writer_queues::PairQueue;
-use writer_sending::{Sending, count_of, fill};
+use writer_sending::{count_of, fill};
 use writer_shares::{Carry, Share};
 use writer_turns::Turns;
 
-// What a frame is made of beside the slots: the two paddings, the true count, the carried parts, the queues of pairs and whose turn is next, how many
-// packets wait, and the packet being sent with how many of its bytes have left.
+/// What a frame is made of beside the slots: the two paddings, the true count, the carried parts, the queues of pairs and whose turn is next, how many
+/// packets wait, and the packet being sent with how many of its bytes have left.
 #[derive(Clone, Copy)]
 pub struct Source {
     pub pad: bool,
@@ -30,11 +28,10 @@ pub struct Source {
     pub sent: usize,
 }
 
-// What writing a frame answers, the frame, and what it leaves of the state: the carried parts, each field's queue, whose turn is next, the packet
-// being sent and how many of its bytes have left; `next` packets of the queue were begun.
+/// The frame, and what it leaves of the state: the carried parts, each field's queue, whose turn is next, the packet
+/// being sent and how many of its bytes have left; `next` packets of the queue were begun.
 #[derive(Clone, Copy)]
 pub struct Made {
-    pub answer: Counted,
     pub frame: Frame,
     pub carry: Carry,
     pub field1: PairQueue,
@@ -45,13 +42,6 @@ pub struct Made {
     pub next: usize,
 }
 
-// The greater of two numbers.
-fn greater(a: usize, b: usize) -> usize
-    ensures { result ≡ max a b }
-{
-    if a < b { b } else { a }
-}
-
 // The turns of a frame, where the fields have `n1` and `n2` pairs queued.
 fn turns_of(pad: bool, pairs: usize, n1: usize, n2: usize) -> usize
     ensures { result ≡ turns_of pad pairs n1 n2 }
@@ -59,7 +49,7 @@ fn turns_of(pad: bool, pairs: usize, n1: usize, n2: usize) -> usize
     if pad {
         return pairs;
     }
-    lesser(pairs, greater(n1, 2 * lesser(n2, MOST_QUEUED)))
+    pairs.min(n1.max(2 * n2.min(MOST_QUEUED)))
 }
 
 // The turns that will send, of so many without 608 padding: those that find a pair. A turn of field 2 finds one of its own; a turn of field 1 finds
@@ -70,10 +60,10 @@ fn sending_of(turns: usize, field2_next: bool, n1: usize, n2: usize) -> usize
     let second = turns / 2;
     let first = turns - second;
     if field2_next {
-        let left = n2 - lesser(n2, 1);
-        return lesser(first, n2) + lesser(second, greater(n1, left));
+        let left = n2 - n2.min(1);
+        return first.min(n2) + second.min(n1.max(left));
     }
-    lesser(first, greater(n1, n2)) + lesser(second, n2)
+    first.min(n1.max(n2)) + second.min(n2)
 }
 
 // The turns that the count counts: all, or with the true count those that will send.
@@ -96,124 +86,66 @@ fn counted_of(
     turns
 }
 
-// The frame after its turns and its packet triples, and what they leave.
-fn made_of(t: Turns, s: Sending, carry: Carry) -> Made
-    ensures { result ≡ made_of t s carry }
-{
-    let frame = s.frame;
-    let field1 = t.field1;
-    let field2 = t.field2;
-    let slot = s.slot;
-    Made {
-        answer: Counted::Count(frame.len),
-        frame,
-        carry,
-        field1,
-        field2,
-        field2_next: t.field2_next,
-        slot,
-        sent: s.sent,
-        next: s.next,
-    }
-}
-
 impl Source {
     // The frame with so many turns, of which the count counts `counted`, and what it leaves.
     fn build(
-        self,
-        packets: [Slot; 16],
+        &self,
+        packets: &[Slot; 16],
         turns: usize,
         counted: usize,
         triples: usize,
         carry: Carry,
     ) -> Made
-        ensures { result ≡ built_by turns counted triples carry packets self }
+        ensures { result ≡ built_by turns counted triples carry packets.now self.now }
     {
-        let field1 = self.field1;
-        let field2 = self.field2;
-        let slot = self.slot;
         let padding = self.padding;
         let count = count_of(
-            padding,
+            self.padding,
             triples,
             counted,
             packets,
             self.queued,
-            slot,
+            &self.slot,
             self.sent,
         );
         let empty = Frame::start(count);
         let start = Turns {
-            field1,
-            field2,
+            field1: self.field1,
+            field2: self.field2,
             field2_next: self.field2_next,
             frame: empty,
         };
         let t = start.take(self.pad, turns);
-        let frame = t.frame;
-        let s = fill(packets, self.queued, slot, self.sent, frame, count, padding);
-        made_of(t, s, carry)
-    }
-
-    // What is made where no frame is written: all is left.
-    fn unmade(self, why: Refusal) -> Made
-        ensures { result ≡ unmade_of self why }
-    {
-        let carry = self.carry;
-        let field1 = self.field1;
-        let field2 = self.field2;
-        let slot = self.slot;
+        let s = fill(
+            packets,
+            self.queued,
+            &self.slot,
+            self.sent,
+            t.frame,
+            count,
+            padding,
+        );
+        let frame = s.frame;
         Made {
-            answer: Counted::Refused(why),
-            frame: Frame {
-                bytes: [0; 95],
-                len: 0,
-            },
+            frame,
             carry,
-            field1,
-            field2,
-            field2_next: self.field2_next,
-            slot,
-            sent: self.sent,
-            next: 0,
+            field1: t.field1,
+            field2: t.field2,
+            field2_next: t.field2_next,
+            slot: s.slot,
+            sent: s.sent,
+            next: s.next,
         }
     }
 
-    // The frame with its share of a rate, for an output of `room` bytes, and what it leaves; of a source that is not `valid` none is made.
-    pub fn make(self, packets: [Slot; 16], valid: bool, share: Share, room: usize) -> Made
-        ensures { result ≡ cond valid (made_at room packets self share) (unmade_of self BadValue) }
+    /// The frame with its share of a rate, and what it leaves: worked out, and nothing changed.
+    pub fn make(&self, packets: &[Slot; 16], share: Share) -> Made
+        ensures { result ≡ built share.pairs share.triples share.carry packets.now self.now }
     {
-        if valid {
-            match share {
-                Share::Of {
-                    pairs,
-                    triples,
-                    carry,
-                } => {
-                    let field1 = self.field1;
-                    let field2 = self.field2;
-                    let turns = turns_of(self.pad, pairs, field1.count, field2.count);
-                    let counted = counted_of(
-                        self.true_count,
-                        self.pad,
-                        turns,
-                        self.field2_next,
-                        field1.count,
-                        field2.count,
-                    );
-                    let made = self.build(packets, turns, counted, triples, carry);
-                    let frame = made.frame;
-                    let needed = frame.len;
-                    if room < needed {
-                        return self.unmade(Refusal::OutShort { needed });
-                    }
-                    return made;
-                }
-                Share::Refused(why) => {
-                    return self.unmade(why);
-                }
-            }
-        }
-        self.unmade(Refusal::BadValue)
+        let n1 = self.field1.count;
+        let n2 = self.field2.count;
+        let turns = turns_of(self.pad, share.pairs, n1, n2);
+        let counted = counted_of(self.true_count, self.pad, turns, self.field2_next, n1, n2);
+        self.build(packets, turns, counted, share.triples, share.carry)
     }
 }

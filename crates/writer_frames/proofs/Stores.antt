@@ -13,6 +13,7 @@ use lib.Seq.{sets, length-sets, set_at, drop-cons, take-suc, length-take-le}
 use Rattle.model.specs.Frame.{Triple, tri, flat}
 use Rattle.model.proofs.Cases.{both}
 use Rattle.model.proofs.Frames.{flat_length}
+use Rattle.basics.proofs.Runs.{sets_front}
 use Rattle.writer_frames.specs.Frame.{appended, fits, mark, triples_at, carries, fillers, emitted}
 use Rattle.writer_frames.specs.declared.Frame.{Frame}
 
@@ -109,13 +110,15 @@ triples_length zero at d = refl
 triples_length (suc n) at d = ap suc (triples_length n (at + 2) d)
 
 -- after the last
-pub storing_done : (d : List ℕ) (f : Frame) (g : List ℕ) (at n i : ℕ) → n ≤ i → Storing d f.bytes g f.len at n i
-    → ◌≡◌ {A = Frame} (record { bytes = g; len = f.len + 3 * n }) (appended f (flat (triples_at n at d)))
+pub storing_done : (d f g : List ℕ) (len at n i : ℕ) → n ≤ i → Storing d f g len at n i → g ≡ sets f len (flat (triples_at n at d))
 unfolding triples_at flat
-storing_done d f g at n i done s =
-    let e : n - i ≡ 0 = omega arith in
+storing_done d f g len at n i done s = let e : n - i ≡ 0 = omega arith in rw e at s.same
+
+-- the frame with them
+pub with_triples : (d : List ℕ) (f : Frame) (g : List ℕ) (at n : ℕ) → g ≡ sets f.bytes f.len (flat (triples_at n at d))
+    → ◌≡◌ {A = Frame} (record { bytes = g; len = f.len + 3 * n }) (appended f (flat (triples_at n at d)))
+with_triples d f g at n z =
     let l : length (flat (triples_at n at d)) ≡ 3 * n = flat_length (triples_at n at d) ∙ ap (λ j. 3 * j) (triples_length n at d) in
-    let z : g ≡ sets f.bytes f.len (flat (triples_at n at d)) = rw e at s.same in
     rw (l, z)
 
 -- the invariant of padding that is stored triple by triple
@@ -151,19 +154,16 @@ filling_more f₀ f from at to n lt w =
     }
 
 -- after the last
-pub filling_done : (f : Frame) (g : List ℕ) (at n : ℕ) → f.len + 3 * n ≤ at → Filling f.bytes g f.len at (f.len + 3 * n) n
-    → ◌≡◌ {A = Frame} (record { bytes = g; len = f.len + 3 * n }) (appended f (flat (fillers n)))
+pub filling_done : (f g : List ℕ) (len at n : ℕ) → len + 3 * n ≤ at → Filling f g len at (len + 3 * n) n → g ≡ sets f len (flat (fillers n))
 unfolding flat
-filling_done f g at n done w =
-    let e : (f.len + 3 * n - at) / 3 ≡ 0 = omega arith in
-    let l : length (flat (fillers n)) ≡ 3 * n = flat_length (fillers n) ∙ ap (λ j. 3 * j) (length-replicate n (tri 0xFA 0x00 0x00)) in
-    let z : g ≡ sets f.bytes f.len (flat (fillers n)) = rw e at w.same in
-    rw (l, z)
+filling_done f g len at n done w = let e : (len + 3 * n - at) / 3 ≡ 0 = omega arith in rw e at w.same
 
--- the copy into a lent output
-pub copied_more : (x d : List ℕ) (m : ℕ) → m < length x → m < length d → set (take m x ++ drop m d) m (get_or x m 0) ≡ take (m + 1) x ++ drop (m + 1) d
-copied_more x d m h k =
-    rw (drop-cons d m 0 k, set_at (take m x) (get_or d m 0) (drop (suc m) d) (get_or x m 0) m (length-take-le m x (omega arith)), add-one, take-suc x m 0 h, append_assoc)
+-- the frame with it
+pub with_fillers : (f : Frame) (g : List ℕ) (n : ℕ) → g ≡ sets f.bytes f.len (flat (fillers n))
+    → ◌≡◌ {A = Frame} (record { bytes = g; len = f.len + 3 * n }) (appended f (flat (fillers n)))
+with_fillers f g n z =
+    let l : length (flat (fillers n)) ≡ 3 * n = flat_length (fillers n) ∙ ap (λ j. 3 * j) (length-replicate n (tri 0xFA 0x00 0x00)) in
+    rw (l, z)
 
 module _ (f : Frame) (out : List ℕ) where
   -- a length that no frame has
@@ -180,3 +180,9 @@ module _ (f : Frame) (out : List ℕ) where
   pub emitted_whole : f.len ≤ 95 → f.len ≤ length out → take f.len f.bytes ++ drop f.len out ≡ emitted f out
   unfolding emitted
   emitted_whole h k = simp (le-leb _ _ h, le-leb _ _ k)
+
+  -- laid at its front
+  pub emitted_laid : f.len ≤ 95 → f.len ≤ length out → length f.bytes ≡ 95 → sets out 0 (take f.len f.bytes) ≡ emitted f out
+  emitted_laid h k z =
+      let n : length (take f.len f.bytes) ≡ f.len = length-take-le f.len f.bytes (omega (arith, z)) in
+      sets_front out (take f.len f.bytes) (omega (arith, n)) ∙ rw n (emitted_whole h k)

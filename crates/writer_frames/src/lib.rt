@@ -6,9 +6,9 @@ ghost use Rattle.std.proofs.lemmas.List.Edits.{sets};
 ghost use Rattle.model.specs.Frame.{flat, most_frame};
 ghost use Rattle.writer_frames.specs.Frame.{headed, appended, mark, triples_at, fillers, fits, carries, emitted};
 
-use basics::{MOST_FRAME, MOST_PACKET, MOST_TRIPLES};
+use basics::{MOST_FRAME, MOST_PACKET, MOST_TRIPLES, put_bytes};
 
-// A frame: its first `len` bytes are there.
+/// A frame: its first `len` bytes are there.
 #[derive(Clone, Copy)]
 pub struct Frame {
     pub bytes: [u8; 95],
@@ -16,7 +16,7 @@ pub struct Frame {
 }
 
 impl Frame {
-    // The first two bytes of a frame; the count has five bits.
+    /// A frame of its first two bytes; the count has five bits [W3].
     pub fn start(count: usize) -> Frame
         ensures { result ≡ headed (count % 32) }
     {
@@ -26,9 +26,9 @@ impl Frame {
         Frame { bytes, len: 2 }
     }
 
-    // Whether `n` more triples fit.
-    pub fn has_room(self, n: usize) -> bool
-        ensures { result ≡ fits self n }
+    /// Whether `n` more triples fit.
+    pub fn has_room(&self, n: usize) -> bool
+        ensures { result ≡ fits self.now n }
     {
         if MOST_TRIPLES < n {
             return false;
@@ -36,72 +36,49 @@ impl Frame {
         self.len <= MOST_FRAME - 3 * n
     }
 
-    // `n` triples of a packet from its byte `at` on, if they fit and are there.
-    pub fn carry(self, packet: [u8; 128], at: usize, n: usize) -> Frame
-        ensures { result ≡ cond (fits self n && carries at n) (appended self (flat (triples_at n at packet))) self }
+    /// Lays `n` triples of a packet from its byte `at` on, if they fit and are there [W7].
+    pub fn carry(&mut self, packet: &[u8; 128], at: usize, n: usize)
+        ensures { self.new ≡ cond (fits self.old n && carries at n) (appended self.old (flat (triples_at n at packet.now))) self.old }
     {
-        if self.has_room(n) {
-            if MOST_PACKET < at {
-                return self;
-            }
-            if MOST_PACKET - at < 2 * n {
-                return self;
-            }
-            let len = self.len;
-            let mut bytes = self.bytes;
-            let mut i: usize = 0;
-            while i < n {
-                put_triple(&mut bytes, len + 3 * i, &packet, at + 2 * i);
-                i += 1;
-            }
-            return Frame {
-                bytes,
-                len: len + 3 * n,
-            };
-        }
-        self
-    }
-
-    // `n` triples of padding, if they fit.
-    pub fn pad(self, n: usize) -> Frame
-        ensures { result ≡ cond (fits self n) (appended self (flat (fillers n))) self }
-    {
-        if self.has_room(n) {
-            let mut bytes = self.bytes;
-            let mut at = self.len;
-            let end = at + 3 * n;
-            while at < end {
-                bytes[at] = 0xFA;
-                bytes[at + 1] = 0;
-                bytes[at + 2] = 0;
-                at += 3;
-            }
-            return Frame { bytes, len: end };
-        }
-        self
-    }
-
-    // The frame's bytes at the front of what is lent, if they fit.
-    pub fn emit(self, out: &mut [u8])
-        ensures { out.new ≡ emitted self out.old }
-    {
-        let n = self.len;
-        let bytes = self.bytes;
-        if MOST_FRAME < n {
+        if !self.has_room(n) {
             return;
         }
-        if out.len() < n {
+        if MOST_PACKET < at {
             return;
         }
-        let mut i: usize = 0;
-        while i < n {
-            out[i] = bytes[i];
-            i += 1;
+        if MOST_PACKET - at < 2 * n {
+            return;
         }
+        put_triples(&mut self.bytes, self.len, packet, at, n);
+        self.len += 3 * n;
+    }
+
+    /// Lays `n` triples of padding, if they fit [W8].
+    pub fn pad(&mut self, n: usize)
+        ensures { self.new ≡ cond (fits self.old n) (appended self.old (flat (fillers n))) self.old }
+    {
+        if !self.has_room(n) {
+            return;
+        }
+        put_fillers(&mut self.bytes, self.len, n);
+        self.len += 3 * n;
+    }
+
+    /// Copies the frame's bytes to the front of what is lent, if they fit [A5].
+    pub fn emit(&self, out: &mut [u8])
+        ensures { out.new ≡ emitted self.now out.old }
+    {
+        if MOST_FRAME < self.len {
+            return;
+        }
+        if out.len() < self.len {
+            return;
+        }
+        put_bytes(out, 0, &self.bytes[0..self.len]);
     }
 }
 
-// A triple in the bytes of a frame, from `at` on, if it fits.
+/// Puts a triple into the bytes of a frame, from `at` on, if it fits.
 pub fn put(bytes: &mut [u8; 95], at: usize, a: u8, b: u8, c: u8)
     ensures { bytes.new ≡ cond (leb at (most_frame - 3)) (sets bytes.old at (a ∷ b ∷ c ∷ [])) bytes.old }
 {
@@ -122,4 +99,32 @@ fn put_triple(bytes: &mut [u8; 95], to: usize, from: &[u8; 128], at: usize)
     bytes[to] = if at == 0 { 0xFF } else { 0xFE };
     bytes[to + 1] = from[at];
     bytes[to + 2] = from[at + 1];
+}
+
+// `n` triples of a packet, with its bytes from `at` on.
+fn put_triples(bytes: &mut [u8; 95], len: usize, packet: &[u8; 128], at: usize, n: usize)
+    requires to_bound { len + 3 * n ≤ 95 }
+    requires at_bound { at + 2 * n ≤ 128 }
+    ensures { bytes.new ≡ sets bytes.old len (flat (triples_at n at packet.now)) }
+{
+    let mut i: usize = 0;
+    while i < n {
+        put_triple(bytes, len + 3 * i, packet, at + 2 * i);
+        i += 1;
+    }
+}
+
+// `n` triples of padding.
+fn put_fillers(bytes: &mut [u8; 95], len: usize, n: usize)
+    requires { len + 3 * n ≤ 95 }
+    ensures { bytes.new ≡ sets bytes.old len (flat (fillers n)) }
+{
+    let end = len + 3 * n;
+    let mut at = len;
+    while at < end {
+        bytes[at] = 0xFA;
+        bytes[at + 1] = 0;
+        bytes[at + 2] = 0;
+        at += 3;
+    }
 }

@@ -10,7 +10,7 @@ use borrow.Author.Tests.{le-leb, lt-leb}
 use lib.Dec.{leb}
 use lib.ListN.{length, set, take, drop, get_or, length-append, length-drop, take-append-drop}
 use lib.Seq.{length-take-le, take_at, take_all, sets, length-sets}
-use Rattle.model.specs.Said.{Said, after, says, mapped, bad_value, full, accepted}
+use Rattle.model.specs.Said.{Outcome, gave, refused, mapped, bad_value, full}
 use Rattle.model.specs.Frame.{Pair, pair}
 use Rattle.model.specs.Mux.{is_null, push_pair, queued}
 use Rattle.basics.proofs.Runs.{sets_append, sets_front}
@@ -170,34 +170,34 @@ module _ (q : PairQueue) (n : ℕ) where
 
 -- One law for each way out of a push, in the order of the tests.
 module _ (q : PairQueue) (a b : ℕ) where
-  -- what it is to say, and the queue that it is to leave
-  abbrev Pushed : Said → PairQueue → Type 0
-  Pushed said r = (said ≡ says (push_outcome q a b)) × (r ≡ after q (mapped (queue_over q) (push_outcome q a b)))
+  -- the queue with the pair
+  abbrev Pushed : Outcome PairQueue → Type 0
+  Pushed o = o ≡ mapped (queue_over q) (push_outcome q a b)
 
   -- more pairs than places
-  pub push_over : 64 < q.count → Pushed bad_value q
-  push_over h = (simp (lt-leb _ _ h), simp (lt-leb _ _ h))
+  pub push_over : 64 < q.count → Pushed (refused bad_value)
+  push_over h = simp (lt-leb _ _ h)
 
   -- the pair that is dropped
-  pub push_null : {n : Bool} → Sized q → n ≡ is_null (pair a b) → n ≡ true → Pushed (accepted []) q
+  pub push_null : {n : Bool} → Sized q → n ≡ is_null (pair a b) → n ≡ true → Pushed (gave q)
   unfolding push_pair
   push_null s e t =
       let i : is_null (pair a b) ≡ true = sym e ∙ t in
-      (simp (le-leb _ _ s.few, i), simp (le-leb _ _ s.few, i, over_same q (there q s)))
+      rw (le-leb _ _ s.few, i, over_same q (there q s))
 
   -- no place left
-  pub push_full : {n : Bool} → Sized q → n ≡ is_null (pair a b) → n ≡ false → q.count ≡ 64 → Pushed full q
+  pub push_full : {n : Bool} → Sized q → n ≡ is_null (pair a b) → n ≡ false → q.count ≡ 64 → Pushed (refused full)
   unfolding push_pair queued
   push_full s e t h =
       let i : is_null (pair a b) ≡ false = sym e ∙ t in
       let f : leb 64 q.count ≡ true = le-leb 64 q.count (omega arith) in
-      (simp (le-leb _ _ s.few, i, queue_length q s, f), simp (le-leb _ _ s.few, i, queue_length q s, f))
+      rw (le-leb _ _ s.few, i, queue_length q s, f)
 
   -- a place is left
-  pub push_free : {n : Bool} {r : PairQueue} → Sized q → n ≡ is_null (pair a b) → n ≡ false → (q.count ≡ 64 → ⊥) → r ≡ pushed q a b → Pushed (accepted []) r
+  pub push_free : {n : Bool} {r : PairQueue} → Sized q → n ≡ is_null (pair a b) → n ≡ false → (q.count ≡ 64 → ⊥) → r ≡ pushed q a b → Pushed (gave r)
   unfolding push_pair queued
   push_free s e t h p =
       let i : is_null (pair a b) ≡ false = sym e ∙ t in
       let f : q.count < 64 = omega (arith, s.few) in
       let g : leb 64 q.count ≡ false = lt-leb 64 q.count f in
-      (simp (le-leb _ _ s.few, i, queue_length q s, g), rw (le-leb _ _ s.few, i, queue_length q s, g, over_pushed q s a b f) p)
+      rw (le-leb _ _ s.few, i, queue_length q s, g, over_pushed q s a b f, p)

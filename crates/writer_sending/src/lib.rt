@@ -1,13 +1,13 @@
 // The packet triples of a frame, slot by slot: how many are due, and those that leave. Slots are taken as they are: what they hold is not looked at.
 #![tactic(auto)]
 
-ghost use Rattle.std.specs.Prelude.{◌≡◌, ◌+◌, ◌-◌, ◌*◌, ◌≤◌, min, max, take, drop};
+ghost use Rattle.std.specs.Prelude.{◌≡◌, ◌+◌, ◌-◌, ◌*◌, ◌≤◌, max, take, drop};
 ghost use Rattle.std.proofs.lemmas.List.Edits.{sets};
 ghost use Rattle.model.specs.Duration.{bytes_duration};
 ghost use Rattle.basics.specs.Cut.{steps_in};
 ghost use Rattle.writer_sending.specs.Slots.{triples_left, triples_of, lengths_in, count_of, finished, sent_over, rested, filled};
 
-use basics::{MOST_PACKET, MOST_PACKETS, cut, lesser};
+use basics::{MOST_PACKET, MOST_PACKETS, cut};
 use slots::Slot;
 use writer_frames::Frame;
 
@@ -35,42 +35,34 @@ fn triples_left(len: usize, sent: usize) -> usize
 }
 
 // The last triples of a frame, all of one packet.
-fn finish(s: Sending, left: usize) -> Sending
+fn finish(mut s: Sending, left: usize) -> Sending
     ensures { result ≡ finished s left }
 {
-    let slot = s.slot;
-    let sent = s.sent;
-    let n = lesser(left, triples_left(slot.len, sent));
-    let f = s.frame;
-    let bytes = slot.bytes;
-    let frame = f.carry(bytes, sent, n);
-    Sending {
-        slot,
-        sent: sent + 2 * n,
-        next: s.next,
-        frame,
-    }
+    let n = left.min(triples_left(s.slot.len, s.sent));
+    // two fields of one struct cannot be lent at once
+    let mut frame = s.frame;
+    frame.carry(&s.slot.bytes, s.sent, n);
+    s.frame = frame;
+    s.sent += 2 * n;
+    s
 }
 
 // `left` packet triples, or as many as there are: of the packet being sent, and of those in the queue after it.
-fn send(packets: [Slot; 16], count: usize, start: Sending, left: usize) -> Sending
+fn send(packets: &[Slot; 16], count: usize, start: Sending, left: usize) -> Sending
     requires { start.next ≡ 0 }
-    ensures { result ≡ sent_over (take count packets) left start }
+    ensures { result ≡ sent_over (take count packets.now) left start }
 {
-    let queued = lesser(count, MOST_PACKETS);
+    let queued = count.min(MOST_PACKETS);
     let mut s = start;
     let mut m = left;
     let mut i: usize = 0;
     while i < queued {
-        let slot = s.slot;
-        let sent = s.sent;
-        let n = triples_left(slot.len, sent);
+        let n = triples_left(s.slot.len, s.sent);
         if m <= n {
             return finish(s, m);
         }
-        let f = s.frame;
-        let bytes = slot.bytes;
-        let frame = f.carry(bytes, sent, n);
+        let mut frame = s.frame;
+        frame.carry(&s.slot.bytes, s.sent, n);
         let first = packets[i];
         i += 1;
         m -= n;
@@ -85,15 +77,14 @@ fn send(packets: [Slot; 16], count: usize, start: Sending, left: usize) -> Sendi
 }
 
 // The packet triples that have not left.
-fn unsent(packets: [Slot; 16], count: usize, slot: Slot, sent: usize) -> usize
-    ensures { result ≡ triples_left slot.len sent + triples_of (take count packets) }
+fn unsent(packets: &[Slot; 16], count: usize, slot: &Slot, sent: usize) -> usize
+    ensures { result ≡ triples_left slot.now.len sent + triples_of (take count packets.now) }
 {
-    let queued = lesser(count, MOST_PACKETS);
+    let queued = count.min(MOST_PACKETS);
     let mut sum = triples_left(slot.len, sent);
     let mut i: usize = 0;
     while i < queued {
-        let s = packets[i];
-        sum += triples_left(s.len, 0);
+        sum += triples_left(packets[i].len, 0);
         i += 1;
     }
     sum
@@ -104,12 +95,12 @@ pub fn count_of(
     padding: bool,
     triples: usize,
     turns: usize,
-    packets: [Slot; 16],
+    packets: &[Slot; 16],
     count: usize,
-    slot: Slot,
+    slot: &Slot,
     sent: usize,
 ) -> usize
-    ensures { result ≡ count_of padding triples turns (take count packets) slot sent }
+    ensures { result ≡ count_of padding triples turns (take count packets.now) slot.now sent }
 {
     if padding {
         return triples;
@@ -117,7 +108,7 @@ pub fn count_of(
     if triples <= turns {
         return triples;
     }
-    turns + lesser(triples - turns, unsent(packets, count, slot, sent))
+    turns + (triples - turns).min(unsent(packets, count, slot, sent))
 }
 
 // The triples that a frame of `len` bytes lacks up to a count.
@@ -135,78 +126,52 @@ fn lacking(count: usize, len: usize) -> usize
 }
 
 // A packet that has left whole is no longer being sent.
-fn rest(s: Sending) -> Sending
+fn rest(mut s: Sending) -> Sending
     ensures { result ≡ rested s }
 {
-    let frame = s.frame;
-    let mut slot = s.slot;
-    let mut sent = s.sent;
-    if triples_left(slot.len, sent) == 0 {
-        slot.len = 0;
-        sent = 0;
+    if triples_left(s.slot.len, s.sent) == 0 {
+        s.slot.len = 0;
+        s.sent = 0;
     }
-    Sending {
-        slot,
-        sent,
-        next: s.next,
-        frame,
-    }
+    s
 }
 
-// Packet triples up to the count, and padding after them.
+/// Lays packet triples up to the count, and padding after them.
 pub fn fill(
-    packets: [Slot; 16],
+    packets: &[Slot; 16],
     queued: usize,
-    slot: Slot,
+    slot: &Slot,
     sent: usize,
     frame: Frame,
     count: usize,
     padding: bool,
 ) -> Sending
-    ensures { result ≡ filled (take queued packets) slot sent frame count padding }
+    ensures { result ≡ filled (take queued packets.now) slot.now sent frame count padding }
 {
-    let left = lacking(count, frame.len);
     let start = Sending {
-        slot,
+        slot: *slot,
         sent,
         next: 0,
         frame,
     };
-    let s = rest(send(packets, queued, start, left));
+    let left = lacking(count, frame.len);
+    let mut s = rest(send(packets, queued, start, left));
     if padding {
-        let g = s.frame;
-        let whole = g.pad(lacking(count, g.len));
-        let last = s.slot;
-        return Sending {
-            slot: last,
-            sent: s.sent,
-            next: s.next,
-            frame: whole,
-        };
+        let more = lacking(count, s.frame.len);
+        s.frame.pad(more);
     }
     s
 }
 
-// The length of the packet in a slot, at most the longest.
-fn length_in(held: Slot) -> usize
-    ensures { result ≡ min held.len 128 }
-{
-    if held.len <= MOST_PACKET {
-        return held.len;
-    }
-    MOST_PACKET
-}
-
 // The lengths of the packets queued, and three bytes for each triple left of the packet being sent.
-fn bytes_left(packets: [Slot; 16], count: usize, slot: Slot, sent: usize) -> usize
-    ensures { (result ≡ lengths_in (take count packets) + 3 * triples_left slot.len sent) × (result ≤ 4096) }
+fn bytes_left(packets: &[Slot; 16], count: usize, slot: &Slot, sent: usize) -> usize
+    ensures { (result ≡ lengths_in (take count packets.now) + 3 * triples_left slot.now.len sent) × (result ≤ 4096) }
 {
-    let queued = lesser(count, MOST_PACKETS);
+    let queued = count.min(MOST_PACKETS);
     let mut sum = 3 * triples_left(slot.len, sent);
     let mut i: usize = 0;
     while i < queued {
-        let s = packets[i];
-        sum += length_in(s);
+        sum += packets[i].len.min(MOST_PACKET);
         i += 1;
     }
     sum
@@ -214,23 +179,22 @@ fn bytes_left(packets: [Slot; 16], count: usize, slot: Slot, sent: usize) -> usi
 
 // How long the packets queued, and what is left of the packet being sent, take to leave: two bytes at a time, 1200000 in 1001 seconds.
 // Microseconds, upward.
-pub fn packets_duration(packets: [Slot; 16], count: usize, slot: Slot, sent: usize) -> u64
-    ensures { result ≡ bytes_duration (lengths_in (take count packets) + 3 * triples_left slot.len sent) }
+pub fn packets_duration(packets: &[Slot; 16], count: usize, slot: &Slot, sent: usize) -> u64
+    ensures { result ≡ bytes_duration (lengths_in (take count packets.now) + 3 * triples_left slot.now.len sent) }
 {
     let bytes = bytes_left(packets, count, slot, sent);
     ((bytes as u64 + 1) / 2 * 2_002_000_000 + 1_199_999) / 1_200_000
 }
 
-// The slots of the packets left, moved down to the first places, once `begun` of the queue have been begun.
-pub fn move_down(packets: [Slot; 16], count: usize, begun: usize) -> [Slot; 16]
-    ensures { result ≡ sets packets 0 (drop begun (take count packets)) }
+/// Moves the slots of the packets left down to the first places, once `begun` of the queue have been
+/// begun; what stands behind them stays.
+pub fn move_down(packets: &mut [Slot; 16], count: usize, begun: usize)
+    ensures { packets.new ≡ sets packets.old 0 (drop begun (take count packets.old)) }
 {
-    let end = lesser(count, MOST_PACKETS);
-    let mut left = packets;
+    let end = count.min(MOST_PACKETS);
     let mut i = if begun == 0 { end } else { begun };
     while i < end {
-        left[i - begun] = left[i];
+        packets[i - begun] = packets[i];
         i += 1;
     }
-    left
 }

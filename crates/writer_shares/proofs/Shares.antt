@@ -1,31 +1,27 @@
 -- What a frame gets of a rate: what the tests and the cuts of the code come to. Assumes nothing.
 use mathlib.Core.Path.{◌≡◌, refl, sym, ◌∙◌}
 use mathlib.Core.Bool.{Bool, true, false, ◌&&◌}
-use mathlib.Mathlib.Logic.Function.Defs.{Injective, LeftInverse, LeftInverse-Injective}
+use mathlib.Mathlib.Logic.Function.Defs.{Injective}
 use Prim.Native.Nat.{ℕ, ◌+◌, ◌*◌, ◌≤◌, ◌<◌}
 use native.Mathlib.Omega.{arith}
 use lib.Dec.{eqb, ltb}
 use borrow.Author.Tests.{eq-eqb, ne_eqb, eqb-true, eqb-false, lt-ltb, le-ltb}
-use Rattle.model.specs.Said.{Outcome, gave, refused, says_with, checked, bad_rate, bad_value}
+use Rattle.model.specs.Said.{Said, Outcome, gave, refused, mapped, checked, bad_rate, bad_value}
 use Rattle.model.specs.Rate as model
-use Rattle.model.specs.Rate.{pairs_then_triples, budgets, most_triples, valid_carry, going_on, carried_budget, left_over, carried_on, carried_at, carried_share, share_by}
+use Rattle.model.specs.Rate.{budgets, most_triples, valid_carry, going_on, carried_budget, left_over, carried_on, carried_at, carried_share, share_by}
 use Rattle.model.proofs.Cases.{by_test, both, gives_at}
 use Rattle.model.proofs.Rates.{Rated, budgets_rated}
 use Rattle.model.proofs.Carrying.{Below, going_below}
 use Rattle.basics.specs.Cut.{cut_of}
 use Rattle.basics.proofs.Cuts.{cut_exact, less_left}
 use Rattle.basics.specs.declared.Steps.{Steps}
-use Rattle.caption.specs.Rates.{said_budgets}
-use Rattle.caption.proofs.Answers.{answer_of, refused_again}
-use Rattle.caption.proofs.Rates.{budgets_meant}
+use Rattle.std.specs.Prelude.{Result}
+use Rattle.caption.specs.Answers.{outcome}
+use Rattle.caption.proofs.Outcomes.{mapped_injective}
 use Rattle.caption.specs.declared.Refusal.{Refusal}
-use Rattle.caption.specs.declared.Refusal.TheVariants.{BadValue}
-use Rattle.caption.specs.declared.Budgets.{Budgets}
-use Rattle.caption.specs.declared.Budgets.TheVariants.{Of, BadRate}
-use Rattle.writer_shares.specs.Share.{carry_of, carry_in, outcome_of}
+use Rattle.writer_shares.specs.Share.{carry_of, share_of, share_in}
 use Rattle.writer_shares.specs.declared.Carry.{Carry}
 use Rattle.writer_shares.specs.declared.Share.{Share}
-use Rattle.writer_shares.specs.declared.Share.TheVariants as share
 
 -- a sum is 0 exactly if all are
 all_zero : (n d p t : ℕ) → eqb (n + d + (p + t)) 0 ≡ eqb n 0 && (eqb d 0 && (eqb p 0 && eqb t 0))
@@ -109,49 +105,31 @@ module _ (n d : ℕ) (c : model.Carry) (ok : (valid_carry c ≡ true) × (0 < n)
         rw (le-ltb (most_triples * n) (600 * d) room, ← same, share_cut 60 n d on.pairs rests.pairs (omega arith) p e, share_cut 600 n d on.triples rests.triples room t f)
 
 -- by the mode, of parts within their limits
-module _ (on : Bool) (n d : ℕ) (c : model.Carry) (v : valid_carry c ≡ true) (b : Budgets) (said : said_budgets b ≡ says_with pairs_then_triples (budgets n d)) where
+module _ (on : Bool) (n d : ℕ) (c : model.Carry) (v : valid_carry c ≡ true) where
   -- a rate that has no budgets
-  pub no_share : b ≡ BadRate → refused bad_rate ≡ checked (valid_carry c) (share_by on n d c)
+  pub no_share : (why : Said) → refused why ≡ budgets n d → refused why ≡ checked (valid_carry c) (share_by on n d c)
   unfolding share_by carried_share
-  no_share z = let e : budgets n d ≡ refused bad_rate = sym (rw z at (budgets_meant n d b said)) in by_test on (λ t. rw (v, t, e)) (λ t. rw (v, t, e))
+  no_share why e = by_test on (λ t. rw (v, t, ← e)) (λ t. rw (v, t, ← e))
 
-  module _ (pairs triples : ℕ) (z : b ≡ Of pairs triples) where
-    -- one that has
-    has : budgets n d ≡ gave (record { pairs = pairs; triples = triples })
-    has = sym (rw z at (budgets_meant n d b said))
-
-    -- it has frames
+  module _ (b : model.Budgets) (has : gave b ≡ budgets n d) where
+    -- one that has has frames
     pub some_frames : 0 < n
-    some_frames = (gives_at (Rated n d) (budgets n d) has (budgets_rated n d)).some
+    some_frames = (gives_at (Rated n d) (budgets n d) (sym has) (budgets_rated n d)).some
 
     -- carried
     pub with_mode : {o : Outcome model.Share} → on ≡ true → o ≡ carried_at n d c → o ≡ checked (valid_carry c) (share_by on n d c)
     unfolding share_by carried_share
-    with_mode t e = e ∙ rw (v, t, has)
+    with_mode t e = e ∙ rw (v, t, ← has)
 
     -- rounded
-    pub without_mode : on ≡ false → gave (record { budgets = record { pairs = pairs; triples = triples }; carry = c }) ≡ checked (valid_carry c) (share_by on n d c)
+    pub without_mode : on ≡ false → gave (record { budgets = b; carry = c }) ≡ checked (valid_carry c) (share_by on n d c)
     unfolding share_by
-    without_mode t = rw (v, t, has)
+    without_mode t = rw (v, t, ← has)
 
 -- parts that break a limit
 pub bad_parts : (o : Outcome model.Share) (c : model.Carry) → valid_carry c ≡ false → refused bad_value ≡ checked (valid_carry c) o
 bad_parts o c v = rw v
 
--- a refusal, told
-abbrev refused_with : Refusal → Share
-refused_with why = share.Refused why
-
--- what is got is taken back from what it is in the model
-abbrev got_back : Outcome model.Share → Share
-got_back (gave h) = share.Of h.budgets.pairs h.budgets.triples (carry_in h.carry)
-got_back (refused why) = answer_of (λ v. refused_with BadValue) refused_with why
-
--- so it is
-got_again : LeftInverse got_back outcome_of
-got_again (share.Of pairs triples carry) = refl
-got_again (share.Refused why) = refused_again (λ v. refused_with BadValue) refused_with why
-
--- no two are the same in the model
-pub outcome_of_injective : Injective outcome_of
-outcome_of_injective = LeftInverse-Injective got_back outcome_of got_again
+-- no two answers are the same in the model
+pub share_injective : Injective (λ (r : Result Share Refusal). mapped share_of (outcome r))
+share_injective = mapped_injective share_of share_in (λ h. refl)

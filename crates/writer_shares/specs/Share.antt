@@ -1,10 +1,7 @@
 -- What a frame gets of a rate, in the model. Assumes nothing.
-use Rattle.model.specs.Said.{Outcome, gave, refused}
 use Rattle.model.specs.Rate as model
-use Rattle.caption.specs.Answers.{said_refusal}
 use Rattle.writer_shares.specs.declared.Carry.{Carry}
 use Rattle.writer_shares.specs.declared.Share.{Share}
-use Rattle.writer_shares.specs.declared.Share.TheVariants.{Of, Refused}
 
 -- the carried parts
 abbrev pub carry_of : Carry → model.Carry
@@ -14,7 +11,10 @@ carry_of c = record { numer = c.numer; denom = c.denom; pairs = c.pairs; triples
 abbrev pub carry_in : model.Carry → Carry
 carry_in c = record { numer = c.numer; denom = c.denom; pairs = c.pairs; triples = c.triples }
 
--- what is got: budgets and parts, or a refusal
-abbrev pub outcome_of : Share → Outcome model.Share
-outcome_of (Of pairs triples carry) = gave (record { budgets = record { pairs = pairs; triples = triples }; carry = carry_of carry })
-outcome_of (Refused why) = refused (said_refusal why)
+-- what is got: budgets and parts
+abbrev pub share_of : Share → model.Share
+share_of h = record { budgets = record { pairs = h.pairs; triples = h.triples }; carry = carry_of h.carry }
+
+-- and what that of the model is
+abbrev pub share_in : model.Share → Share
+share_in h = record { pairs = h.budgets.pairs; triples = h.budgets.triples; carry = carry_in h.carry }

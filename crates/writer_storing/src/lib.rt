@@ -1,58 +1,36 @@
-// A packet pushed to a multiplexer: what is answered, and the slot that it is written into.
+// A packet pushed to a multiplexer: the slot that it is written into.
 #![tactic(auto)]
 
-ghost use Rattle.std.specs.Prelude.{◌≡◌};
-ghost use Rattle.writer_storing.specs.Placing.{unplaced_as, placing};
+ghost use Rattle.std.specs.Prelude.{◌≡◌, ◌+◌, length, OnErr};
+ghost use Rattle.std.proofs.lemmas.List.Edits.{sets};
+ghost use Rattle.model.specs.Said.{after, mapped};
+ghost use Rattle.caption.specs.Answers.{outcome};
+ghost use Rattle.writer_storing.specs.Placing.{placing};
 
 use basics::MOST_PACKETS;
-use caption::{Answer, Counted, Refusal};
+use caption::Refusal;
 use packet::DTVCCPacket;
 use slots::Slot;
 
-// What pushing a packet answers, and whether it is stored, in which slot.
-#[derive(Clone, Copy)]
-pub struct Placed {
-    pub answer: Answer,
-    pub stored: bool,
-    pub slot: Slot,
-}
-
-// Where no packet is stored.
-fn unplaced(answer: Answer) -> Placed
-    ensures { result ≡ unplaced_as answer }
+/// Writes a packet into the first free slot, where `count` are taken, and answers how many are then
+/// [W10]. One without blocks takes none, on a full queue too; 11 for one that breaks a limit, else
+/// 10 where no slot is free, and then every slot stays as it was.
+pub fn place(packets: &mut [Slot; 16], count: usize, packet: &DTVCCPacket) -> Result<usize, Refusal>
+    ensures taken { outcome result ≡ mapped (λ slots. count + length slots) (placing count packet.now) }
+    ensures places { packets.new ≡ after packets.old (mapped (sets packets.old count) (placing count packet.now)) }
+    ensures kept { OnErr result (packets.new ≡ packets.old) }
 {
-    Placed {
-        answer,
-        stored: false,
-        slot: Slot {
-            len: 0,
-            bytes: [0; 128],
-        },
+    let len = packet.len()?;
+    if len == 0 {
+        return Ok(count);
     }
-}
-
-// The slot that a packet is written into, where it is stored: `count` slots are taken, in a state that is `valid` or not.
-pub fn place(valid: bool, count: usize, packet: DTVCCPacket) -> Placed
-    ensures { result ≡ placing valid count packet }
-{
-    if valid {
-        let length = packet.len();
-        let Counted::Count(len) = length else {
-            return unplaced(Answer::Refused(Refusal::BadValue));
-        };
-        if len == 0 {
-            return unplaced(Answer::Accepted);
-        }
-        if MOST_PACKETS <= count {
-            return unplaced(Answer::Refused(Refusal::Full));
-        }
-        let mut bytes = [0u8; 128];
-        packet.write(&mut bytes);
-        return Placed {
-            answer: Answer::Accepted,
-            stored: true,
-            slot: Slot { len, bytes },
-        };
+    if MOST_PACKETS <= count {
+        return Err(Refusal::Full);
     }
-    unplaced(Answer::Refused(Refusal::BadValue))
+    let slot = &mut packets[count];
+    slot.len = len;
+    slot.bytes = [0; 128];
+    // it has at most 128 bytes, and so it fits
+    let _ = packet.write(&mut slot.bytes);
+    Ok(count + 1)
 }

@@ -1,23 +1,21 @@
--- `basics::put_bytes` meets its contract. The invariant: the first `i` bytes of the run are laid, and as many bytes are due as there is room for or the
--- run has. The measure is the bytes still due. Assumes nothing.
-use mathlib.Core.Path.{◌≡◌, refl}
-use Prim.Native.Nat.{◌≤◌, ◌<◌, ◌-◌, min}
+-- `basics::put_bytes` meets its contract: as many bytes are laid as there is room for or the run has. Assumes nothing.
+use mathlib.Core.Path.{◌≡◌, refl, sym, ◌∙◌}
+use Prim.Native.Nat.{◌+◌, ◌-◌, min}
 use native.Mathlib.Omega.{arith}
-use lib.ListN.{length, take, length-set}
+use lib.ListN.{length, take}
+use lib.Seq.{length-take-le}
 use borrow.Author.Rules.{rules}
-use Rattle.basics.proofs.Runs.{sets_past, sets_more, sets_all}
+use Rattle.basics.proofs.Runs.{sets_past, sets_all, part_laid}
 use Rattle.basics.proofs.put_bytes.Goals as goal
 
 pub returns-then-n-at : goal.returns-then-n-at
 returns-then-n-at c = search (rules, sets_past)
 
-pub loop-i-init : goal.loop-i-init
-loop-i-init c = (omega arith, search rules, search rules, refl, refl)
-
-pub loop-i-preserved : goal.loop-i-preserved
-loop-i-preserved c =
-    let l = c.before.before.loop-i in
-    (omega arith, l.invariant.1, l.invariant.2, rw l.invariant.3 (sets_more _ _ _ l.i (omega arith)), simp length-set l.invariant.4)
-
 pub returns : goal.returns
-returns c = sets_all _ _ _ c.before.loop-i.i _ c.before.loop-i.invariant.2 (omega arith) c.before.loop-i.invariant.3
+returns c =
+    let l = c.args.dst.now in
+    let src = c.args.src.now in
+    let at = c.args.at in
+    let k = c.min-count.result in
+    let t : length (take k src) ≡ k = length-take-le k src (omega (arith, c.min-count.ensures)) in
+    sets_all l src at k _ c.if-n-at.false (omega (arith, c.min-count.ensures)) (part_laid l _ (take k src) at (at + k - at) c.copy_from_slice.ensures.after (omega (arith, t)) (omega (arith, t, c.min-count.ensures, c.if-n-at.false)))

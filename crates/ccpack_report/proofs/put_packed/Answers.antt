@@ -3,8 +3,8 @@ use Rattle.ccpack_report.proofs.Packed.{laid_made, laid_refused}
 use borrow.Author.Rules.{rules}
 use Rattle.ccpack_report.proofs.put_packed.Goals as goal
 
-pub returns-in-Made : goal.returns-in-Made
-returns-in-Made c = search (rules, laid_made)
+pub returns-in-Ok : goal.returns-in-Ok
+returns-in-Ok c = search (rules, laid_made, c.propose.ensures.answer, c.propose.ensures.output)
 
-pub returns-in-Refused : goal.returns-in-Refused
-returns-in-Refused c = search (rules, laid_refused)
+pub returns-in-Err : goal.returns-in-Err
+returns-in-Err c = search (rules, laid_refused, c.propose.ensures.answer, c.propose.ensures.output)

@@ -18,4 +18,4 @@ abbrev made : CCDataParser → DistributionReader → Capture
 made p d = record { parser = p; reader = d }
 
 pub returns : goal.returns
-returns c = ap₂ made (turned_on_fresh _ _ c.new.ensures.1 c.handle_cea608-on.ensures.places) c.new-reader.ensures.1
+returns c = ap₂ made (turned_on_fresh _ _ c.new-parser.ensures.places c.handle_cea608.ensures.places) c.new-reader.ensures.places

@@ -13,30 +13,22 @@ shaped s = record { pairs = search rules; pending = search rules; waiting = sear
 
 pub put_items-requires-clause-before_value : goal.put_items-requires-clause-before_value
 put_items-requires-clause-before_value c =
-    pushed_valid _ _ (shaped
-    (goal.at.put_items-requires-clause-before_value c).Start) _
-    c.push-pushed.ensures c.in-Accepted.is
+    pushed_valid _ _ (shaped (goal.at.put_items-requires-clause-before_value c).Start) _ _ (record { answer = c.push-answer.ensures.answer; state = c.push-answer.ensures.state; places = c.push-answer.ensures.places }) c.in-Ok.is
 
-pub returns-in-Accepted-clause-laid : goal.returns-in-Accepted-clause-laid
-returns-in-Accepted-clause-laid c =
-    accepted_lines _ _ (shaped (goal.at.returns-in-Accepted-clause-laid c).Start) _
-    c.push-pushed.ensures c.in-Accepted.is _
+pub returns-in-Ok-clause-laid : goal.returns-in-Ok-clause-laid
+returns-in-Ok-clause-laid c =
+    accepted_lines _ _ (shaped (goal.at.returns-in-Ok-clause-laid c).Start) _ _ (record { answer = c.push-answer.ensures.answer; state = c.push-answer.ensures.state; places = c.push-answer.ensures.places }) c.in-Ok.is _
     c.put_frame_line-laid.ensures c.put_items.ensures.laid
 
-pub returns-in-Accepted-clause-parser_value : goal.returns-in-Accepted-clause-parser_value
-returns-in-Accepted-clause-parser_value c =
-    c.put_items.ensures.parser_value ∙ accepted_state _ _ (shaped
-    (goal.at.returns-in-Accepted-clause-parser_value c).Start) _
-    c.push-pushed.ensures c.in-Accepted.is
+pub returns-in-Ok-clause-parser_value : goal.returns-in-Ok-clause-parser_value
+returns-in-Ok-clause-parser_value c =
+    c.put_items.ensures.parser_value ∙ accepted_state _ _ (shaped (goal.at.returns-in-Ok-clause-parser_value c).Start) _ _ (record { answer = c.push-answer.ensures.answer; state = c.push-answer.ensures.state; places = c.push-answer.ensures.places }) c.in-Ok.is
 
-pub returns-clause-laid : goal.returns-clause-laid
-returns-clause-laid c =
-    rw (← refused_lines _ _ (shaped (goal.at.returns-clause-laid c).Start) _
-    c.push-pushed.ensures _ c.in_default.is _)
+pub returns-in-Err-clause-laid : goal.returns-in-Err-clause-laid
+returns-in-Err-clause-laid c =
+    rw (← refused_lines _ _ (shaped (goal.at.returns-in-Err-clause-laid c).Start) _ _ (record { answer = c.push-answer.ensures.answer; state = c.push-answer.ensures.state; places = c.push-answer.ensures.places }) _ c.in-Err.is _)
     c.put_frame_line-laid.ensures
 
-pub returns-clause-parser_value : goal.returns-clause-parser_value
-returns-clause-parser_value c =
-    refused_state _ _ (shaped
-    (goal.at.returns-clause-parser_value c).Start) _ c.push-pushed.ensures _
-    c.in_default.is
+pub returns-in-Err-clause-parser_value : goal.returns-in-Err-clause-parser_value
+returns-in-Err-clause-parser_value c =
+    refused_state _ _ (shaped (goal.at.returns-in-Err-clause-parser_value c).Start) _ _ (record { answer = c.push-answer.ensures.answer; state = c.push-answer.ensures.state; places = c.push-answer.ensures.places }) _ c.in-Err.is

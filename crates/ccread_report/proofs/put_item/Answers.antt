@@ -1,5 +1,5 @@
 -- One law of `Lays` for each kind of item. Assumes nothing.
-use Rattle.ccread_report.proofs.Lays.{laid_pair_item, laid_packet_item, laid_no_item, laid_refused_item}
+use Rattle.ccread_report.proofs.Lays.{laid_pair_item, laid_packet_item, laid_no_item}
 use borrow.Author.Rules.{rules}
 use Rattle.ccread_report.proofs.put_item.Goals as goal
 
@@ -11,6 +11,3 @@ returns-in-Packet c = search (rules, laid_packet_item)
 
 pub returns-in-Nothing : goal.returns-in-Nothing
 returns-in-Nothing c = search (rules, laid_no_item)
-
-pub returns-in-Refused : goal.returns-in-Refused
-returns-in-Refused c = laid_refused_item _ c.requires.at_in_bounds _ c.in-Refused.is

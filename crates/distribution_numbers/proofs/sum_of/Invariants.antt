@@ -1,10 +1,7 @@
--- The invariant: the sum is that of the first `i` bytes. Assumes nothing.
-use Rattle.std.proofs.Common.{◌≡◌, ◌-◌, ◌%◌, ◌≤◌, length, take}
+-- The sum is that of the bytes taken so far. Assumes nothing.
+use Rattle.std.proofs.Common.{◌≡◌, ◌%◌, take}
 use Rattle.model.specs.Distribution.{sum_of}
 use Rattle.distribution_numbers.proofs.sum_of.Given as goal
 
-abbrev pub invariant-loop-i : goal.invariant-loop-i
-invariant-loop-i l = (l.i ≤ length l.bytes) × (l.sum ≡ sum_of (take l.i l.bytes) % 256)
-
-abbrev pub decreases-loop-i : goal.decreases-loop-i
-decreases-loop-i l = length l.bytes - l.i
+abbrev pub invariant-loop-byte : goal.invariant-loop-byte
+invariant-loop-byte l = l.sum ≡ sum_of (take l.byte-index l.bytes) % 256

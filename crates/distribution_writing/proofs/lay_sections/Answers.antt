@@ -19,4 +19,4 @@ slice_bounds-put_bytes-start c = omega (arith, whole_length c.args.frame.now c.r
 
 pub returns : goal.returns
 returns c =
-    pieces_laid c.args.counter c.args.code c.args.frame.now c.requires.frame_value c.args.out.now _ _ _ _ _ c.head_of-head.ensures c.two_bytes-two.ensures c.put_bytes.ensures c.put_bytes-2.ensures c.put_bytes-3.ensures
+    pieces_laid c.args.counter c.args.code c.args.frame.now c.requires.frame_value c.args.out.now _ _ _ _ c.head_of-head.ensures c.put_bytes.ensures c.put_bytes-2.ensures c.put_bytes-3.ensures

@@ -1,6 +1,6 @@
 -- Sum and size are kept within the bytes, which cuts the same part. Assumes nothing.
 use Rattle.packet_entries.proofs.Placed.{place_past, place_is}
-use mathlib.Core.Path.{◌≡◌}
+use mathlib.Core.Path.{◌≡◌, refl}
 use lib.ListN.{length}
 use borrow.Author.Rules.{rules}
 use Rattle.packet_entries.proofs.block_at.Goals as goal
@@ -15,5 +15,5 @@ returns-then-place-ge-MOST_BLOCKS c = place_past _ _ _ _ c.if-place-ge-MOST_BLOC
 
 pub returns : goal.returns
 returns c =
-    place_is _ _ _ _ c.if-place-ge-MOST_BLOCKS.false _ _ _ _ _ c.wide-size.ensures.0 c.sum_of.ensures
-    (full (goal.at.returns c).After-all-1) c.lesser-from.ensures c.lesser-end.ensures c.put_bytes.ensures
+    place_is _ _ _ _ c.if-place-ge-MOST_BLOCKS.false _ _ _ _ _ refl c.sum_of.ensures
+    (full (goal.at.returns c).After-all-1) c.min-from.ensures c.min-end.ensures c.put_bytes.ensures

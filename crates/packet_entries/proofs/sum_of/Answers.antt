@@ -1,19 +1,19 @@
--- The invariant: the sum so far and that of the rest are the whole sum. Assumes nothing.
-use Prim.Native.Nat.{◌-◌}
-use mathlib.Core.Path.{sym}
-use native.Mathlib.Nat.{zero-add, sub-zero}
+-- The invariant: the sum so far is that of the sizes passed. Assumes nothing.
+use mathlib.Core.Path.{sym, ap, ◌∙◌}
+use native.Mathlib.Numerals.{add-one}
 use native.Mathlib.Omega.{arith}
-use Rattle.packet_entries.proofs.Walks.{sum_at, sum_few, sum_many}
+use lib.ListN.{take}
+use lib.Seq.{take_all}
+use Rattle.packet_entries.specs.Fields.{sum_of}
+use Rattle.packet_entries.proofs.Walks.{sum_next, sum_few}
 use Rattle.packet_entries.proofs.sum_of.Goals as goal
 
-pub returns-then-count-gt-MOST_BLOCKS : goal.returns-then-count-gt-MOST_BLOCKS
-returns-then-count-gt-MOST_BLOCKS c = sum_many _ _ c.if-count-gt-MOST_BLOCKS.true
+pub loop-size-preserved : goal.loop-size-preserved
+loop-size-preserved c =
+    let l = c.loop-size in
+    (omega (arith, l.invariant.0), rw (add-one l.size-index, sum_next (take c.args.count c.args.sizes.now) l.size-index c.loop-size-test.true, ← l.invariant.1))
 
-pub loop-i-init : goal.loop-i-init
-loop-i-init c = (omega arith, c.if-count-gt-MOST_BLOCKS.false, omega arith, rw (zero-add, sub-zero) (sym (sum_few _ _ c.if-count-gt-MOST_BLOCKS.false)))
-
-pub loop-i-preserved : goal.loop-i-preserved
-loop-i-preserved c =
-    let l = c.loop-i in
-    let sum = sum_at c.args.sizes.now c.args.count l.i c.loop-i-test.true in
-    (omega arith, l.invariant.1, omega (arith, c.wide-sum.ensures.1), omega (arith, l.invariant.3, c.wide-sum.ensures.0, sum))
+pub returns : goal.returns
+returns c =
+    let l = c.loop-size in
+    l.invariant.1 ∙ ap sum_of (take_all l.size-index (take c.args.count c.args.sizes.now) c.loop-size-test.false) ∙ sym (sum_few _ _ c.if-count-gt-MOST_BLOCKS.false)

@@ -1,9 +1,13 @@
--- More bytes than a packet has are refused; else their copy is read. Assumes nothing.
-use Rattle.packet_reading.proofs.Readers.{read_many, copied_read}
+-- The tests of the length come first; the blocks tell the rest. Assumes nothing.
+use borrow.Author.Rules.{rules}
+use Rattle.packet_reading.proofs.Readers.{none_read, wrong_read, blocks_read}
 use Rattle.packet_reading.proofs.read.Goals as goal
 
-pub returns-then-n-gt-MOST_PACKET : goal.returns-then-n-gt-MOST_PACKET
-returns-then-n-gt-MOST_PACKET c = read_many _ c.if-n-gt-MOST_PACKET.true _ _ c.packet_size.ensures _ _ c.refusal_for.ensures c.unread.ensures
+pub returns-then-n-eq0 : goal.returns-then-n-eq0
+returns-then-n-eq0 g c = search (rules, none_read)
+
+pub returns-then-is_wrong : goal.returns-then-is_wrong
+returns-then-is_wrong g c = search (rules, wrong_read)
 
 pub returns : goal.returns
-returns c = copied_read _ _ c.if-n-gt-MOST_PACKET.false c.put_bytes.ensures _ _ c.read_in.ensures
+returns g c = let goes = g.met.W.Way.goes in search (rules, blocks_read)

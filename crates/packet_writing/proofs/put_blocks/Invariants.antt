@@ -1,5 +1,4 @@
 -- The invariant `Laying`: what is laid and what the rest will lay are all blocks as written. Assumes nothing.
-use Prim.Native.Nat.{◌-◌}
 use mathlib.Core.Path.{◌≡◌}
 use lib.ListN.{length}
 use Rattle.packet_writing.proofs.Writes.{Laying}
@@ -7,6 +6,3 @@ use Rattle.packet_writing.proofs.put_blocks.Given as goal
 
 abbrev pub invariant-loop-i : goal.invariant-loop-i
 invariant-loop-i l = Laying l.count l.numbers l.sizes l.payload l.initial.out l.at l.from l.i l.out × (length l.out ≡ length l.initial.out)
-
-abbrev pub decreases-loop-i : goal.decreases-loop-i
-decreases-loop-i l = l.count - l.i

@@ -1,11 +1,6 @@
 -- Between two runs, what is put and what is left to put make the whole output (`Going`). Assumes nothing.
-use Prim.Native.Nat.{◌-◌}
-use lib.ListN.{length}
 use Rattle.packing.proofs.Going.{Going}
 use Rattle.packing.proofs.put_pieces.Given as goal
 
 abbrev pub invariant-loop-i : goal.invariant-loop-i
 invariant-loop-i l = Going l.services l.lengths l.initial.out l.i l.at l.out
-
-abbrev pub decreases-loop-i : goal.decreases-loop-i
-decreases-loop-i l = length l.services - l.i

@@ -16,7 +16,7 @@ loop-run-preserved-then-number_at-byte c = (omega arith, omega arith, search (ru
 pub follows_last-requires : goal.follows_last-requires
 follows_last-requires c =
     byte_held _ _ _ _ _ c.requires.1
-    c.loop-run-test.true _ c.number_at.ensures.0
+    c.loop-run-test.true _ c.number_at.ensures.value
     c.if-number_at-byte.false
 
 pub returns-then-not-follows_last : goal.returns-then-not-follows_last
@@ -28,8 +28,8 @@ loop-run-preserved c = (
   omega arith,
   follow_more _ _ _ _ _ _ _ _ c.loop-run.invariant.2
       c.loop-run-test.true _
-      c.number_at.ensures.0
-      c.if-number_at-byte.false _ c.number_at-service.ensures.0 _
+      c.number_at.ensures.value
+      c.if-number_at-byte.false _ c.number_at-service.ensures.value _
       c.follows_last.ensures (ap not c.if-not-follows_last.false),
 )
 

@@ -16,10 +16,10 @@ loop-run-preserved-then-number_at-byte c = (omega arith, omega arith, search (ru
 pub in_one_block-requires : goal.in_one_block-requires
 in_one_block-requires c = (
   byte_held _ _ _ _ _ c.requires.1
-      c.loop-run-test.true _ c.number_at.ensures.0
+      c.loop-run-test.true _ c.number_at.ensures.value
       c.if-number_at-byte.false,
   first_held _ _ _ _ _ c.requires.1
-      c.loop-run-test.true _ c.number_at.ensures.0
+      c.loop-run-test.true _ c.number_at.ensures.value
       c.if-number_at-byte.false,
 )
 
@@ -34,7 +34,7 @@ loop-run-preserved c = (
       c.args.services.now
       _ _ _ _ _ _ c.loop-run.invariant.2
       c.loop-run-test.true _
-      c.number_at.ensures.0
+      c.number_at.ensures.value
       c.if-number_at-byte.false _ c.in_one_block.ensures (ap not c.if-not-in_one_block.false),
 )
 

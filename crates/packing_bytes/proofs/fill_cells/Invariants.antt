@@ -1,15 +1,11 @@
 -- What is left of the test and of the filling decides. Assumes nothing.
 use mathlib.Core.Path.{◌≡◌}
-use Prim.Native.Nat.{◌+◌, ◌-◌, ◌≤◌}
+use Prim.Native.Nat.{◌+◌}
 use Rattle.packing_bytes.specs.Table.{free, filled}
 use Rattle.packing_bytes.proofs.Cells.{free_left, filled_left}
 use Rattle.packing_bytes.proofs.fill_cells.Given as goal
 
 abbrev pub invariant-loop-at : goal.invariant-loop-at
 invariant-loop-at l =
-    (l.at ≤ l.from + l.size)
-    × (free l.size l.from l.value l.initial.table ≡ free_left (l.from + l.size) l.at l.value l.table)
+    (free l.size l.from l.value l.initial.table ≡ free_left (l.from + l.size) l.at l.value l.table)
     × (filled l.size l.from l.value l.initial.table ≡ filled_left (l.from + l.size) l.at l.value l.table)
-
-abbrev pub decreases-loop-at : goal.decreases-loop-at
-decreases-loop-at l = l.from + l.size - l.at

@@ -8,7 +8,7 @@ pub returns-then-length-gt-MOST_PACKET : goal.returns-then-length-gt-MOST_PACKET
 returns-then-length-gt-MOST_PACKET c = search (rules, rest_over)
 
 pub loop-block-preserved : goal.loop-block-preserved
-loop-block-preserved c = (omega arith, omega arith, search (rules, rest_more))
+loop-block-preserved c = (omega arith, search (rules, rest_more))
 
 pub returns : goal.returns
 returns c = search (rules, rest_none)

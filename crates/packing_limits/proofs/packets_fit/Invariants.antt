@@ -1,6 +1,5 @@
 -- What is left of the packets decides. Assumes nothing.
 use mathlib.Core.Path.{◌≡◌}
-use Prim.Native.Nat.{◌-◌, ◌≤◌}
 use Rattle.model.specs.Lists.{every}
 use Rattle.model.specs.Packet.{valid_packet}
 use Rattle.model_packing.specs.Pieces.{count_from}
@@ -10,7 +9,4 @@ use Rattle.packing_limits.proofs.packets_fit.Given as goal
 
 abbrev pub invariant-loop-packet : goal.invariant-loop-packet
 invariant-loop-packet l =
-    (l.packet ≤ 256) × (every (λ p. valid_packet (packet_at l.numbers l.sizes p)) (count_from 0 256) ≡ left (λ p. valid_packet (packet_at l.numbers l.sizes p)) 256 l.packet)
-
-abbrev pub decreases-loop-packet : goal.decreases-loop-packet
-decreases-loop-packet l = 256 - l.packet
+    every (λ p. valid_packet (packet_at l.numbers l.sizes p)) (count_from 0 256) ≡ left (λ p. valid_packet (packet_at l.numbers l.sizes p)) 256 l.packet

@@ -18,5 +18,5 @@ returns-then-enter_pieces c =
     let fit = c.runs_fit.ensures in
     limits_packets _ _ _ _ _ _ _ _ fit (ap not c.if-not-runs_fit.false) entered.0 c.if-enter_pieces.true entered.1 c.packets_fit.ensures
 
-pub returns : goal.returns
-returns c = search (rules, limits_unjoined)
+pub returns-else-enter_pieces : goal.returns-else-enter_pieces
+returns-else-enter_pieces c = rw c.if-enter_pieces.false (search (rules, limits_unjoined))

@@ -7,6 +7,3 @@ use Rattle.parser_lists.proofs.fields_good.Given as goal
 
 abbrev pub invariant-loop-i : goal.invariant-loop-i
 invariant-loop-i l = (l.i ≤ l.n) × (l.n ≤ 31) × (fields_fine l.n l.pairs ≡ fields_fine (l.n - l.i) (drop (3 * l.i) l.pairs))
-
-abbrev pub decreases-loop-i : goal.decreases-loop-i
-decreases-loop-i l = l.n - l.i

@@ -1,17 +1,14 @@
--- `parser_triples::scan_frame` meets its contract: the search over the whole stays the search over what is left, and from the triple that ends the
--- 608 part on it is the search after it. Assumes nothing.
-use Prim.Native.Nat.{◌-◌}
+-- `parser_triples::scan_frame` meets its contract: one law of `Scans` for each way out. Assumes nothing.
+use mathlib.Core.Path.{sym, ◌∙◌}
 use native.Mathlib.Omega.{arith}
-use Rattle.parser_triples.proofs.Walks.{walk_done}
-use Rattle.parser_triples.proofs.Scans.{part_again, part_ends}
-use borrow.Author.Rules.{rules}
+use Rattle.parser_triples.proofs.Scans.{part_done, part_again, part_ends}
 use Rattle.parser_triples.proofs.scan_frame.Goals as goal
 
-pub returns-then-frame-i-ge2 : goal.returns-then-frame-i-ge2
-returns-then-frame-i-ge2 c = search (rules, part_ends)
+pub returns-then-ends : goal.returns-then-ends
+returns-then-ends c = c.scan_after.ensures ∙ sym (part_ends _ c.args.frame.now _ c.loop-i.invariant.1 c.loop-i-test.true (c.if-ends.true))
 
 pub loop-i-preserved : goal.loop-i-preserved
-loop-i-preserved c = (omega arith, search (rules, part_again))
+loop-i-preserved c = (omega arith, part_again _ c.args.frame.now _ c.loop-i.invariant.1 c.loop-i-test.true (omega arith))
 
 pub returns : goal.returns
-returns c = search (rules, walk_done)
+returns c = part_done _ c.args.frame.now _ c.loop-i.invariant.1 (omega arith)

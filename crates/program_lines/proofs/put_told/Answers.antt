@@ -1,10 +1,6 @@
--- The words, by whether the answer's number is 0, and the values behind them. Assumes nothing.
-use Rattle.program_lines.proofs.Tellings.{told_ok, told_refused}
-use borrow.Author.Rules.{rules}
+-- The values stand behind the word. Assumes nothing.
+use Rattle.program_lines.proofs.Tellings.{laid_answer}
 use Rattle.program_lines.proofs.put_told.Goals as goal
 
-pub returns-then-told-eq0 : goal.returns-then-told-eq0
-returns-then-told-eq0 c = search (rules, told_ok)
-
 pub returns : goal.returns
-returns c = search (rules, told_refused)
+returns c = laid_answer c.args.told c.put_number-p.ensures c.put_numbers.ensures

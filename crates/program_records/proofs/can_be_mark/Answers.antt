@@ -1,16 +1,16 @@
--- Each way out is a law of the mark: no byte, a wrong first byte, one byte, and both. Assumes nothing.
-use Rattle.program_records.proofs.Readings.{mark_none, mark_wrong, mark_half, mark_whole}
-use borrow.Author.Rules.{rules}
+-- By how many bytes there are, and by the first. Assumes nothing.
+use Rattle.std.proofs.Common.{rules}
+use Rattle.program_records.proofs.Readings.{mark_none, mark_half, mark_wrong, mark_whole}
 use Rattle.program_records.proofs.can_be_mark.Goals as goal
 
-pub returns-then-n-at : goal.returns-then-n-at
-returns-then-n-at c = search (rules, mark_none)
+pub returns-in-empty : goal.returns-in-empty
+returns-in-empty c = mark_none _ _ _ c.in-empty.len_below
 
-pub returns-then-bytes-at : goal.returns-then-bytes-at
-returns-then-bytes-at c = search (rules, mark_wrong)
+pub returns-in-len1 : goal.returns-in-len1
+returns-in-len1 c = mark_half _ _ _ c.in-len1.len_at_least c.in-len1.len_below
 
-pub returns-then-n-at-eq1 : goal.returns-then-n-at-eq1
-returns-then-n-at-eq1 c = search (rules, mark_half)
+pub returns-else-first-one : goal.returns-else-first-one
+returns-else-first-one c = search (rules, mark_wrong)
 
-pub returns : goal.returns
-returns c = search (rules, mark_whole)
+pub returns-then-first-one : goal.returns-then-first-one
+returns-then-first-one c = search (rules, mark_whole)

@@ -1,14 +1,7 @@
--- At each turn the kinds that are left to look through tell as much as all of them. Assumes nothing.
-use Prim.Native.Nat.{◌-◌}
-use borrow.Author.Rules.{rules}
-use Rattle.program_records.proofs.Readings.{not_among, found_among, look_on}
+-- Looking a byte up is the definition's walk. Assumes nothing.
+use Rattle.std.proofs.Common.{rules}
+use Rattle.program_records.proofs.Readings.{found_among}
 use Rattle.program_records.proofs.is_among.Goals as goal
 
-pub returns-then-kinds-i : goal.returns-then-kinds-i
-returns-then-kinds-i c = search (rules, found_among)
-
-pub loop-i-preserved : goal.loop-i-preserved
-loop-i-preserved c = search (rules, look_on)
-
 pub returns : goal.returns
-returns c = search (rules, not_among)
+returns c = search (rules, found_among)

@@ -2,5 +2,5 @@
 use Rattle.script_codes.proofs.Lines.{count_given, block_count}
 use Rattle.script_codes.proofs.count_in.Goals as goal
 
-pub returns-in-Count : goal.returns-in-Count
-returns-in-Count c = block_count c.args.service _ _ c.part.ensures (count_given _ _ c.code_count.ensures _ c.in-Count.is)
+pub returns-in-Ok : goal.returns-in-Ok
+returns-in-Ok c = block_count c.args.block.now _ _ c.part.ensures (count_given _ _ c.in-Ok.ensures)

@@ -3,10 +3,10 @@ use Rattle.script_codes.proofs.Lines.{count_given, lengths_told, lengths_refused
 use Rattle.script_codes.proofs.put_cut_line.Goals as goal
 
 pub put_lengths_line-requires : goal.put_lengths_line-requires
-put_lengths_line-requires c = count_given _ _ c.code_count.ensures _ c.in-Count.is
+put_lengths_line-requires c = count_given _ _ c.in-Ok.ensures
 
-pub returns-in-Count : goal.returns-in-Count
-returns-in-Count c = lengths_told _ _ c.code_count.ensures _ c.in-Count.is c.put_lengths_line.ensures
+pub returns-in-Ok : goal.returns-in-Ok
+returns-in-Ok c = lengths_told _ _ c.in-Ok.ensures c.put_lengths_line.ensures
 
-pub returns-in-Refused : goal.returns-in-Refused
-returns-in-Refused c = lengths_refused _ _ c.code_count.ensures _ c.in-Refused.is c.put_refusal_line.ensures
+pub returns-in-Err : goal.returns-in-Err
+returns-in-Err c = lengths_refused _ _ c.in-Err.ensures c.put_refusal_line.ensures

@@ -8,10 +8,10 @@ use Rattle.script_codes.proofs.Lines.{lengths_begun, lengths_next, lengths_all}
 use Rattle.script_codes.proofs.put_lengths.Goals as goal
 
 pub loop-i-init : goal.loop-i-init
-loop-i-init c = (omega arith, c.requires, refl, lengths_begun (cut_of c.args.payload.now) c.put_word-laid.ensures)
+loop-i-init c = (c.requires, refl, lengths_begun (cut_of c.args.payload.now) c.put_word-laid.ensures)
 
 pub loop-i-preserved : goal.loop-i-preserved
-loop-i-preserved c = (omega arith, c.loop-i.invariant.1, search rules, lengths_next (cut_of c.args.payload.now) c.loop-i.i _ (omega (arith, c.loop-i.invariant.1)) (ap length c.code_at-code.ensures) c.loop-i.invariant.3 c.put_value-laid.ensures)
+loop-i-preserved c = (c.loop-i.invariant.0, search rules, lengths_next (cut_of c.args.payload.now) c.loop-i.i _ (omega (arith, c.loop-i.invariant.0)) (ap length c.code_at-code.ensures) c.loop-i.invariant.2 c.put_value-laid.ensures)
 
 pub returns : goal.returns
-returns c = lengths_all (cut_of c.args.payload.now) c.loop-i.i (omega (arith, c.loop-i.invariant.1, c.loop-i-test.false)) c.put_word-laid.ensures c.loop-i.invariant.3
+returns c = lengths_all (cut_of c.args.payload.now) c.loop-i.i (omega (arith, c.loop-i.invariant.0, c.loop-i-test.false)) c.put_word-laid.ensures c.loop-i.invariant.2

@@ -1,5 +1,5 @@
 -- The line is that of what the item is. Assumes nothing.
-use Rattle.script_parsers.proofs.Lines.{item_none, item_packet, item_pair, item_refused}
+use Rattle.script_parsers.proofs.Lines.{item_none, item_packet, item_pair}
 use borrow.Author.Rules.{rules}
 use Rattle.script_parsers.proofs.put_item_line.Goals as goal
 
@@ -11,6 +11,3 @@ returns-in-Packet c = search (rules, item_packet)
 
 pub returns-in-Nothing : goal.returns-in-Nothing
 returns-in-Nothing c = search (rules, item_none)
-
-pub returns-in-Refused : goal.returns-in-Refused
-returns-in-Refused c = search (rules, item_refused)

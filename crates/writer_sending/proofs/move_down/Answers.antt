@@ -17,8 +17,8 @@ loop-i-init c =
 
 pub loop-i-preserved : goal.loop-i-preserved
 loop-i-preserved c = let w = c.loop-i.invariant in
-    (omega (arith, w.0), λ n. moving_more _ _ n _ _ _ w.0 (omega (arith, c.lesser-end.ensures, c.loop-i-test.true)) (w.1 n))
+    (omega (arith, w.0), λ n. moving_more _ _ n _ _ _ w.0 (omega (arith, c.min-end.ensures, c.loop-i-test.true)) (w.1 n))
 
 pub returns : goal.returns
-returns c = let n : length c.args.packets ≡ 16 = search (rules, length_mapped, c.well_formed) in
-    moving_done _ _ n _ _ _ (omega (arith, c.lesser-end.ensures, c.loop-i-test.false)) (c.loop-i.invariant.1 n)
+returns c = let n : length c.args.packets.now ≡ 16 = search (rules, length_mapped) in
+    moving_done _ _ n _ _ _ (omega (arith, c.min-end.ensures, c.loop-i-test.false)) (c.loop-i.invariant.1 n)

@@ -8,15 +8,15 @@ use borrow.Author.Rules.{rules}
 use Rattle.writer_sending.proofs.unsent.Goals as goal
 
 pub overflow_add-sum : goal.overflow_add-sum
-overflow_add-sum c = let n : length c.args.packets ≡ 16 = search (rules, length_mapped, c.well_formed) in
+overflow_add-sum c = let n : length c.args.packets.now ≡ 16 = search (rules, length_mapped) in
     let w = c.loop-i.invariant n in
     omega (arith, w.few, w.some, c.triples_left-sum-in-loop-i.ensures, c.triples_left-sum.ensures)
 
 pub loop-i-preserved : goal.loop-i-preserved
 loop-i-preserved c = let e = c.triples_left-sum-in-loop-i.ensures in
-    λ n. summing_more _ _ n _ _ _ _ _ (omega (arith, c.lesser-queued.ensures, c.loop-i-test.true)) e.0 (omega (arith, e.1)) (c.loop-i.invariant n)
+    λ n. summing_more _ _ n _ _ _ _ _ (omega (arith, c.min-queued.ensures, c.loop-i-test.true)) e.0 (omega (arith, e.1)) (c.loop-i.invariant n)
 
 pub returns : goal.returns
-returns c = let n : length c.args.packets ≡ 16 = search (rules, length_mapped, c.well_formed) in
+returns c = let n : length c.args.packets.now ≡ 16 = search (rules, length_mapped) in
     rw (← c.triples_left-sum.ensures.0)
-    (summing_done _ _ n _ _ _ _ (omega (arith, c.lesser-queued.ensures, c.loop-i-test.false)) (c.loop-i.invariant n)).0
+    (summing_done _ _ n _ _ _ _ (omega (arith, c.min-queued.ensures, c.loop-i-test.false)) (c.loop-i.invariant n)).0

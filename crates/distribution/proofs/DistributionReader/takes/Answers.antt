@@ -3,10 +3,10 @@ use mathlib.Core.Path.{refl}
 use Rattle.model.specs.Distribution.{takes}
 use Rattle.distribution.proofs.DistributionReader.takes.Goals as goal
 
-pub returns-in-Nothing : goal.returns-in-Nothing
+pub returns-in-None : goal.returns-in-None
 unfolding takes
-returns-in-Nothing c = rw c.in-Nothing.is refl
+returns-in-None c = rw c.in-None.is refl
 
-pub returns-in-Counter : goal.returns-in-Counter
+pub returns-in-Some : goal.returns-in-Some
 unfolding takes
-returns-in-Counter c = rw c.in-Counter.is c.newer.ensures
+returns-in-Some c = rw c.in-Some.is c.newer.ensures

@@ -1,13 +1,11 @@
--- The extent tells whether a limit is broken, and the length that the room is what is left of. Assumes nothing.
-use Rattle.packet.proofs.Measures.{bad_measured, room_measured, length_few}
-use borrow.Author.Rules.{rules}
+-- The length that the room is what is left of. Assumes nothing.
+use Prim.Native.Nat.{◌-◌}
+use Rattle.model.specs.Packet.{packet_length}
+use Rattle.packet.proofs.Measures.{asked_then, length_most}
 use Rattle.packet.proofs.DTVCCPacket.free_space.Goals as goal
 
 pub overflow_sub-result : goal.overflow_sub-result
-overflow_sub-result c = search (rules, length_few)
+overflow_sub-result c = length_most _ _ c.in_ok-length.ensures
 
-pub returns-in-Of : goal.returns-in-Of
-returns-in-Of c = search (rules, room_measured)
-
-pub returns-in-Bad : goal.returns-in-Bad
-returns-in-Bad c = search (rules, bad_measured)
+pub returns : goal.returns
+returns c = asked_then _ packet_length (λ n. 128 - n) _ c.in_ok-length.ensures

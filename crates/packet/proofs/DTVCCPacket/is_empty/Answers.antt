@@ -1,7 +1,11 @@
 -- Where no limit is broken the count is the number of blocks. Assumes nothing.
-use Rattle.packet.proofs.Measures.{empty_measured}
-use borrow.Author.Rules.{rules}
+use mathlib.Core.Path.{ap}
+use lib.Dec.{eqb}
+use Rattle.caption.proofs.Outcomes.{given_valid}
+use lib.ListN.{length}
+use Rattle.model.specs.Packet.{Packet}
+use Rattle.packet.proofs.Measures.{asked_is, count_is}
 use Rattle.packet.proofs.DTVCCPacket.is_empty.Goals as goal
 
-pub returns-then-is_valid : goal.returns-then-is_valid
-returns-then-is_valid c = search (rules, empty_measured)
+pub returns : goal.returns
+returns c = asked_is _ (λ (p : Packet). eqb (length p.blocks) 0) _ (given_valid _ _ _ c.in_ok-check.ensures) (ap (λ n. eqb n 0) (count_is c.args.self.now))

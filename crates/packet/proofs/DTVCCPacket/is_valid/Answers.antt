@@ -1,10 +1,8 @@
--- The extent tells whether a limit is broken. Assumes nothing.
-use Rattle.packet.proofs.Measures.{valid, invalid}
-use borrow.Author.Rules.{rules}
+-- The length is told where no limit is broken. Assumes nothing.
+use mathlib.Core.Path.{◌∙◌}
+use Rattle.model.specs.Packet.{packet_length}
+use Rattle.packet.proofs.Measures.{asked_ok}
 use Rattle.packet.proofs.DTVCCPacket.is_valid.Goals as goal
 
-pub returns-in-Of : goal.returns-in-Of
-returns-in-Of c = search (rules, valid)
-
-pub returns-in-Bad : goal.returns-in-Bad
-returns-in-Bad c = search (rules, invalid)
+pub returns : goal.returns
+returns c = c.is_ok.ensures.value ∙ asked_ok _ packet_length _ c.len.ensures

@@ -1,9 +1,22 @@
 -- It is the reader with the plain rules. Assumes nothing.
-use mathlib.Core.Bool.{false}
-use Rattle.packet_moves.specs.Moves.{read_as}
-use Rattle.packet.proofs.Replies.{read_within, read_answer}
+use borrow.Author.Rules.{rules}
+use Rattle.model.specs.Packet.{read_packet}
+use Rattle.model.proofs.Limits.{plain_within}
+use Rattle.packet.proofs.Replies.{read_gives, read_refuses}
 use Rattle.packet.proofs.DTVCCPacket.parse_in.Goals as goal
 
-pub returns : goal.returns
-unfolding read_as
-returns c = read_answer _ _ _ (read_within false _) c.packet_of.ensures c.read_in.ensures
+pub returns-in_err-filled-clause-answer : goal.returns-in_err-filled-clause-answer
+unfolding read_packet
+returns-in_err-filled-clause-answer c = rw (read_refuses _ _ c.in_err-filled.ensures) (search rules)
+
+pub returns-in_err-filled-clause-places : goal.returns-in_err-filled-clause-places
+unfolding read_packet
+returns-in_err-filled-clause-places c = rw (read_refuses _ _ c.in_err-filled.ensures) (search rules)
+
+pub returns-clause-answer : goal.returns-clause-answer
+unfolding read_packet
+returns-clause-answer c = (read_gives _ _ _ (plain_within _) c.in_ok-filled.ensures c.filled_from.ensures).0
+
+pub returns-clause-places : goal.returns-clause-places
+unfolding read_packet
+returns-clause-places c = (read_gives _ _ _ (plain_within _) c.in_ok-filled.ensures c.filled_from.ensures).1

@@ -1,9 +1,22 @@
 -- It is the reader with the tidy rules. Assumes nothing.
-use mathlib.Core.Bool.{true}
-use Rattle.packet_moves.specs.Moves.{read_as}
-use Rattle.packet.proofs.Replies.{read_within, read_answer}
+use borrow.Author.Rules.{rules}
+use Rattle.model.specs.Packet.{read_tidy}
+use Rattle.model.proofs.Limits.{tidy_within}
+use Rattle.packet.proofs.Replies.{read_gives, read_refuses}
 use Rattle.packet.proofs.DTVCCPacket.parse_tidy.Goals as goal
 
-pub returns : goal.returns
-unfolding read_as
-returns c = read_answer _ _ _ (read_within true _) c.packet_of.ensures c.read.ensures
+pub returns-in_err-filled-clause-answer : goal.returns-in_err-filled-clause-answer
+unfolding read_tidy
+returns-in_err-filled-clause-answer c = rw (read_refuses _ _ c.in_err-filled.ensures) (search rules)
+
+pub returns-in_err-filled-clause-places : goal.returns-in_err-filled-clause-places
+unfolding read_tidy
+returns-in_err-filled-clause-places c = rw (read_refuses _ _ c.in_err-filled.ensures) (search rules)
+
+pub returns-clause-answer : goal.returns-clause-answer
+unfolding read_tidy
+returns-clause-answer c = (read_gives _ _ _ (tidy_within _) c.in_ok-filled.ensures c.filled_from.ensures).0
+
+pub returns-clause-places : goal.returns-clause-places
+unfolding read_tidy
+returns-clause-places c = (read_gives _ _ _ (tidy_within _) c.in_ok-filled.ensures c.filled_from.ensures).1

@@ -5,6 +5,10 @@ use Rattle.parser.specs.Calls.{laid_in, fresh}
 use Rattle.parser.proofs.Kept.{means_fresh}
 use Rattle.parser.proofs.CCDataParser.new.Goals as goal
 
-pub returns : goal.returns
+pub returns-clause-state : goal.returns-clause-state
 unfolding fresh laid_in placed_all
-returns c = (means_fresh, refl)
+returns-clause-state c = means_fresh
+
+pub returns-clause-places : goal.returns-clause-places
+unfolding fresh laid_in placed_all
+returns-clause-places c = refl

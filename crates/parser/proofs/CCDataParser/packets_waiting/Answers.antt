@@ -1,7 +1,7 @@
--- `parser::CCDataParser::packets_waiting` meets its contract: one law of `Calls` for each way out. Assumes nothing.
+-- `parser::CCDataParser::packets_waiting` meets its contract: the count is that of what the state means. Assumes nothing.
+use mathlib.Core.Path.{sym, ◌∙◌}
 use Rattle.parser.proofs.Calls.{counts_packets}
-use borrow.Author.Rules.{rules}
 use Rattle.parser.proofs.CCDataParser.packets_waiting.Goals as goal
 
-pub returns-then-is_valid : goal.returns-then-is_valid
-returns-then-is_valid c = search (rules, counts_packets)
+pub returns : goal.returns
+returns c = counts_packets _ (sym c.if-not-is_valid.false ∙ c.is_valid.ensures)

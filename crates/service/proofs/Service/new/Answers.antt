@@ -1,11 +1,16 @@
--- A number above 63 is refused beside the blank block, and any other makes a block without payload. Assumes nothing.
-use mathlib.Core.Path.{refl}
-use native.Mathlib.Omega.{arith}
-use Rattle.service.proofs.Services.{refuses, gives, blank_places, new_bad, new_good}
+-- A number above 63 is refused, and any other makes a block without payload. Assumes nothing.
+use mathlib.Core.Path.{sym}
+use Rattle.service.proofs.Services.{new_bad, new_good}
 use Rattle.service.proofs.Service.new.Goals as goal
 
-pub returns-then-service_no-gt-MOST_NUMBER : goal.returns-then-service_no-gt-MOST_NUMBER
-returns-then-service_no-gt-MOST_NUMBER c = refuses _ _ _ _ (new_bad _ c.if-service_no-gt-MOST_NUMBER.true) c.refused.ensures.0 c.refused.ensures.1
+pub returns-then-service_no-gt-MOST_NUMBER-clause-answer : goal.returns-then-service_no-gt-MOST_NUMBER-clause-answer
+returns-then-service_no-gt-MOST_NUMBER-clause-answer c = sym (new_bad _ c.if-service_no-gt-MOST_NUMBER.true)
 
-pub returns : goal.returns
-returns c = gives _ _ _ _ blank_places (omega arith) (new_good _ c.if-service_no-gt-MOST_NUMBER.false) refl refl
+pub returns-then-service_no-gt-MOST_NUMBER-clause-places : goal.returns-then-service_no-gt-MOST_NUMBER-clause-places
+returns-then-service_no-gt-MOST_NUMBER-clause-places c = rw (new_bad _ c.if-service_no-gt-MOST_NUMBER.true)
+
+pub returns-clause-answer : goal.returns-clause-answer
+returns-clause-answer c = sym (new_good _ c.if-service_no-gt-MOST_NUMBER.false)
+
+pub returns-clause-places : goal.returns-clause-places
+returns-clause-places c = rw (new_good _ c.if-service_no-gt-MOST_NUMBER.false)

@@ -1,58 +1,60 @@
--- `Service::parse` meets its contract: what `read_head` promises of the header says which case of the reader it is, and the payload is laid into
--- blank places. Assumes nothing.
-use mathlib.Core.Path.{◌≡◌, refl, sym, ◌∙◌}
+-- The header says which case of the reader it is, and the payload is laid into blank places. Assumes nothing.
+use mathlib.Core.Path.{◌≡◌, sym, ap, ◌∙◌}
 use mathlib.Core.List.{List}
 use Prim.Native.Nat.{ℕ}
 use native.Mathlib.Nat.{add-sub_cancel_left}
 use native.Mathlib.Omega.{arith}
-use lib.ListN.{take, drop, replicate}
-use lib.Seq.{sets}
-use Rattle.service_headers.specs.declared.Head.TheVariants.{Whole}
-use Rattle.service_headers.specs.Head.{block_head}
-use Rattle.service_headers.proofs.Heads.{Headed, headed, read_short}
-use Rattle.service.proofs.Services.{refuses, gives, blank_places, parse_null, parse_some, part_length, laid_as}
+use lib.ListN.{take, drop}
+use Rattle.caption.specs.Answers.{said_refusal}
+use Rattle.model.specs.Said.{refused, gave}
+use Rattle.model.specs.Block.{read_block}
+use Rattle.service_headers.proofs.Heads.{Headed}
+use Rattle.service_headers.proofs.Headers.{header_known, read_cut}
+use Rattle.service.specs.Service.{block_of, blank}
+use Rattle.service.proofs.Services.{blank_places, over_means, parse_null, parse_some, part_length, laid_as}
 use Rattle.service.proofs.Service.parse.Goals as goal
-use Rattle.service.proofs.Service.parse.Goals.{In-Whole}
+use Rattle.service.proofs.Service.parse.Goals.{In-Some}
 
--- the bytes
-abbrev D : In-Whole → List ℕ
-D c = c.args.«data».now
+-- what is known of the header
+known : (c : In-Some) → Headed c.args.«data».now c.in-Some.header.number c.in-Some.header.start c.in-Some.header.size
+known c = header_known c.args.«data».now c.in-Some.header (sym c.in-Some.ensures)
 
--- the number that their header gives
-abbrev N : In-Whole → ℕ
-N c = c.in-Whole.number
+-- the payload
+abbrev P : In-Some → List ℕ
+P c = take c.in-Some.header.size (drop c.in-Some.header.start c.args.«data».now)
 
--- where the payload starts
-abbrev St : In-Whole → ℕ
-St c = c.in-Whole.start
+-- bytes are missing
+short : (c : goal.After-short_at) → read_block c.args.«data».now ≡ refused (said_refusal c.short_at.result)
+short c = read_cut 0 c.args.«data».now (sym c.in_default.ensures) ∙ ap refused (sym c.short_at.ensures)
 
--- how long it is
-abbrev Sz : In-Whole → ℕ
-Sz c = c.in-Whole.size
+pub returns-in_default-clause-answer : goal.returns-in_default-clause-answer
+returns-in_default-clause-answer c = sym (short c)
 
--- the header is whole, with these values
-is : (c : In-Whole) → block_head (D c) ≡ Whole (N c) (St c) (Sz c)
-is c = sym c.read_head-head.ensures ∙ c.in-Whole.is
+pub returns-in_default-clause-places : goal.returns-in_default-clause-places
+returns-in_default-clause-places c = rw (short c)
 
--- what follows of that
-known : (c : In-Whole) → Headed (D c) (N c) (St c) (Sz c)
-known c = headed (D c) _ _ _ (is c)
+pub returns-then-header-eq0-clause-answer : goal.returns-then-header-eq0-clause-answer
+returns-then-header-eq0-clause-answer c = sym (parse_null _ _ _ _ (known (goal.at.returns-then-header-eq0-clause-answer c).In-Some) c.if-header-eq0.true)
 
-pub returns-in_default : goal.returns-in_default
-returns-in_default c =
-    refuses _ _ _ _ (read_short _ _ c.read_head-head.ensures c.in_default.not-Whole 0) (c.refused.ensures.0 ∙ c.short_of.ensures) c.refused.ensures.1
-
-pub returns-then-number-eq0 : goal.returns-then-number-eq0
-returns-then-number-eq0 c = gives _ _ _ _ blank_places (omega arith) (parse_null _ _ _ _ (is (goal.at.returns-then-number-eq0 c).In-Whole) c.if-number-eq0.true) refl refl
+pub returns-then-header-eq0-clause-places : goal.returns-then-header-eq0-clause-places
+returns-then-header-eq0-clause-places c = rw (parse_null _ _ _ _ (known (goal.at.returns-then-header-eq0-clause-places c).In-Some) c.if-header-eq0.true)
 
 pub overflow_add-end : goal.overflow_add-end
-overflow_add-end c = omega (arith, (known (goal.at.overflow_add-end c).In-Whole).fits)
+overflow_add-end c = omega (arith, (known (goal.at.overflow_add-end c).In-Some).fits)
 
 pub slice_bounds-put_bytes-end-2 : goal.slice_bounds-put_bytes-end-2
-slice_bounds-put_bytes-end-2 c = (known (goal.at.slice_bounds-put_bytes-end-2 c).In-Whole).fits
+slice_bounds-put_bytes-end-2 c = (known (goal.at.slice_bounds-put_bytes-end-2 c).In-Some).fits
 
-pub returns : goal.returns
-returns c = let p : List ℕ = take (Sz (goal.at.returns c).In-Whole) (drop (St (goal.at.returns c).In-Whole) (D (goal.at.returns c).In-Whole)) in
-    let e : c.put_bytes.new.dst ≡ sets (replicate 31 0) 0 p = c.put_bytes.ensures ∙ rw add-sub_cancel_left in
-    let k = part_length (D (goal.at.returns c).In-Whole) _ _ _ (is (goal.at.returns c).In-Whole) in
-    gives _ _ _ _ blank_places (omega (arith, (known (goal.at.returns c).In-Whole).small, k)) (parse_some (D (goal.at.returns c).In-Whole) _ _ _ (is (goal.at.returns c).In-Whole) c.if-number-eq0.false) refl (laid_as (N (goal.at.returns c).In-Whole) (Sz (goal.at.returns c).In-Whole) _ p k e)
+pub returns-clause-answer : goal.returns-clause-answer
+returns-clause-answer c =
+    let w = (goal.at.returns-clause-answer c).In-Some in
+    let k = part_length _ _ _ _ (known w) in
+    let l = laid_as w.in-Some.header.number w.in-Some.header.size _ (P w) k (c.put_bytes.ensures ∙ rw add-sub_cancel_left) in
+    ap gave (ap block_of l ∙ over_means blank _ blank_places (omega (arith, (known w).small, k))) ∙ sym (parse_some _ _ _ _ (known w) c.if-header-eq0.false)
+
+pub returns-clause-places : goal.returns-clause-places
+returns-clause-places c =
+    let w = (goal.at.returns-clause-places c).In-Some in
+    let k = part_length _ _ _ _ (known w) in
+    rw (parse_some _ _ _ _ (known w) c.if-header-eq0.false)
+    (ap gave (laid_as w.in-Some.header.number w.in-Some.header.size _ (P w) k (c.put_bytes.ensures ∙ rw add-sub_cancel_left)))

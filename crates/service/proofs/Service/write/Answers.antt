@@ -1,52 +1,59 @@
--- `Service::write` meets its contract: one law of `Services` for each refusal, 11 first and 9 last, and header and payload laid one behind the other
--- are the block as written. Assumes nothing.
-use mathlib.Core.Path.{◌≡◌, refl, sym, ◌∙◌}
-use mathlib.Core.Bool.{true}
-use Prim.Native.Nat.{◌≤◌}
-use native.Mathlib.Nat.{sub-zero}
+-- One law of `Services` for each way out, and header and payload laid one behind the other are the block as written. 11 comes first, by `check`.
+-- Assumes nothing.
+use mathlib.Core.Path.{◌≡◌, refl, sym, ap, ◌∙◌}
+use Prim.Native.Nat.{◌+◌, ◌-◌}
+use native.Mathlib.Nat.{add-sub_cancel_left, sub-zero}
 use native.Mathlib.Omega.{arith}
-use lib.ListN.{length}
-use borrow.Author.Tests.{not-false}
+use lib.ListN.{length, take}
+use lib.Seq.{length-sets}
 use borrow.Author.Rules.{rules}
-use Rattle.service.specs.declared.Service.{Service}
-use Rattle.service.specs.Service.{valid_service}
+use borrow.Rule.Slice.PartMut.{put_mid}
+use Rattle.model.specs.Said.{gave, refused, out_short}
+use Rattle.service.specs.Service.{written}
 use Rattle.service_headers.proofs.Heads.{written_most}
-use Rattle.service.proofs.Services.{valid_len, write_short, write_fits}
+use Rattle.caption.proofs.Outcomes.{given_valid}
+use Rattle.basics.proofs.Runs.{part_laid}
+use Rattle.service.proofs.Services.{valid_len, payload_length, payload_written, write_short, write_fits}
 use Rattle.service.proofs.Service.write.Goals as goal
-use Rattle.service.proofs.Service.write.Goals.{After-is_valid, Else-not-is_valid}
-
--- the block
-abbrev S : After-is_valid → Service
-S c = c.args.self
-
--- it has its 31 places
-places : (c : After-is_valid) → length (S c).payload ≡ 31
-places c = search rules
-
--- past the first test it breaks no limit
-valid : (c : Else-not-is_valid) → valid_service c.args.self ≡ true
-valid c = sym c.is_valid.ensures ∙ not-false _ c.if-not-is_valid.false-raw
-
--- so its payload has at most 31 bytes
-small : (c : Else-not-is_valid) → c.args.self.len ≤ 31
-small c = valid_len _ (valid c)
 
 pub overflow_add-total : goal.overflow_add-total
-overflow_add-total c = omega (arith, small (goal.at.overflow_add-total c).Else-not-is_valid, written_most (S (goal.at.overflow_add-total c).After-is_valid).number c.written_header_length-start.result c.written_header_length-start.ensures)
+overflow_add-total c =
+    omega (arith, valid_len _ (given_valid _ _ _ c.in_ok-check.ensures), written_most c.args.self.now.number c.written_header_length-start.result c.written_header_length-start.ensures)
 
-pub returns-then-out-total : goal.returns-then-out-total
-returns-then-out-total c =
-    write_short (S (goal.at.returns-then-out-total c).After-is_valid) _ refl (places (goal.at.returns-then-out-total c).After-is_valid) _ _ _ (valid (goal.at.returns-then-out-total c).Else-not-is_valid) c.written_header_length-start.ensures c.if-out-total.true refl
+-- 9: the output is too short
+short : (c : goal.Then-out-total) → written c.args.self.now c.args.out.now ≡ refused (out_short (c.written_header_length-start.result + c.args.self.now.len))
+short c = write_short _ _ refl (search rules) _ _ (given_valid _ _ _ c.in_ok-check.ensures) c.written_header_length-start.ensures c.if-out-total.true
 
-pub overflow_cast-len : goal.overflow_cast-len
-overflow_cast-len c = omega (arith, small (goal.at.overflow_cast-len c).Else-not-is_valid)
+pub returns-then-out-total-clause-answer : goal.returns-then-out-total-clause-answer
+returns-then-out-total-clause-answer c = rw (short c)
 
-pub slice_bounds-put_bytes-end : goal.slice_bounds-put_bytes-end
-slice_bounds-put_bytes-end c =
-    let p : (S (goal.at.slice_bounds-put_bytes-end c).After-is_valid).len ≤ length (S (goal.at.slice_bounds-put_bytes-end c).After-is_valid).payload = omega (arith, small (goal.at.slice_bounds-put_bytes-end c).Else-not-is_valid, places (goal.at.slice_bounds-put_bytes-end c).After-is_valid) in
-    p
+pub returns-then-out-total-clause-output : goal.returns-then-out-total-clause-output
+returns-then-out-total-clause-output c = rw (short c)
 
-pub returns : goal.returns
-returns c =
-    write_fits (S (goal.at.returns c).After-is_valid) _ refl (places (goal.at.returns c).After-is_valid) _ _ _ _ (valid (goal.at.returns c).Else-not-is_valid) c.written_header_length-start.ensures c.if-out-total.false refl
-    (c.put_bytes.ensures ∙ rw (c.put_header.ensures, sub-zero))
+pub overflow_cast-self : goal.overflow_cast-self
+overflow_cast-self c = omega (arith, valid_len _ (given_valid _ _ _ c.in_ok-check.ensures))
+
+pub slice_bounds-copy_from_slice-end-2 : goal.slice_bounds-copy_from_slice-end-2
+slice_bounds-copy_from_slice-end-2 c = valid_len _ (given_valid _ _ _ c.in_ok-check.ensures)
+
+-- header and payload are the block as written
+wrote : (c : goal.After-slice_known-3-1)
+    → written c.args.self.now c.args.out.now ≡ gave (put_mid c.written_header_length-start.result (c.written_header_length-start.result + c.args.self.now.len - c.written_header_length-start.result) c.put_header.new.out c.copy_from_slice.new.self)
+wrote c =
+    let places : length c.args.self.now.payload ≡ 31 = search rules in
+    let valid = given_valid _ _ _ c.in_ok-check.ensures in
+    let size : length (take c.args.self.now.len c.args.self.now.payload) ≡ c.args.self.now.len = payload_length c.args.self.now _ refl places valid in
+    let same : length c.put_header.new.out ≡ length c.args.out.now = rw (c.put_header.ensures, length-sets) in
+    write_fits _ _ refl places _ _ _ valid c.written_header_length-start.ensures c.if-out-total.false
+    (part_laid c.put_header.new.out _ (take c.args.self.now.len c.args.self.now.payload) c.written_header_length-start.result _
+    (c.copy_from_slice.ensures.after ∙ ap (λ n. take n c.args.self.now.payload) (sub-zero c.args.self.now.len))
+    (add-sub_cancel_left c.written_header_length-start.result c.args.self.now.len ∙ sym size) (omega (arith, same, size, c.if-out-total.false))
+    ∙ rw c.put_header.ensures)
+
+pub returns-clause-answer : goal.returns-clause-answer
+returns-clause-answer c =
+    rw (wrote c)
+    (ap gave (ap (λ k. k + c.args.self.now.len) c.written_header_length-start.ensures ∙ sym (payload_written _ _ refl (search rules) (given_valid _ _ _ c.in_ok-check.ensures))))
+
+pub returns-clause-output : goal.returns-clause-output
+returns-clause-output c = rw (wrote c)

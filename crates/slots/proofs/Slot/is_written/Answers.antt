@@ -6,24 +6,24 @@ use Rattle.slots.proofs.Spans.{too_short, too_long, wrong_header, wrong_fill, by
 use Rattle.slots.proofs.Exact.{walked_written}
 use borrow.Author.Rules.{rules}
 use Rattle.slots.proofs.Slot.is_written.Goals as goal
-use Rattle.slots.proofs.Slot.is_written.Goals.{then-len-eq1+else-bytes-len-ne0, else-len-eq1}
+use Rattle.slots.proofs.Slot.is_written.Goals.{then-self-eq1+else-self-ne0, else-self-eq1}
 
-pub returns-then-len-lt-LEAST_PACKET : goal.returns-then-len-lt-LEAST_PACKET
-returns-then-len-lt-LEAST_PACKET c = too_short c.args.self c.if-len-lt-LEAST_PACKET.true ∙ walked_written _
+pub returns-then-self-lt-LEAST_PACKET : goal.returns-then-self-lt-LEAST_PACKET
+returns-then-self-lt-LEAST_PACKET c = too_short c.args.self.now c.if-self-lt-LEAST_PACKET.true ∙ walked_written _
 
-pub returns-then-len-gt-MOST_PACKET : goal.returns-then-len-gt-MOST_PACKET
-returns-then-len-gt-MOST_PACKET c = too_long c.args.self c.if-len-lt-LEAST_PACKET.false c.if-len-gt-MOST_PACKET.true ∙ walked_written _
+pub returns-then-self-gt-MOST_PACKET : goal.returns-then-self-gt-MOST_PACKET
+returns-then-self-gt-MOST_PACKET c = too_long c.args.self.now c.if-self-lt-LEAST_PACKET.false c.if-self-gt-MOST_PACKET.true ∙ walked_written _
 
-pub returns-then-wide-len : goal.returns-then-wide-len
-returns-then-wide-len c = let w = c.wide.ensures.0 in
-    wrong_header c.args.self c.if-len-lt-LEAST_PACKET.false c.if-len-gt-MOST_PACKET.false (λ z. c.if-wide-len.true (rw w z)) ∙ walked_written _
+pub returns-then-self : goal.returns-then-self
+returns-then-self c =
+    wrong_header c.args.self.now c.if-self-lt-LEAST_PACKET.false c.if-self-gt-MOST_PACKET.false c.if-self.true ∙ walked_written _
 
-pub returns-then-bytes-len-ne0 : goal.returns-then-bytes-len-ne0
-returns-then-bytes-len-ne0 c = let w = c.wide.ensures in
-    wrong_fill c.args.self c.if-len-lt-LEAST_PACKET.false c.if-len-gt-MOST_PACKET.false (rw w.0 at c.if-wide-len.false) (omega (arith, w.0, w.1)) c.if-len-eq1.true c.if-bytes-len-ne0.true
+pub returns-then-self-ne0 : goal.returns-then-self-ne0
+returns-then-self-ne0 c =
+    wrong_fill c.args.self.now c.if-self-lt-LEAST_PACKET.false c.if-self-gt-MOST_PACKET.false c.if-self.false (search (rules, c.type_inv)) c.if-self-eq1.true c.if-self-ne0.true
     ∙ walked_written _
 
 pub returns : goal.returns
-returns c = let w = c.wide.ensures in
-    by_blocks c.args.self c.if-len-lt-LEAST_PACKET.false c.if-len-gt-MOST_PACKET.false (rw w.0 at c.if-wide-len.false) (omega (arith, w.0, w.1)) (search (rules, c.well_formed))
-    (elim c.if-len-eq1.branch [ then-len-eq1+else-bytes-len-ne0 w ↦ zero_fill c.args.self w.if-bytes-len-ne0.false | else-len-eq1 w ↦ even_fill c.args.self w.if-len-eq1.false ]) c.blocks_whole.ensures ∙ walked_written _
+returns c =
+    by_blocks c.args.self.now c.if-self-lt-LEAST_PACKET.false c.if-self-gt-MOST_PACKET.false c.if-self.false (search (rules, c.type_inv)) (search (rules, c.well_formed))
+    (elim c.if-self-eq1.branch [ then-self-eq1+else-self-ne0 w ↦ zero_fill c.args.self.now w.if-self-ne0.false | else-self-eq1 w ↦ even_fill c.args.self.now w.if-self-eq1.false ]) c.blocks_whole.ensures ∙ walked_written _

@@ -5,6 +5,10 @@ use Rattle.writer.specs.Writer.{fresh}
 use Rattle.writer.proofs.Laws.{means_fresh}
 use Rattle.writer.proofs.CCDataWriter.new.Goals as goal
 
-pub returns : goal.returns
+pub returns-clause-state : goal.returns-clause-state
 unfolding fresh queue_over pair_bytes
-returns c = (means_fresh, refl)
+returns-clause-state c = means_fresh
+
+pub returns-clause-places : goal.returns-clause-places
+unfolding fresh queue_over pair_bytes
+returns-clause-places c = refl

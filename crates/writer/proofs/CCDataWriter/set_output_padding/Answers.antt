@@ -1,10 +1,23 @@
--- `writer::CCDataWriter::set_output_padding` meets its contract. Assumes nothing.
+-- `writer::CCDataWriter::set_output_padding` meets its contract: one law gives all its clauses. Assumes nothing.
 use mathlib.Core.Path.{refl}
-use Rattle.writer.proofs.Shape.{shaped}
-use Rattle.writer.proofs.Calls.{switch_set}
 use Rattle.model.specs.Mux.{paddings}
+use Rattle.caption.proofs.Outcomes.{given_valid}
+use Rattle.writer.specs.Writer.{stored}
+use Rattle.writer.specs.Calls.{switch_outcome}
+use Rattle.writer.specs.Making.{switched}
+use Rattle.writer.proofs.Calls.{Answers, done, switch_set}
 use Rattle.writer.proofs.CCDataWriter.set_output_padding.Goals as goal
+use Rattle.writer.proofs.CCDataWriter.set_output_padding.Goals.{In_ok-check}
 
-pub returns-then-is_valid : goal.returns-then-is_valid
-returns-then-is_valid c = let h = shaped c.args.self (c.well_formed.0, tt) in
-    switch_set c.args.self h c.is_valid.ensures c.if-is_valid.true (paddings c.args.self.output_cea608_padding c.args.output_padding) _ refl
+-- the switch is set
+set : (c : In_ok-check) → (let w = c.args.self.now in let x = paddings c.args.self.now.output_cea608_padding c.args.output_padding in Answers (switch_outcome x w) (stored w) w done (switched x w))
+set c = switch_set c.args.self.now c.in_ok-check.ensures.shaped (given_valid _ _ _ c.in_ok-check.ensures.answer) (paddings c.args.self.now.output_cea608_padding c.args.output_padding) _ refl
+
+pub returns-clause-answer : goal.returns-clause-answer
+returns-clause-answer c = (set (goal.at.returns-clause-answer c).In_ok-check).answer
+
+pub returns-clause-state : goal.returns-clause-state
+returns-clause-state c = (set (goal.at.returns-clause-state c).In_ok-check).state
+
+pub returns-clause-places : goal.returns-clause-places
+returns-clause-places c = (set (goal.at.returns-clause-places c).In_ok-check).places

@@ -1,21 +1,17 @@
--- `writer_frames::Frame::emit` meets its contract: the first `i` bytes are the frame's. Assumes nothing.
-use mathlib.Core.Path.{◌≡◌}
-use native.Mathlib.Omega.{arith}
-use lib.ListN.{length-set}
-use Rattle.writer_frames.proofs.Stores.{copied_more, emitted_long, emitted_short, emitted_whole}
+-- `writer_frames::Frame::emit` meets its contract. Assumes nothing.
+use mathlib.Core.Path.{ap, ◌∙◌}
+use native.Mathlib.Nat.{sub-zero}
+use lib.ListN.{take}
+use lib.Seq.{sets}
+use borrow.Author.Rules.{rules}
+use Rattle.writer_frames.proofs.Stores.{emitted_long, emitted_short, emitted_laid}
 use Rattle.writer_frames.proofs.Frame.emit.Goals as goal
 
-pub returns-then-n-gt-MOST_FRAME : goal.returns-then-n-gt-MOST_FRAME
-returns-then-n-gt-MOST_FRAME c = emitted_long c.args.self c.args.out.now c.if-n-gt-MOST_FRAME.true
+pub returns-then-self-gt-MOST_FRAME : goal.returns-then-self-gt-MOST_FRAME
+returns-then-self-gt-MOST_FRAME c = emitted_long c.args.self.now c.args.out.now c.if-self-gt-MOST_FRAME.true
 
-pub returns-then-out-n : goal.returns-then-out-n
-returns-then-out-n c = emitted_short c.args.self c.args.out.now c.if-n-gt-MOST_FRAME.false c.if-out-n.true
-
-pub loop-i-preserved : goal.loop-i-preserved
-loop-i-preserved c = let v = c.loop-i.invariant in
-    (v.0, v.1, v.2, omega arith, simp length-set v.4, rw v.5 (copied_more _ _ c.loop-i.i (omega arith) (omega arith)))
+pub returns-then-out-self : goal.returns-then-out-self
+returns-then-out-self c = emitted_short c.args.self.now c.args.out.now c.if-self-gt-MOST_FRAME.false c.if-out-self.true
 
 pub returns : goal.returns
-returns c = let v = c.loop-i.invariant in
-    let e : c.loop-i.i ≡ c.args.self.len = omega arith in
-    rw (v.5, e) (emitted_whole c.args.self c.args.out.now v.0 v.1)
+returns c = c.put_bytes.ensures ∙ ap (λ n. sets c.args.out.now 0 (take n c.args.self.now.bytes)) (sub-zero c.args.self.now.len) ∙ emitted_laid c.args.self.now c.args.out.now c.if-self-gt-MOST_FRAME.false c.if-out-self.false (search rules)

@@ -6,4 +6,4 @@ pub returns-then-n-gt-MOST_TRIPLES : goal.returns-then-n-gt-MOST_TRIPLES
 returns-then-n-gt-MOST_TRIPLES c = too_many _ _ c.if-n-gt-MOST_TRIPLES.true
 
 pub returns : goal.returns
-returns c = not_many c.args.self c.args.n c.if-n-gt-MOST_TRIPLES.false
+returns c = not_many c.args.self.now c.args.n c.if-n-gt-MOST_TRIPLES.false

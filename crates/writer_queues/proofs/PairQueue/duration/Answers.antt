@@ -5,4 +5,4 @@ use Rattle.writer_queues.proofs.PairQueue.duration.Goals as goal
 
 pub returns : goal.returns
 unfolding pairs_duration ceil
-returns c = omega (arith, c.lesser.ensures)
+returns c = omega (arith, c.min.ensures)

@@ -1,9 +1,0 @@
--- The times are counted.
-use Rattle.std.proofs.Common.{◌-◌, ◌≤◌}
-use Rattle.budget_speed.proofs.with_rate.Given as goal
-
-abbrev pub invariant-loop-i : goal.invariant-loop-i
-invariant-loop-i l = l.i ≤ 100000
-
-abbrev pub decreases-loop-i : goal.decreases-loop-i
-decreases-loop-i l = 100000 - l.i

@@ -1,7 +1,0 @@
--- Each number stands behind the one before it. Assumes nothing.
-use Rattle.script_answers.proofs.Parts.{told_two}
-use borrow.Author.Rules.{rules}
-use Rattle.script_answers.proofs.put_two.Goals as goal
-
-pub returns : goal.returns
-returns c = search (rules, told_two)

@@ -1,0 +1,6 @@
+-- The answer is told, and what the call leaves is left. Assumes nothing.
+use Rattle.script_parsers.proofs.Drawn.{did_call}
+use Rattle.script_parsers.proofs.push.Goals as goal
+
+pub returns : goal.returns
+returns c = did_call _ _ _ _ c.push-answer.ensures.answer c.push-answer.ensures.places c.put_done_line.ensures
