@@ -13,7 +13,7 @@ use program_streams::{Held, Teller};
 use std::io;
 use std::io::{Read, Write};
 
-// The lines of a record: none of them is cut.
+// The lines of a record: where there is room for 32768 bytes, none of them is cut.
 fn put_record(
     out: &mut [u8],
     at: usize,
@@ -22,8 +22,8 @@ fn put_record(
     bytes: &[u8],
     capture: Capture,
 ) -> Recorded
-    requires { at + 32768 ≤ length out.old }
-    ensures whole { Whole (record_lines number kind bytes.now capture) out.old at result.laid out.new }
+    ensures whole { at + 32768 ≤ length out.old
+        → Whole (record_lines number kind bytes.now capture) out.old at result.laid out.new }
     ensures capture_value { result.capture ≡ recorded kind bytes.now capture }
 {
     ccread_report::put_record(out, at, number, kind, bytes, capture)
@@ -79,8 +79,8 @@ fn fresh() -> Reader
     }
 }
 
-// Reads the input to its end, and leaves where the program stands then. Where a read or a write fails, buffer and place are those before that step: of
-// what the step completes a part may be told, and the reader may be behind it.
+// Reads the input to its end, and leaves where the program stands then. Where a read or a write fails, that is where it stood before that step:
+// of what the step completes a part may be told.
 fn run<R: Read, W: Write>(
     input: &mut R,
     output: &mut W,
@@ -92,7 +92,7 @@ fn run<R: Read, W: Write>(
     ensures ok { IfOk result (λ _. held.new.going ≡ false
         → Ran (R.remaining input.old) (R.remaining input.new)
         (W.contents output.old) (W.contents output.new) buf.new held.new reader.new) }
-    ensures err { OnErr result (Broke buf.new held.new) }
+    ensures err { OnErr result (Broke buf.new held.new reader.new) }
 {
     *reader = fresh();
     program_streams::run(input, output, buf, out, held, reader)

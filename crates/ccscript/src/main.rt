@@ -37,7 +37,8 @@ impl Teller for Runner {
     // Runs a record and lays its line behind those that wait.
     fn tell(&mut self, out: &mut [u8], at: usize, _number: u64, _kind: u8, bytes: &[u8]) -> usize {
         let end = script_operations::run_record(out, at, &mut self.machine, bytes);
-        if end < at + Self::ROOM {
+        let size = end.saturating_sub(at);
+        if size < Self::ROOM {
             return end;
         }
         at
@@ -53,8 +54,8 @@ fn fresh() -> Runner
     }
 }
 
-// Reads the input to its end, and leaves where the program stands then. Where a read or a write fails, buffer and place are those before that step: of
-// what the step completes a part may be told, and the runner may be behind it.
+// Reads the input to its end, and leaves where the program stands then. Where a read or a write fails, that is where it stood before that step:
+// of what the step completes a part may be told.
 fn run<R: Read, W: Write>(
     input: &mut R,
     output: &mut W,
@@ -66,7 +67,7 @@ fn run<R: Read, W: Write>(
     ensures ok { IfOk result (λ _. held.new.going ≡ false
         → Ran (R.remaining input.old) (R.remaining input.new)
         (W.contents output.old) (W.contents output.new) buf.new held.new runner.new) }
-    ensures err { OnErr result (Broke buf.new held.new) }
+    ensures err { OnErr result (Broke buf.new held.new runner.new) }
 {
     *runner = fresh();
     program_streams::run(input, output, buf, out, held, runner)

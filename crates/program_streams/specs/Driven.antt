@@ -27,7 +27,7 @@ module _ {S : Type 0} (mark : List (List ℕ)) (tell : ℕ → S → ℕ → Lis
   abbrev pub Driven : Bool → S → Option (List ℕ) → Option (List ℕ) → Option (List ℕ) → Option (List ℕ) → List ℕ → Held → S → Type 0
   Driven ended x given left out now buf h y = (input : List ℕ) × Consumes given left input × TakenIn (told mark tell ended input 0 0 x) out now buf h y
 
-  -- where a read or a write failed: more is to be read, all that some input completes is told, and the bytes of it that wait are at the front of
-  -- the buffer still; of what the step that failed has read nothing is said
-  abbrev pub Broken : S → List ℕ → Held → Type 0
-  Broken x buf h = (h.going ≡ true) × (y : S) × (input : List ℕ) × Kept (told mark tell false input 0 0 x) buf h y
+  -- where a read or a write failed: more is to be read, all that some input completes is told, the bytes of it that wait are at the front of the
+  -- buffer still, and the program stands behind it; of what the step that failed has read nothing is said
+  abbrev pub Broken : S → List ℕ → Held → S → Type 0
+  Broken x buf h y = (h.going ≡ true) × (input : List ℕ) × Kept (told mark tell false input 0 0 x) buf h y

@@ -3,7 +3,7 @@
 #![tactic(auto)]
 
 ghost use Rattle.std.specs.Prelude.{◌≡◌, true, false, ℕ, ◌+◌, ◌^◌, ◌<◌, ◌≤◌, List, [], ◌∷◌, ◌++◌, length, take, drop, IfOk, OnErr};
-ghost use Rattle.std.specs.Io.KnownBytes.{Consumes};
+ghost use Rattle.std.specs.Io.KnownBytes.{Consumes, Appends};
 ghost use Rattle.program_records.specs.Moved.{Moved, between};
 ghost use Rattle.program_text.specs.Laid.{Laid};
 ghost use Rattle.program_streams.specs.Ends.{left_at, goes_on, last_line};
@@ -19,7 +19,7 @@ use std::io::{Read, Write};
 const LAST_LINE: usize = 64;
 
 /// What a program tells of its records, and what it has from one to the next.
-pub trait Teller {
+pub trait Teller: Copy {
     // Which bytes stand second in a record's mark, behind CC [C1].
     ghost kinds: { List ℕ };
 
@@ -38,8 +38,7 @@ pub trait Teller {
         ensures { result.now ≡ kinds };
 
     fn tell(&mut self, out: &mut [u8], at: usize, number: u64, kind: u8, bytes: &[u8]) -> usize
-        requires { at + ROOM ≤ length out.old }
-        ensures text { take result out.new
+        ensures text { at + ROOM ≤ length out.old → take result out.new
             ≡ take at out.old ++ (telling number self.old kind bytes.now).text }
         ensures state { self.new ≡ (telling number self.old kind bytes.now).next };
 }
@@ -276,7 +275,7 @@ fn drain<T: Teller>(buf: &[u8], ended: bool, out: &mut [u8], from: Place, teller
     ensures onward { result.full ≡ true
         → (from.at < result.place.at) × (result.place.at ≤ length buf.now) }
 {
-    let most = out.len() - (T::ROOM + LAST_LINE);
+    let most = out.len() - T::ROOM.max(LAST_LINE);
     let mut place = Place {
         at: from.at,
         passed: from.passed,
@@ -299,6 +298,24 @@ fn drain<T: Teller>(buf: &[u8], ended: bool, out: &mut [u8], from: Place, teller
     }
 }
 
+// Hands a text to the output: what the records from one place of the buffer to another tell.
+fn send<T: Teller, W: Write>(
+    output: &mut W,
+    text: &[u8],
+    buf: &[u8],
+    ended: bool,
+    from: Place,
+    at_first: &T,
+    to: Ahead,
+    at_last: &T,
+) -> io::Result<()>
+    requires { told_from (mark_of T.kinds) T.telling ended buf.now from at_first.now
+        ≡ before text.now (left_to_tell (mark_of T.kinds) T.telling ended buf.now to at_last.now) }
+    ensures { IfOk result (λ _. Appends (W.contents output.old) (W.contents output.new) text.now) }
+{
+    output.write_all(text)
+}
+
 // Hands out what every record that is whole in the buffer tells, in as many pieces as the room
 // makes of it.
 fn tell_all<T: Teller, W: Write>(
@@ -316,8 +333,18 @@ fn tell_all<T: Teller, W: Write>(
 {
     let mut place = front(held).place;
     loop {
+        let at_first = *teller;
         let to = drain(buf, ended, out, place, teller);
-        output.write_all(part(out, 0, to.place.laid))?;
+        send(
+            output,
+            part(out, 0, to.place.laid),
+            buf,
+            ended,
+            place,
+            &at_first,
+            to,
+            teller,
+        )?;
         if !to.full {
             return Ok(to);
         }
@@ -325,7 +352,8 @@ fn tell_all<T: Teller, W: Write>(
     }
 }
 
-// Takes in the first `more` bytes of the buffer, and keeps those behind the last whole record.
+// Takes in the first `more` bytes of the buffer, and keeps those behind the last whole record. Where
+// a write fails, the teller has what it had before.
 fn take_in<T: Teller, W: Write>(
     output: &mut W,
     buf: &mut [u8],
@@ -340,9 +368,16 @@ fn take_in<T: Teller, W: Write>(
         (told (mark_of T.kinds) T.telling ended (take more buf.old) held.passed held.records teller.old)
         (W.contents output.old) (W.contents output.new) buf.new to teller.new) }
     ensures err { OnErr result (buf.new ≡ buf.old) }
+    ensures kept { OnErr result (teller.new ≡ teller.old) }
 {
-    let to = tell_all(output, part(buf, 0, more), ended, out, held, teller)?;
-    Ok(keep(buf, more, to))
+    let before = *teller;
+    match tell_all(output, part(buf, 0, more), ended, out, held, teller) {
+        Ok(to) => Ok(keep(buf, more, to)),
+        Err(why) => {
+            *teller = before;
+            Err(why)
+        }
+    }
 }
 
 // One read of the input, behind the bytes that wait: how many bytes it gave.
@@ -371,6 +406,7 @@ fn step<T: Teller, R: Read, W: Write>(
         (R.remaining input.old) (R.remaining input.new)
         (W.contents output.old) (W.contents output.new) buf.new to teller.new) }
     ensures err { OnErr result (take held.have buf.new ≡ take held.have buf.old) }
+    ensures kept { OnErr result (teller.new ≡ teller.old) }
 {
     let have = held.have;
     let got = read_more(input, buf, have)?;
@@ -379,7 +415,7 @@ fn step<T: Teller, R: Read, W: Write>(
 
 /// Reads the input to its end, hands out what it tells, and leaves where the program stands then.
 /// Where a read or a write fails, that is where it stood before that step: of what the step
-/// completes a part may be told, and the teller may be behind it.
+/// completes a part may be told.
 pub fn run<T: Teller, R: Read, W: Write>(
     input: &mut R,
     output: &mut W,
@@ -392,7 +428,7 @@ pub fn run<T: Teller, R: Read, W: Write>(
         → Driven (mark_of T.kinds) T.telling true teller.old
         (R.remaining input.old) (R.remaining input.new)
         (W.contents output.old) (W.contents output.new) buf.new held.new teller.new) }
-    ensures err { OnErr result (Broken (mark_of T.kinds) T.telling teller.old buf.new held.new) }
+    ensures err { OnErr result (Broken (mark_of T.kinds) T.telling teller.old buf.new held.new teller.new) }
 {
     let room = &mut out[..];
     *held = unread();

@@ -25,4 +25,4 @@ shaped s = record { pairs = search rules; pending = search rules; waiting = sear
 
 pub returns-clause-whole : goal.returns-clause-whole
 returns-clause-whole c =
-    lines_whole _ _ _ _ (omega arith) (shaped (goal.at.returns-clause-whole c).Start) (λ i. omega (arith, c.type_inv.bytes i)) c.requires c.put_record.ensures.laid
+    λ room. lines_whole _ _ _ _ (omega arith) (shaped (goal.at.returns-clause-whole c).Start) (λ i. omega (arith, c.type_inv.bytes i)) room c.put_record.ensures.laid
