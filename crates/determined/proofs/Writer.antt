@@ -23,7 +23,7 @@ use Rattle.writer.proofs.CCDataWriter.buffered_packet_duration.Reads as Buffered
 use Rattle.writer.proofs.CCDataWriter.write.Reads as write
 use Rattle.writer.specs.declared.CCDataWriter.{CCDataWriter}
 use Rattle.determined.specs.Determines.{Determines, DeterminesLent}
-use Rattle.determined.proofs.Ways.{equal, said}
+use Rattle.determined.proofs.Ways.{said}
 
 -- `CCDataWriter::new()`
 pub cc_data_writer_new : Determines (new.Post (tt {0}))
@@ -31,7 +31,7 @@ cc_data_writer_new = record { result = λ a r q e f h k. h.1 ∙ sym k.1 }
 
 -- `writer.is_valid()`
 pub cc_data_writer_is_valid : (κs : Lfts 1) → Determines (IsValidReads.Post κs)
-cc_data_writer_is_valid κs = equal
+cc_data_writer_is_valid κs = record { result = λ a r q e f h k. h.0 ∙ sym k.0 }
 
 -- `writer.set_output_cea608_padding(on)`
 pub cc_data_writer_set_output_cea608_padding : (κs : Lfts 1) → DeterminesLent (λ e. e.0.now) (SetOutputCea608PaddingReads.Post κs)

@@ -1,4 +1,5 @@
 pub mod Valid
+pub mod Shape
 pub mod Moved
 pub mod Builds
 pub mod Stored

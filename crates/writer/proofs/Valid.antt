@@ -24,7 +24,7 @@ use Rattle.slots.proofs.Written.{carried, carried_storable}
 use Rattle.slots.specs.declared.Slot.{Slot}
 use Rattle.slots.specs.Row.{valid_sending, valid_slots}
 use Rattle.slots.proofs.Row.{and_false}
-pub use Rattle.writer.specs.Making.{Shaped}
+pub use Rattle.writer.specs.Writer.{Shaped}
 use Rattle.writer.specs.Writer.{means, in_order, valid_writer}
 use Rattle.writer_sending.proofs.Triples.{Held, left_length}
 use Rattle.writer_sending.proofs.Sends.{read_slots}

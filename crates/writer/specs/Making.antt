@@ -1,5 +1,5 @@
 -- How a frame is made and a packet stored, part by part. No public contract reaches this file. Assumes nothing.
-use Rattle.std.specs.Prelude.{Bool, cond, ◌&&◌, ◌≡◌, List, ℕ, ◌-◌, length, take, drop}
+use Rattle.std.specs.Prelude.{Bool, cond, ◌&&◌, List, ℕ, ◌-◌, take, drop}
 use Rattle.std.proofs.lemmas.List.Edits.{sets}
 use Rattle.model.specs.Rate.{no_carry}
 use Rattle.model.specs.Mux.{Switch, paddings, carrying_mode, true_counting}
@@ -11,12 +11,6 @@ use Rattle.writer_building.specs.Building.{built}
 use Rattle.writer_building.specs.declared.Source.{Source}
 use Rattle.writer_building.specs.declared.Made.{Made}
 use Rattle.writer.specs.declared.CCDataWriter.{CCDataWriter}
-
--- a state whose arrays have their lengths
-pub record Shaped (w : CCDataWriter) : Type 0 where
-  pub packets : length w.packets ≡ 16
-  pub first : length w.field1.bytes ≡ 128
-  pub second : length w.field2.bytes ≡ 128
 
 -- the state with what a frame leaves of it, without the packets that were begun [S3]
 abbrev pub joined : CCDataWriter → Made → CCDataWriter

@@ -1,6 +1,6 @@
 -- The multiplexer's state: what it is in the model, the states that break a limit, and the places of what a call leaves: [S1] to
 -- [S3] and [W14]. Assumes nothing.
-use Rattle.std.specs.Prelude.{Bool, cond, not, ◌&&◌, List, [], ◌∷◌, map, ℕ, ◌-◌, ◌*◌, ◌/◌, eqb, leb, length, get_or, take, drop, replicate}
+use Rattle.std.specs.Prelude.{◌≡◌, Bool, cond, not, ◌&&◌, List, [], ◌∷◌, map, ℕ, ◌-◌, ◌*◌, ◌/◌, eqb, leb, length, get_or, take, drop, replicate}
 use Rattle.std.proofs.lemmas.List.Edits.{sets}
 use Rattle.model.specs.Lists.{every}
 use Rattle.model.specs.Mux.{Mux, fresh_mux, valid_mux, started}
@@ -27,6 +27,12 @@ means w =
       queue2 = queue_of w.field2;
       next1 = not w.field2_next;
     }
+
+-- a state whose arrays have their lengths
+pub record Shaped (w : CCDataWriter) : Type 0 where
+  pub packets : length w.packets ≡ 16
+  pub first : length w.field1.bytes ≡ 128
+  pub second : length w.field2.bytes ≡ 128
 
 -- the places are in order: no count passes its array, and the slots are written packets
 unfoldable pub in_order : CCDataWriter → Bool

@@ -6,9 +6,9 @@ ghost use Rattle.model.specs.Said.{gave, says, after, mapped, checked};
 ghost use Rattle.model.specs.Mux.{fresh_mux, paddings, carrying_mode, true_counting};
 ghost use Rattle.model.specs.Duration.{field1_duration, field2_duration, packet_duration};
 ghost use Rattle.caption.specs.Answers.{outcome};
-ghost use Rattle.writer.specs.Writer.{means, valid_writer, fresh, stored, emptied, moved};
+ghost use Rattle.writer.specs.Writer.{means, Shaped, valid_writer, fresh, stored, emptied, moved};
 ghost use Rattle.writer.specs.Calls.{placed, switch_outcome, pair_outcome, packet_outcome, flush_outcome, written};
-ghost use Rattle.writer.specs.Making.{Shaped, source_of, carry_after};
+ghost use Rattle.writer.specs.Making.{source_of, carry_after};
 
 use caption::{Cea608, Framerate, Refusal};
 use packet::DTVCCPacket;
@@ -71,7 +71,8 @@ impl CCDataWriter {
 
     /// Whether the state is within its limits [W14].
     pub fn is_valid(&self) -> bool
-        ensures { result ≡ valid_writer self.now }
+        ensures value { result ≡ valid_writer self.now }
+        ensures shaped { Shaped self.now }
     {
         self.is_within()
     }
@@ -270,7 +271,7 @@ impl CCDataWriter {
         Ok(needed)
     }
 
-    // The test at the head of each call, and the lengths of the arrays, which each queue tells of its own.
+    // The test at the head of each call, and the lengths of the arrays.
     fn check(&self) -> Result<(), Refusal>
         ensures answer { outcome result ≡ checked (valid_writer self.now) (gave tt) }
         ensures shaped { Shaped self.now }

@@ -1,15 +1,15 @@
 -- `writer::CCDataWriter::is_within` meets its contract: one law of `Valid` for each way out. Assumes nothing.
 use mathlib.Core.Path.{sym, ◌∙◌}
 use borrow.Author.Rules.{rules}
-use Rattle.slots.proofs.Row.{length_mapped}
-use Rattle.writer.specs.Making.{Shaped}
+use Rattle.writer.specs.Writer.{Shaped}
+use Rattle.writer.proofs.Shape as shape
 use Rattle.writer.proofs.Valid.{over_first, over_second, over_carry, by_slots}
 use Rattle.writer.proofs.CCDataWriter.is_within.Goals as goal
 use Rattle.writer.proofs.CCDataWriter.is_within.Goals.{After-is_valid-second}
 
 -- the arrays have their lengths
 shaped : (c : After-is_valid-second) → Shaped c.args.self.now
-shaped c = record { packets = search (rules, length_mapped, c.well_formed); first = c.is_valid-first.ensures.places; second = c.is_valid-second.ensures.places }
+shaped c = search (rules, shape.shaped)
 
 pub returns-then-not-first : goal.returns-then-not-first
 returns-then-not-first c =
