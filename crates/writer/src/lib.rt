@@ -172,7 +172,10 @@ impl CCDataWriter {
         ensures state { means self.new ≡ after (means self.old) (packet_outcome packet.now self.old) }
         ensures places { self.new ≡ placed stored self.old (packet_outcome packet.now self.old) }
         ensures kept { OnErr result (self.new ≡ self.old) }
+        ensures lengths { (length packet.now.numbers ≡ 63) × (length packet.now.sizes ≡ 63) × (length packet.now.payload ≡ 127) }
     {
+        // read first, so that the lengths of its arrays are known on every way out
+        let _count = packet.count;
         self.check()?;
         let taken = place(&mut self.packets, self.packet_count, packet)?;
         self.packet_count = taken;
