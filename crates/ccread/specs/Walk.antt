@@ -33,8 +33,8 @@ fresh_reader = record { capture = fresh_capture }
 abbrev pub Ran : Option (List ℕ) → Option (List ℕ) → Option (List ℕ) → Option (List ℕ) → List ℕ → Held → Reader → Type 0
 Ran given left out now buf h r = Driven (mark_of kinds) telling true fresh_reader given left out now buf h r
 
--- where a read or a write failed: more is to be read, all that some input completes is told, and the bytes of it that wait are at the front of the
--- buffer still; of what the step that failed has read nothing is said
+-- where a read or a write failed: more is to be read, all that some input completes is told, the bytes of it that wait are at the front of the
+-- buffer still, and the program stands behind it; of what the step that failed has read nothing is said
 abbrev pub Broke : List ℕ → Held → Reader → Type 0
 Broke buf h r = Broken (mark_of kinds) telling fresh_reader buf h r
 

@@ -3,7 +3,7 @@
 // input's length and cut.
 #![tactic(auto)]
 
-ghost use Rattle.std.specs.Prelude.{◌≡◌, false, [], ◌∷◌, ◌≤◌, length, IfOk, OnErr};
+ghost use Rattle.std.specs.Prelude.{◌≡◌, false, [], ◌∷◌, IfOk, OnErr};
 ghost use Rattle.ccscript.specs.Walk.{kinds, telling, room_fits, Ran, Broke, fresh_runner};
 
 use program_streams::{Held, Teller};

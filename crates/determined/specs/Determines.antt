@@ -21,8 +21,8 @@ pub record DeterminesPart {A E X : Type 0} (post : A → Bor X → E → Type 0)
 -- of what it writes, where they are known, among its arguments, and the others find what it leaves among the parameters at exit.
 module _ {A E S F : Type 0} (input output : A → Option (List ℕ)) (unread written : E → Option (List ℕ)) (buf : E → List ℕ) (held : E → Held) (state : E → S)
     (post : A → Result (Unit {0}) F → E → Type 0) where
-  -- two results that a contract allows for the same arguments, each of a call that came to the end of what it reads, where the bytes of the input are
-  -- known, and the same of them are left
+  -- two results that a contract allows for the same arguments, each of a call that came to the end of what it reads or stopped, where the bytes of the
+  -- input are known, and the same of them are left
   pub record Alike (a : A) (r q : Result (Unit {0}) F) (e f : E) : Type 0 where
     pub first : post a r e
     pub second : post a q f

@@ -1,11 +1,11 @@
 -- The pieces that a buffer is told in, one after another, and what is kept of it. Assumes nothing.
-use Rattle.std.proofs.Common.{◌≡◌, ℕ, Bool, true, false, cond, List, ◌++◌, append-nil, length, take, drop, sym, refl, ap, ◌∙◌, arith, length-append, take_at}
+use Rattle.std.proofs.Common.{◌≡◌, ℕ, Bool, true, false, cond, List, ◌++◌, length, take, drop, sym, refl, ap, ◌∙◌, arith, length-append, take_at}
 use Rattle.program_records.specs.Moved.{Moved, between}
 use Rattle.program_streams.specs.Ahead.{held_at}
 use Rattle.program_streams.specs.Ends.{goes_on}
 use Rattle.std.specs.Prelude.{Option}
 use Rattle.std.specs.Io.KnownBytes.{Appends}
-use Rattle.program_streams.specs.Driven.{HandedOut, TakenIn}
+use Rattle.program_streams.specs.Driven.{HandedOut}
 use Rattle.program_streams.specs.Walk.{Walked, before, silent, done_at, Kept}
 use Rattle.program_streams.proofs.Known.{appends_both}
 use Rattle.program_streams.specs.declared.Ahead.{Ahead}
@@ -44,11 +44,3 @@ moved_kept {S} {w} buf more {exit} {h} a e m g =
       state = sym (ap (λ (v : Walked S). v.state) e);
       goes = ap (λ (v : Held). v.going) g ∙ ap goes_on (sym (ap (λ (v : Walked S). v.left) e));
     }
-
--- so that all of it is taken in
-pub all_taken : {S : Type 0} {w : Walked S} {out now : Option (List ℕ)} (buf : List ℕ) (more : ℕ) {exit : List ℕ} {h : Held} {x : S} (a : Ahead)
-    → HandedOut out now w (done_at (take more buf) a x) → Moved (between a.place.at more buf) buf h.have exit → h ≡ held_at h.have a
-    → TakenIn w out now exit h x
-all_taken {S} {w} buf more a i m g =
-    let t : w.text ≡ i.0 = ap (λ (v : Walked S). v.text) i.2 ∙ append-nil i.0 in
-    record { text = rw t i.1; kept = moved_kept buf more a (ap silent i.2) m g }
