@@ -183,7 +183,8 @@ impl DTVCCPacket {
         ensures answer { mapped packet_of (outcome result) ≡ read_packet «data».now }
         ensures places { outcome result ≡ mapped laid (read_packet «data».now) }
     {
-        let filled = packet_reading::read::<Plain>(data)?;
+        let mut filled = packet_blocks::unfilled();
+        packet_reading::read_into::<Plain>(data, &mut filled)?;
         Ok(filled_from(&filled))
     }
 
@@ -193,8 +194,7 @@ impl DTVCCPacket {
         ensures answer { mapped packet_of (outcome result) ≡ read_packet (take len bytes.now) }
         ensures places { outcome result ≡ mapped laid (read_packet (take len bytes.now)) }
     {
-        let filled = packet_reading::read_in::<Plain>(bytes, len)?;
-        Ok(filled_from(&filled))
+        DTVCCPacket::parse(packet_moves::front(bytes, len))
     }
 
     /// Reads a packet whose length is what its header says, block by whole block up to a null
@@ -203,7 +203,8 @@ impl DTVCCPacket {
         ensures answer { mapped packet_of (outcome result) ≡ read_tidy «data».now }
         ensures places { outcome result ≡ mapped laid (read_tidy «data».now) }
     {
-        let filled = packet_reading::read::<Tidy>(data)?;
+        let mut filled = packet_blocks::unfilled();
+        packet_reading::read_into::<Tidy>(data, &mut filled)?;
         Ok(filled_from(&filled))
     }
 

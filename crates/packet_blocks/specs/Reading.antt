@@ -36,3 +36,7 @@ filled_of p = record { seq_no = p.seq_no; count = p.count; numbers = p.numbers; 
 -- the reading of a packet: the packet in its places, with zeros behind it
 abbrev pub filled_with : Packet → Filled
 filled_with p = filled_of (laid_over zeros p)
+
+-- the places where nothing was read: zeros
+abbrev pub unfilled : Filled
+unfilled = filled_of zeros

@@ -1,13 +1,13 @@
 // The blocks of a packet read from bytes into its places.
 #![tactic(auto)]
 
-ghost use Rattle.std.specs.Prelude.{◌≡◌, ◌+◌, ◌*◌, ◌≤◌, length, get_or, take};
+ghost use Rattle.std.specs.Prelude.{◌≡◌, ◌+◌, ◌*◌, ◌≤◌, length, get_or, take, OnErr};
 ghost use Rattle.caption.specs.Answers.{outcome};
 ghost use Rattle.model.specs.Said.{mapped};
 ghost use Rattle.model.specs.Packet.{sequence_in};
 ghost use Rattle.packet_entries.specs.Fields.{payloads_of};
 ghost use Rattle.packet_moves.specs.Moves.{kept_for, packet_with, blocks_at};
-ghost use Rattle.packet_blocks.specs.Reading.{filled_with, with_blocks};
+ghost use Rattle.packet_blocks.specs.Reading.{filled_with, unfilled, with_blocks};
 
 use basics::MOST_PACKET;
 use caption::Refusal;
@@ -65,16 +65,48 @@ pub fn fill<W: Way>(data: &[u8]) -> Result<Filled, Refusal>
         ≡ mapped filled_with
         (mapped (packet_with «data».now) (blocks_at W.way (take 128 «data».now) 1)) }
 {
-    let n = MOST_PACKET.min(data.len());
-    let mut packet = Filled {
-        seq_no: sequence_in(data),
+    let mut packet = unfilled();
+    fill_into::<W>(data, &mut packet)?;
+    Ok(packet)
+}
+
+/// Reads as `fill` does, into lent places, whatever they hold; zeros are left in all of them where
+/// it refuses.
+pub fn fill_into<W: Way>(data: &[u8], packet: &mut Filled) -> Result<(), Refusal>
+    ensures read { mapped (λ _. packet.new) (outcome result)
+        ≡ mapped filled_with
+        (mapped (packet_with «data».now) (blocks_at W.way (take 128 «data».now) 1)) }
+    ensures zeros { OnErr result (packet.new ≡ unfilled) }
+{
+    *packet = Filled {
+        seq_no: 0,
         count: 0,
         numbers: [0u8; 63],
         sizes: [0u8; 63],
         payload: [0u8; 127],
     };
-    read_blocks::<W>(&data[..n], 1, 0, &mut packet)?;
-    Ok(packet)
+    packet.seq_no = sequence_in(data);
+    let n = MOST_PACKET.min(data.len());
+    match read_blocks::<W>(&data[..n], 1, 0, packet) {
+        Ok(()) => Ok(()),
+        Err(why) => {
+            *packet = unfilled();
+            Err(why)
+        }
+    }
+}
+
+/// The places where nothing was read: zeros.
+pub fn unfilled() -> Filled
+    ensures { result ≡ unfilled }
+{
+    Filled {
+        seq_no: 0,
+        count: 0,
+        numbers: [0u8; 63],
+        sizes: [0u8; 63],
+        payload: [0u8; 127],
+    }
 }
 
 // The sequence number in a packet's header [P2]; 0 where there is none.

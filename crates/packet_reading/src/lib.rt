@@ -1,11 +1,11 @@
 // A packet read from bytes into its places: the test of its length comes first, and its blocks tell the rest.
 #![tactic(auto)]
 
-ghost use Rattle.std.specs.Prelude.{◌≡◌, take};
+ghost use Rattle.std.specs.Prelude.{◌≡◌, take, OnErr};
 ghost use Rattle.caption.specs.Answers.{outcome, said_refusal};
 ghost use Rattle.model.specs.Said.{mapped, packet_length_wrong};
 ghost use Rattle.model.specs.Packet.{read_by};
-ghost use Rattle.packet_blocks.specs.Reading.{filled_with};
+ghost use Rattle.packet_blocks.specs.Reading.{filled_with, unfilled};
 
 use caption::Refusal;
 use packet_blocks::Filled;
@@ -16,15 +16,29 @@ use packet_moves::Way;
 pub fn read<W: Way>(data: &[u8]) -> Result<Filled, Refusal>
     ensures { outcome result ≡ mapped filled_with (read_by W.way «data».now) }
 {
+    let mut packet = packet_blocks::unfilled();
+    read_into::<W>(data, &mut packet)?;
+    Ok(packet)
+}
+
+/// Reads as `read` does, into lent places, whatever they hold; zeros are left in all of them where
+/// it refuses.
+pub fn read_into<W: Way>(data: &[u8], packet: &mut Filled) -> Result<(), Refusal>
+    ensures read { mapped (λ _. packet.new) (outcome result)
+        ≡ mapped filled_with (read_by W.way «data».now) }
+    ensures zeros { OnErr result (packet.new ≡ unfilled) }
+{
     let n = data.len();
     if n == 0 {
+        *packet = packet_blocks::unfilled();
         return Err(length_wrong(1, n));
     }
     let size = packet_moves::packet_size(data[0]);
     if W::is_wrong(size, n) {
+        *packet = packet_blocks::unfilled();
         return Err(length_wrong(size, n));
     }
-    packet_blocks::fill::<W>(data)
+    packet_blocks::fill_into::<W>(data, packet)
 }
 
 /// Reads the packet that the first `len` bytes are, as `read` does; at most 128 are there.
